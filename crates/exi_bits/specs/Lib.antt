@@ -1,0 +1,5 @@
+pub mod Bits
+pub mod Unsigned
+pub mod Repeat
+pub mod Written
+pub mod Words

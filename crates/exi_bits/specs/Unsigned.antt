@@ -1,0 +1,101 @@
+-- Unsigned Integers: groups of seven bits in octets, the least significant first.
+use Rattle.std.specs.Prelude.{◌≡◌, Option, Some, None, Result, Ok, Err, nat_lt, if◌then◌else◌, ℕ, zero, suc, ◌+◌, ◌*◌, ◌-◌, ◌^◌, List, [], ◌∷◌, ◌<◌, ◌≤◌, ◌/◌, ◌%◌, length}
+use Rattle.exi_bits.specs.declared.align.Align.TheVariants as align
+use Rattle.exi_bits.specs.declared.align.Align.{Align}
+use Rattle.exi_bits.specs.declared.fault.Fault.{Fault}
+use Rattle.exi_bits.specs.declared.fault.Stop.{Stop}
+use Rattle.exi_bits.specs.declared.fault.Stop.TheVariants as stop
+use Rattle.exi_bits.specs.declared.fault.Kind.{Kind}
+use Rattle.exi_bits.specs.declared.fault.Kind.TheVariants as kind
+use Rattle.exi_bits.specs.Bits.{Spot, number_at}
+
+-- ---- the spelling
+-- the sum of the groups
+unfoldable pub group_sum : List ℕ → ℕ
+group_sum [] = 0
+group_sum (o ∷ os) = o % 128 + 128 * group_sum os
+
+-- at least one octet; all but the last have the top bit
+unfoldable pub IsChained : List ℕ → Type 0
+IsChained [] = ⊥
+IsChained (o ∷ []) = o < 128
+IsChained (o ∷ p ∷ os) = (128 ≤ o) × (o < 256) × IsChained (p ∷ os)
+
+-- the octets spell the number
+pub record IsUnsigned (octets : List ℕ) (v : ℕ) : Type 0 where
+  pub chained : IsChained octets
+  pub few : length octets ≤ 19
+  pub sum : group_sum octets ≡ v
+  pub narrow : v < 2 ^ 128
+
+-- the groups of a number, of which so many may come before the last
+unfoldable pub groups : ℕ → ℕ → List ℕ
+groups zero v = v ∷ []
+groups (suc most) v = if nat_lt v 128 then (v ∷ []) else ((v % 128 + 128) ∷ groups most (v / 128))
+
+-- the shortest octets that spell a number below 2 ^ 128
+abbrev pub shortest : ℕ → List ℕ
+shortest v = groups 18 v
+
+-- ---- the reading
+infixl 10 ◌>>=◌
+abbrev pub ◌>>=◌ : {A B E : Type 0} → Result A E → (A → Result B E) → Result B E
+(Ok x) >>= f = f x
+(Err e) >>= f = Err e
+
+-- a number, or Short
+abbrev pub needed : {X : Type 0} → Option X → Result X Kind
+needed None = Err kind.Short
+needed (Some x) = Ok x
+
+-- the octets of a number, of which so many may come
+unfoldable pub groups_at : ℕ → Spot → Result (ℕ × Spot) Kind
+groups_at zero s = Err kind.TooWide
+groups_at (suc most) s = do
+  octet ← needed (number_at 8 align.Bits s)
+  if nat_lt octet.0 128 then Ok octet else (groups_at most octet.1 >>= λ more. Ok (octet.0 - 128 + 128 * more.0, more.1))
+
+abbrev pub narrow : ℕ × Spot → Result (ℕ × Spot) Kind
+narrow found = if nat_lt found.0 (2 ^ 128) then Ok found else Err kind.TooWide
+
+-- a fault at the spot
+abbrev pub at_spot : {X : Type 0} → Spot → Result X Kind → Result X Fault
+at_spot s (Ok x) = Ok x
+at_spot s (Err k) = Err (record { kind = k; bit = s.place })
+
+unfoldable pub narrow_groups_at : Spot → Result (ℕ × Spot) Kind
+narrow_groups_at s = groups_at 19 s >>= narrow
+
+-- an Unsigned Integer and what is after it, or the fault at its first bit
+unfoldable pub unsigned_at : Spot → Result (ℕ × Spot) Fault
+unsigned_at s = at_spot s (narrow_groups_at s)
+
+-- What was answered and where reading goes on is what reading gives. Nothing moves at a fault.
+abbrev pub Reads : {X Y : Type 0} → (X → Y) → Result X Fault → Spot → Spot → Result (Y × Spot) Fault → Type 0
+Reads view (Ok x) old new read = read ≡ Ok (view x, new)
+Reads view (Err f) old new read = (read ≡ Err f) × (new ≡ old)
+
+-- the same, without where reading is after a fault
+abbrev pub ReadsSome : {X Y E : Type 0} → (X → Y) → Result X E → Spot → Result (Y × Spot) E → Type 0
+ReadsSome view (Ok x) new read = read ≡ Ok (view x, new)
+ReadsSome view (Err e) new read = read ≡ Err e
+
+unfoldable pub field_at : ℕ → Align → Spot → Result (ℕ × Spot) Fault
+field_at n a s = at_spot s (needed (number_at n a s))
+
+abbrev pub fault_at : {X : Type 0} → Kind → Spot → Result X Fault
+fault_at k s = Err (record { kind = k; bit = s.place })
+
+unfoldable pub place_at : ℕ → Align → ℕ → Spot → Result (ℕ × Spot) Fault
+place_at n a count s = do
+  found ← field_at n a s
+  if nat_lt found.0 count then Ok found else fault_at kind.BadPlace s
+
+-- the same, where memory may run out
+abbrev pub StopsAs : {Y : Type 0} → Stop → Result Y Fault → Type 0
+StopsAs stop.Memory read = Unit {0}
+StopsAs (stop.Fault f) read = read ≡ Err f
+
+abbrev pub Stops : {X Y : Type 0} → (X → Y) → Result X Stop → Spot → Result (Y × Spot) Fault → Type 0
+Stops view (Ok x) new read = read ≡ Ok (view x, new)
+Stops view (Err e) new read = StopsAs e read

@@ -1,0 +1,8 @@
+/// How the numbers of a stream lie: bit by bit, or in whole bytes (W3C EXI, section 6).
+#[derive(Clone, Copy, Debug, PartialEq, Eq)]
+pub enum Align {
+    /// One bit after the other, the most significant first.
+    Bits,
+    /// Each number in whole bytes, the least significant first.
+    Bytes,
+}

@@ -1,0 +1,202 @@
+ghost use Rattle.std.specs.Prelude.{◌≡◌, ◌≢◌, ◌+◌, ◌*◌, ◌-◌, ◌/◌, ◌%◌, ◌^◌, ◌<◌, ◌≤◌, ◌++◌, [], List, ℕ, length, OnOk, OnErr, vec_len, vec_capacity};
+ghost use Rattle.exi_bits.specs.Bits.{bits, number, number_bits, le_bytes};
+ghost use Rattle.exi_bits.specs.Unsigned.{shortest};
+ghost use Rattle.exi_bits.specs.Written.{zeros, written, padded, IsPadded, IsWholeBytes};
+
+use crate::align::Align;
+use std::alloc::{AllocError, Global};
+use std::marker::Model;
+
+/// Bits, in bytes whose last one has `spare` bits 0 at its end.
+#[derive(Drop)]
+pub struct BitOut {
+    bytes: Vec<u8>,
+    spare: u32,
+}
+
+impl Model for BitOut {
+    ghost use Rattle.std.specs.Prelude.{◌<◌, List, Bool};
+    ghost use Rattle.exi_bits.specs.Written.{written, IsPadded};
+
+    ghost Value = { List Bool };
+
+    ghost view = { λ b. written b.bytes.items b.spare };
+
+    ghost invariant = { λ b. IsPadded b.bytes.items b.spare };
+}
+
+/// The bits of the number go to the end of whole bytes, and bits 0 up to a whole byte.
+fn push_bits(bytes: &mut Vec<u8>, all: u128, width: u32) -> u32
+    requires fits { all < 2 ^ width }
+    requires narrow { width ≤ 80 }
+    requires room { vec_len bytes.old + 10 ≤ vec_capacity bytes.old }
+    ensures bits { bits bytes.new.items ≡ bits bytes.old.items ++ number_bits width all ++ zeros result }
+    ensures spare { result < 8 }
+    ensures len { length bytes.new.items ≡ length bytes.old.items + (width + 7) / 8 }
+{
+    let mut rest = all;
+    let mut left = width;
+    while left >= 8 {
+        let low = left - 8;
+        bytes.push_reserved((rest >> low) as u8);
+        rest &= (1u128 << low) - 1;
+        left = low;
+    }
+    if left == 0 {
+        return 0;
+    }
+    bytes.push_reserved((rest << (8 - left)) as u8);
+    8 - left
+}
+
+/// Takes off a last byte that is not full: its bits as a number, and how many they are.
+fn open_tail(bytes: &mut Vec<u8>, spare: u32) -> (u128, u32)
+    requires { IsPadded bytes.old.items spare }
+    ensures bits { written bytes.old.items spare ≡ bits bytes.new.items ++ number_bits result.1 result.0 }
+    ensures fits { result.0 < 2 ^ result.1 }
+    ensures few { result.1 < 8 }
+    ensures room { (vec_len bytes.new ≤ vec_len bytes.old) × (vec_capacity bytes.new ≡ vec_capacity bytes.old) }
+{
+    if spare == 0 {
+        return (0, 0);
+    }
+    match bytes.pop() {
+        Some(last) => (u128::from(last >> spare), 8 - spare),
+        None => (0, 0),
+    }
+}
+
+/// The bytes of a number, the least significant first.
+fn push_bytes(bytes: &mut Vec<u8>, value: u64, count: u32)
+    requires narrow { count ≤ 8 }
+    requires room { vec_len bytes.old + count ≤ vec_capacity bytes.old }
+    ensures bytes { bytes.new.items ≡ bytes.old.items ++ le_bytes count value }
+{
+    let mut rest = value;
+    for _ in 0..count {
+        bytes.push_reserved((rest % 256) as u8);
+        rest /= 256;
+    }
+}
+
+/// One octet behind bits that end in a part of a byte.
+fn push_octet(bytes: &mut Vec<u8>, spare: u32, octet: u8)
+    requires padded { IsPadded bytes.old.items spare }
+    requires room { vec_len bytes.old + 1 ≤ vec_capacity bytes.old }
+    ensures padded { IsPadded bytes.new.items spare }
+    ensures bits { written bytes.new.items spare ≡ written bytes.old.items spare ++ number_bits 8 octet }
+    ensures room { (vec_len bytes.new ≡ vec_len bytes.old + 1) × (vec_capacity bytes.new ≡ vec_capacity bytes.old) }
+{
+    if spare == 0 {
+        bytes.push_reserved(octet);
+        return;
+    }
+    if let Some(last) = bytes.pop() {
+        let behind = 8 - spare;
+        let all = u32::from(last >> spare) * 256 + u32::from(octet);
+        bytes.push_reserved((all >> behind) as u8);
+        bytes.push_reserved(((all & ((1u32 << behind) - 1)) << spare) as u8);
+    }
+}
+
+/// The octets of an Unsigned Integer behind the bits.
+fn push_groups(bytes: &mut Vec<u8>, spare: u32, value: u128)
+    requires padded { IsPadded bytes.old.items spare }
+    requires room { vec_len bytes.old + 19 ≤ vec_capacity bytes.old }
+    ensures padded { IsPadded bytes.new.items spare }
+    ensures bits { written bytes.new.items spare ≡ written bytes.old.items spare ++ bits (shortest value) }
+{
+    let mut rest = value;
+    for _ in 0..18u32 {
+        if rest < 128 {
+            push_octet(bytes, spare, rest as u8);
+            return;
+        }
+        push_octet(bytes, spare, (rest % 128) as u8 + 128);
+        rest /= 128;
+    }
+    push_octet(bytes, spare, rest as u8);
+}
+
+impl BitOut {
+    pub fn new(alloc: Global) -> BitOut
+        ensures { result ≡ [] }
+    {
+        BitOut {
+            bytes: Vec::new(alloc),
+            spare: 0,
+        }
+    }
+
+    /// Adds a number.
+    pub fn put(&mut self, value: u64, width: u32, align: Align) -> Result<(), AllocError>
+        requires narrow { width ≤ 64 }
+        requires fits { value < 2 ^ width }
+        requires aligned { IsWholeBytes align self.old }
+        ensures ok { OnOk result (self.new ≡ self.old ++ number width align value) }
+        ensures err { OnErr result (self.new ≡ self.old) }
+        ensures aligned { IsWholeBytes align self.new }
+    {
+        match align {
+            Align::Bits => self.put_bits(value, width),
+            Align::Bytes => self.put_bytes(value, (width + 7) / 8),
+        }
+    }
+
+    fn put_bits(&mut self, value: u64, width: u32) -> Result<(), AllocError>
+        requires narrow { width ≤ 64 }
+        requires fits { value < 2 ^ width }
+        ensures ok { OnOk result (self.new ≡ self.old ++ number_bits width value) }
+        ensures err { OnErr result (self.new ≡ self.old) }
+    {
+        self.bytes.reserve(10)?;
+        let (tail, used) = open_tail(&mut self.bytes, self.spare);
+        let all = tail * (1u128 << width) + u128::from(value);
+        self.spare = push_bits(&mut self.bytes, all, used + width);
+        Ok(())
+    }
+
+    fn put_bytes(&mut self, value: u64, count: u32) -> Result<(), AllocError>
+        requires narrow { count ≤ 8 }
+        requires whole { length self.old % 8 ≡ 0 }
+        ensures ok { OnOk result (self.new ≡ self.old ++ bits (le_bytes count value)) }
+        ensures err { OnErr result (self.new ≡ self.old) }
+        ensures whole { length self.new % 8 ≡ 0 }
+    {
+        self.bytes.reserve(8)?;
+        push_bytes(&mut self.bytes, value, count);
+        Ok(())
+    }
+
+    /// Adds an Unsigned Integer, in as few octets as spell it.
+    pub fn unsigned(&mut self, value: u128) -> Result<(), AllocError>
+        ensures ok { OnOk result (self.new ≡ self.old ++ bits (shortest value)) }
+        ensures err { OnErr result (self.new ≡ self.old) }
+        ensures phase { length self.new % 8 ≡ length self.old % 8 }
+    {
+        self.bytes.reserve(20)?;
+        push_groups(&mut self.bytes, self.spare, value);
+        Ok(())
+    }
+
+    /// Adds 0 bits up to a whole byte. Takes no memory.
+    pub fn pad(&mut self)
+        ensures bits { self.new ≡ padded self.old }
+    {
+        self.spare = 0;
+    }
+
+    /// How many bits there are.
+    pub fn bits(&self) -> u128
+        ensures count { result ≡ length self.now }
+    {
+        self.bytes.len() as u128 * 8 - u128::from(self.spare)
+    }
+
+    /// The bytes of the bits, with 0 bits after the last.
+    pub fn bytes(&self) -> &[u8]
+        ensures bits { bits result.now ≡ padded self.now }
+    {
+        &self.bytes
+    }
+}
