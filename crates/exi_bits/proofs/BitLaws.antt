@@ -88,7 +88,7 @@ middle_of xs o k r e =
     ∙ subst (λ (q : ℕ). value_of (take o xs ++ m ++ z) / 2 ^ q % 2 ^ k ≡ value_of m) lz
     (subst (λ (q : ℕ). value_of (take o xs ++ m ++ z) / 2 ^ length z % 2 ^ q ≡ value_of m) lm (value_of-middle (take o xs) m z))
 
-bits_parts : (n : ℕ) (bs : List ℕ) → bits bs ≡ bits (take n bs) ++ bits (drop n bs)
+pub bits_parts : (n : ℕ) (bs : List ℕ) → bits bs ≡ bits (take n bs) ++ bits (drop n bs)
 bits_parts n bs = ap bits (sym (take-append-drop n bs)) ∙ bits-append (take n bs) (drop n bs)
 
 pub bits-take : (n : ℕ) (bs : List ℕ) → n ≤ length bs → take (8 * n) (bits bs) ≡ bits (take n bs)
@@ -172,7 +172,7 @@ value_below_at n p xs =
     let u : 2 ^ length (take n (drop p xs)) ≤ 2 ^ n = pow_up (length (take n (drop p xs))) n (omega (arith, length-take n (drop p xs))) in
     omega arith
 
-part_fits : (n p : ℕ) (bs : List ℕ) → ((i : ℕ) → get_or bs i 0 < 256) → (i : ℕ) → get_or (take n (drop p bs)) i 0 < 256
+pub part_fits : (n p : ℕ) (bs : List ℕ) → ((i : ℕ) → get_or bs i 0 < 256) → (i : ℕ) → get_or (take n (drop p bs)) i 0 < 256
 part_fits n p bs fits i =
     elim (cases_lt i n) [
       | inl lt ↦ rw (get_or-take n (drop p bs) i 0 lt, get_or-drop p bs i 0) (fits (p + i))

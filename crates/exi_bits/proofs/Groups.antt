@@ -13,15 +13,15 @@ abbrev pub with_low : ℕ → ℕ → Result (ℕ × Spot) Kind → Result (ℕ 
 with_low low shift read = read >>= λ x. Ok (low + 2 ^ shift * x.0, x.1)
 
 -- what the next octet says of the groups from it on
-short_at : (most : ℕ) (s : Spot) → number_at 8 align.Bits s ≡ None → groups_at (suc most) s ≡ Err kind.Short
+pub short_at : (most : ℕ) (s : Spot) → number_at 8 align.Bits s ≡ None → groups_at (suc most) s ≡ Err kind.Short
 unfolding groups_at
 short_at most s h = rw h refl
 
-last_at : (most o : ℕ) (s t : Spot) → number_at 8 align.Bits s ≡ Some (o, t) → o < 128 → groups_at (suc most) s ≡ Ok (o, t)
+pub last_at : (most o : ℕ) (s t : Spot) → number_at 8 align.Bits s ≡ Some (o, t) → o < 128 → groups_at (suc most) s ≡ Ok (o, t)
 unfolding groups_at
 last_at most o s t h lt = rw (h, lt-ltb o 128 lt) refl
 
-more_at : (most o : ℕ) (s t : Spot) → number_at 8 align.Bits s ≡ Some (o, t) → 128 ≤ o → groups_at (suc most) s ≡ (groups_at most t >>= λ more. Ok (o - 128 + 128 * more.0, more.1))
+pub more_at : (most o : ℕ) (s t : Spot) → number_at 8 align.Bits s ≡ Some (o, t) → 128 ≤ o → groups_at (suc most) s ≡ (groups_at most t >>= λ more. Ok (o - 128 + 128 * more.0, more.1))
 unfolding groups_at
 more_at most o s t h le = rw (h, le-ltb o 128 le) refl
 

@@ -6,14 +6,14 @@ use Rattle.exi_bits.specs.declared.align.Align.TheVariants as align
 use Rattle.exi_bits.specs.Bits.{Spot, rest, left, moved, bits, number_bits, value_of, number_at, Front}
 use Rattle.exi_bits.proofs.BitLaws.{length-bits, length-number_bits, value_of_below, value_of-number_bits, number_bits-value_of}
 
-abbrev some_pair : ℕ × Spot → Option (ℕ × Spot)
+abbrev pub some_pair : ℕ × Spot → Option (ℕ × Spot)
 some_pair p = Some p
 
-guard_some : (b : Bool) (x y : ℕ × Spot) → cond b None (Some x) ≡ some_pair y → (b ≡ false) × (x ≡ y)
+pub guard_some : (b : Bool) (x y : ℕ × Spot) → cond b None (Some x) ≡ some_pair y → (b ≡ false) × (x ≡ y)
 guard_some true x y e = absurd cc
 guard_some false x y e = (refl, cc)
 
-length-rest : (s : Spot) → length (rest s) ≡ left s
+pub length-rest : (s : Spot) → length (rest s) ≡ left s
 length-rest s = omega (arith, length-drop s.place (bits s.bytes), length-bits s.bytes)
 
 -- what is read is spelled so

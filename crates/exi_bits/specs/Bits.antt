@@ -1,5 +1,5 @@
 -- Bits of bytes, and the numbers that they spell.
-use Rattle.std.specs.Prelude.{◌≡◌, Option, Some, None, nat_lt, if◌then◌else◌, ℕ, zero, suc, ◌+◌, ◌*◌, ◌-◌, ◌^◌, ◌%◌, ◌/◌, Bool, true, false, List, [], ◌∷◌, ◌++◌, length, take, drop, nat_le}
+use Rattle.std.specs.Prelude.{◌≡◌, Option, Some, None, nat_lt, if◌then◌else◌, ℕ, zero, suc, ◌+◌, ◌*◌, ◌-◌, ◌^◌, ◌%◌, ◌/◌, Bool, true, false, List, [], ◌∷◌, ◌++◌, ◌<◌, length, get_or, take, drop, nat_le}
 use Rattle.exi_bits.specs.declared.align.Align.{Align}
 use Rattle.exi_bits.specs.declared.align.Align.TheVariants as align
 
@@ -12,6 +12,10 @@ number_bits (suc n) v = nat_le (2 ^ n) v ∷ number_bits n (v % 2 ^ n)
 unfoldable pub bits : List ℕ → List Bool
 bits [] = []
 bits (b ∷ bs) = number_bits 8 b ++ bits bs
+
+-- each is a byte
+abbrev pub IsBytes : List ℕ → Type 0
+IsBytes bs = (i : ℕ) → get_or bs i 0 < 256
 
 -- the number that bits spell, the most significant first
 unfoldable pub value_of : List Bool → ℕ

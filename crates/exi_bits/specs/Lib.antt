@@ -3,3 +3,4 @@ pub mod Unsigned
 pub mod Repeat
 pub mod Written
 pub mod Words
+pub mod Laws

@@ -1,5 +1,5 @@
 -- Unsigned Integers: groups of seven bits in octets, the least significant first.
-use Rattle.std.specs.Prelude.{◌≡◌, Option, Some, None, Result, Ok, Err, nat_lt, if◌then◌else◌, ℕ, zero, suc, ◌+◌, ◌*◌, ◌-◌, ◌^◌, List, [], ◌∷◌, ◌<◌, ◌≤◌, ◌/◌, ◌%◌, length}
+use Rattle.std.specs.Prelude.{◌≡◌, Option, Some, None, Result, Ok, Err, nat_lt, if◌then◌else◌, ℕ, zero, suc, ◌+◌, ◌*◌, ◌-◌, ◌^◌, Bool, List, [], ◌∷◌, ◌++◌, ◌⊎◌, ◌<◌, ◌≤◌, ◌/◌, ◌%◌, length}
 use Rattle.exi_bits.specs.declared.align.Align.TheVariants as align
 use Rattle.exi_bits.specs.declared.align.Align.{Align}
 use Rattle.exi_bits.specs.declared.fault.Fault.{Fault}
@@ -7,7 +7,7 @@ use Rattle.exi_bits.specs.declared.fault.Stop.{Stop}
 use Rattle.exi_bits.specs.declared.fault.Stop.TheVariants as stop
 use Rattle.exi_bits.specs.declared.fault.Kind.{Kind}
 use Rattle.exi_bits.specs.declared.fault.Kind.TheVariants as kind
-use Rattle.exi_bits.specs.Bits.{Spot, number_at}
+use Rattle.exi_bits.specs.Bits.{Spot, bits, number_at}
 
 -- ---- the spelling
 -- the sum of the groups
@@ -27,6 +27,31 @@ pub record IsUnsigned (octets : List ℕ) (v : ℕ) : Type 0 where
   pub few : length octets ≤ 19
   pub sum : group_sum octets ≡ v
   pub narrow : v < 2 ^ 128
+
+-- all octets have the top bit
+unfoldable pub AllGoOn : List ℕ → Type 0
+AllGoOn [] = Unit {0}
+AllGoOn (o ∷ os) = (128 ≤ o) × (o < 256) × AllGoOn os
+
+-- the bits end before the number does: fewer than 19 octets, all with the top bit, and less than an octet
+pub record IsCut (text : List Bool) : Type 0 where
+  pub octets : List ℕ
+  pub tail : List Bool
+  pub parts : text ≡ bits octets ++ tail
+  pub go_on : AllGoOn octets
+  pub few : length octets < 19
+  pub short : length tail < 8
+
+-- 18 octets with the top bit, and one more that has it too, or that brings the sum to 2 ^ 128
+pub record IsWide (text : List Bool) : Type 0 where
+  pub first : List ℕ
+  pub last : ℕ
+  pub more : List Bool
+  pub parts : text ≡ bits (first ++ last ∷ []) ++ more
+  pub go_on : AllGoOn first
+  pub count : length first ≡ 18
+  pub octet : last < 256
+  pub wide : (128 ≤ last) ⊎ (2 ^ 128 ≤ group_sum (first ++ last ∷ []))
 
 -- the groups of a number, of which so many may come before the last
 unfoldable pub groups : ℕ → ℕ → List ℕ

@@ -5,6 +5,7 @@ mod align;
 mod bit_in;
 mod bit_out;
 mod fault;
+pub mod laws;
 mod words;
 
 pub use align::Align;
