@@ -237,3 +237,34 @@ pub last_out : (bs : List ℕ) (total : List Bool) (left rest : ℕ) → left �
 last_out bs total left rest le lt so_far =
     rw (bits-append bs (rest * 2 ^ (8 - left) ∷ []), one_byte (rest * 2 ^ (8 - left)), last_bits left rest le lt)
     (sym (append_assoc (bits bs) (number_bits left rest) (replicate (8 - left) false)) ∙ ap (λ (t : List Bool). t ++ replicate (8 - left) false) so_far)
+
+-- ---- a number in one byte or two
+byte_value : (b : ℕ) → b < 256 → value_of (bits (b ∷ [])) ≡ b
+byte_value b lt = ap value_of (one_byte b) ∙ value_of-number_bits 8 b lt
+
+pair_value : (a b : ℕ) → a < 256 → b < 256 → value_of (bits (a ∷ b ∷ [])) ≡ a * 256 + b
+pair_value a b la lb =
+    let h : value_of (bits (a ∷ [])) * 256 + b ≡ value_of (bits (a ∷ b ∷ [])) = gathered_more (a ∷ b ∷ []) 1 (omega arith) lb in
+    sym h ∙ ap (λ (n : ℕ). n * 256 + b) (byte_value a la)
+
+pub in_one_byte : (bs : List ℕ) (place width : ℕ) → 1 ≤ width → place % 8 + width ≤ 8 → place + width ≤ 8 * length bs → get_or bs (place / 8) 0 < 256
+    → get_or bs (place / 8) 0 / 2 ^ (8 - (place % 8 + width)) % 2 ^ width ≡ value_of (take width (drop place (bits bs)))
+in_one_byte bs place width some one le fits =
+    let n : (place + width + 7) / 8 - place / 8 ≡ 1 = omega arith in
+    let r : (place + width + 7) / 8 * 8 - (place + width) ≡ 8 - (place % 8 + width) = omega arith in
+    let step : drop (place / 8) bs ≡ get_or bs (place / 8) 0 ∷ drop (place / 8 + 1) bs = drop_more bs (place / 8) 0 (omega arith) in
+    let part : value_of (bits (take ((place + width + 7) / 8 - place / 8) (drop (place / 8) bs))) ≡ get_or bs (place / 8) 0 = rw (n, step) (byte_value (get_or bs (place / 8) 0) fits) in
+    ap (λ (q : ℕ). q / 2 ^ (8 - (place % 8 + width)) % 2 ^ width) (sym part)
+    ∙ ap (λ (q : ℕ). value_of (bits (take ((place + width + 7) / 8 - place / 8) (drop (place / 8) bs))) / 2 ^ q % 2 ^ width) (sym r) ∙ number_in_bytes bs place width le
+
+pub in_two_bytes : (bs : List ℕ) (place width : ℕ) → width ≤ 8 → 8 < place % 8 + width → place + width ≤ 8 * length bs → get_or bs (place / 8) 0 < 256 → get_or bs (place / 8 + 1) 0 < 256
+    → (get_or bs (place / 8) 0 * 256 + get_or bs (place / 8 + 1) 0) / 2 ^ (16 - (place % 8 + width)) % 2 ^ width ≡ value_of (take width (drop place (bits bs)))
+in_two_bytes bs place width narrow two le fits more =
+    let n : (place + width + 7) / 8 - place / 8 ≡ 2 = omega arith in
+    let r : (place + width + 7) / 8 * 8 - (place + width) ≡ 16 - (place % 8 + width) = omega arith in
+    let first : drop (place / 8) bs ≡ get_or bs (place / 8) 0 ∷ drop (place / 8 + 1) bs = drop_more bs (place / 8) 0 (omega arith) in
+    let second : drop (place / 8 + 1) bs ≡ get_or bs (place / 8 + 1) 0 ∷ drop (place / 8 + 1 + 1) bs = drop_more bs (place / 8 + 1) 0 (omega arith) in
+    let part : value_of (bits (take ((place + width + 7) / 8 - place / 8) (drop (place / 8) bs))) ≡ get_or bs (place / 8) 0 * 256 + get_or bs (place / 8 + 1) 0 =
+    rw (n, first, second) (pair_value (get_or bs (place / 8) 0) (get_or bs (place / 8 + 1) 0) fits more) in
+    ap (λ (q : ℕ). q / 2 ^ (16 - (place % 8 + width)) % 2 ^ width) (sym part)
+    ∙ ap (λ (q : ℕ). value_of (bits (take ((place + width + 7) / 8 - place / 8) (drop (place / 8) bs))) / 2 ^ q % 2 ^ width) (sym r) ∙ number_in_bytes bs place width le

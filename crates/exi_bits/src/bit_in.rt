@@ -1,10 +1,11 @@
 ghost use Rattle.std.specs.Prelude.{◌≡◌, ◌+◌, ◌*◌, ◌-◌, ◌%◌, ◌^◌, ◌<◌, ◌≤◌, length, IfSome, IfOk, MatchOption};
 ghost use Rattle.exi_bits.specs.Bits.{Spot, left, moved, at_bit, at_next_byte, taken, IsAligned, Takes, number_at};
 ghost use Rattle.exi_bits.specs.Unsigned.{narrow_groups_at, unsigned_at, field_at, place_at, Reads, ReadsSome};
+ghost use Rattle.exi_bits.specs.declared.align.Align.TheVariants as align;
 
 use crate::align::Align;
 use crate::fault::{Fault, Kind};
-use crate::words::{bits_at, bytes_at, with_group};
+use crate::words::{bits_at, bytes_at, narrow_at, with_group};
 use std::marker::Model;
 
 /// Bytes, and the bit at which reading goes on.
@@ -100,6 +101,21 @@ impl<'a> BitIn<'a> {
         self.place = byte * 8;
     }
 
+    /// The next eight bits.
+    #[tactic(auto, unfolding(crate::specs::Bits::number_at))]
+    fn octet(&mut self) -> Option<u64>
+        ensures read { Takes result self.old self.new (number_at 8 align.Bits self.old) }
+        ensures below { IfSome result (λ v. v < 256) }
+        ensures place { MatchOption result (self.new ≡ self.old) (λ _. self.new ≡ moved self.old 8) }
+    {
+        if self.left() < 8 {
+            return None;
+        }
+        let value = narrow_at(self.bytes, self.place, 8);
+        self.place += 8;
+        Some(value)
+    }
+
     /// The octets of an Unsigned Integer. The place is anything after an `Err`.
     fn groups(&mut self) -> Result<u128, Kind>
         ensures read { ReadsSome (λ x. x) result self.new (narrow_groups_at self.old) }
@@ -108,7 +124,7 @@ impl<'a> BitIn<'a> {
     {
         let mut value: u128 = 0;
         for group in 0..19u32 {
-            let Some(octet) = self.take(8, Align::Bits) else {
+            let Some(octet) = self.octet() else {
                 return Err(Kind::Short);
             };
             let Some(more) = with_group(value, group, octet % 128) else {

@@ -11,15 +11,15 @@ returns-in_default-clause-read c =
 
 pub returns-in_default-with_group-clause-read : goal.returns-in_default-with_group-clause-read
 returns-in_default-with_group-clause-read c =
-    too_wide_at c.loop-group.group c.loop-group.value c.in-Some.octet c.loop-group.self c.take.new.self c.args.self.now c.in_default-with_group.ensures.last c.in-Some.ensures.read c.in-Some.ensures.below c.in_default-with_group.ensures.value c.loop-group.invariant.so_far
+    too_wide_at c.loop-group.group c.loop-group.value c.in-Some.octet c.loop-group.self c.octet.new.self c.args.self.now c.in_default-with_group.ensures.last c.in-Some.ensures.read c.in-Some.ensures.below c.in_default-with_group.ensures.value c.loop-group.invariant.so_far
 
 pub returns-then-octet-lt128-clause-read : goal.returns-then-octet-lt128-clause-read
 returns-then-octet-lt128-clause-read c =
-    last_group c.loop-group.group c.loop-group.value c.in-Some.octet c.in-Some-with_group.more c.loop-group.self c.take.new.self c.args.self.now c.loop-group-test.true c.in-Some.ensures.read c.if-octet-lt128.true c.in-Some-with_group.ensures.value.0 c.in-Some-with_group.ensures.value.1 c.loop-group.invariant.so_far
+    last_group c.loop-group.group c.loop-group.value c.in-Some.octet c.in-Some-with_group.more c.loop-group.self c.octet.new.self c.args.self.now c.loop-group-test.true c.in-Some.ensures.read c.if-octet-lt128.true c.in-Some-with_group.ensures.value.0 c.in-Some-with_group.ensures.value.1 c.loop-group.invariant.so_far
 
 pub loop-group-preserved : goal.loop-group-preserved
 loop-group-preserved c = record {
-  so_far = rw c.in-Some-with_group.ensures.value.1 (goes_on c.loop-group.group c.loop-group.value c.in-Some.octet c.loop-group.self c.take.new.self (groups_at 19 c.args.self.now) c.loop-group-test.true c.in-Some.ensures.read c.if-octet-lt128.false c.in-Some.ensures.below c.loop-group.invariant.so_far);
+  so_far = rw c.in-Some-with_group.ensures.value.1 (goes_on c.loop-group.group c.loop-group.value c.in-Some.octet c.loop-group.self c.octet.new.self (groups_at 19 c.args.self.now) c.loop-group-test.true c.in-Some.ensures.read c.if-octet-lt128.false c.in-Some.ensures.below c.loop-group.invariant.so_far);
   low = c.in-Some-with_group.ensures.below;
   bytes = ap (λ (s : Spot). s.bytes) c.in-Some.ensures.place ∙ c.loop-group.invariant.bytes;
   phase = rw c.in-Some.ensures.place (omega (arith, c.loop-group.invariant.phase));
