@@ -25,10 +25,6 @@ pub padded_none : (bs : List ℕ) → bs ≡ [] → IsPadded bs 0
 unfolding bits
 padded_none bs e = padded_from bs [] 0 (omega arith) (ap bits e)
 
-pub tail_none : (bs : List ℕ) (sp : ℕ) → sp ≡ 0 → written bs sp ≡ bits bs ++ number_bits 0 0
-unfolding number_bits
-tail_none bs sp e = rw e (take_all (8 * length bs - 0) (bits bs) (omega (arith, length-bits bs)) ∙ sym (append-nil (bits bs)))
-
 pub tail_opens : (bs init : List ℕ) (last sp : ℕ) → bs ≡ init ++ last ∷ [] → sp ≤ 8 → last < 2 ^ 8 → written bs sp ≡ bits init ++ number_bits (8 - sp) (last / 2 ^ sp)
 tail_opens bs init last sp e le lt =
     let k : 8 ≡ 8 - sp + sp = omega arith in
@@ -192,3 +188,55 @@ whole_length bs sp z = omega (arith, length-written bs sp (omega arith))
 
 pub same_phase : (new old : List ℕ) (sp : ℕ) → sp ≤ 8 * length new → sp ≤ 8 * length old → length (written new sp) % 8 ≡ length (written old sp) % 8
 same_phase new old sp a b = omega (arith, length-written new sp a, length-written old sp b)
+
+-- ---- numbers, bit by bit
+pub fill_is : (bs mid : List ℕ) (old : List Bool) (t sp v w : ℕ) → sp < 8 → w ≤ sp → t < 2 ^ (8 - sp) → v < 2 ^ w → old ≡ bits mid ++ number_bits (8 - sp) t
+    → bs ≡ mid ++ (t * 2 ^ w + v) * 2 ^ (sp - w) ∷ [] → (written bs (sp - w) ≡ old ++ number_bits w v) × IsPadded bs (sp - w)
+fill_is bs mid old t sp v w few within fits small before e =
+    let below : t * 2 ^ w + v < 2 ^ (8 - sp + w) = all_fits t (8 - sp) v w fits small in
+    let j : 8 - (8 - sp + w) ≡ sp - w = omega arith in
+    let raw : bits (mid ++ (t * 2 ^ w + v) * 2 ^ (8 - (8 - sp + w)) ∷ []) ≡ (bits mid ++ number_bits (8 - sp + w) (t * 2 ^ w + v)) ++ zeros (8 - (8 - sp + w)) =
+    last_out mid (bits mid ++ number_bits (8 - sp + w) (t * 2 ^ w + v)) (8 - sp + w) (t * 2 ^ w + v) (omega arith) below refl in
+    let out : bits (mid ++ (t * 2 ^ w + v) * 2 ^ (sp - w) ∷ []) ≡ (bits mid ++ number_bits (8 - sp + w) (t * 2 ^ w + v)) ++ zeros (sp - w) =
+    subst (λ (n : ℕ). bits (mid ++ (t * 2 ^ w + v) * 2 ^ n ∷ []) ≡ (bits mid ++ number_bits (8 - sp + w) (t * 2 ^ w + v)) ++ zeros n) j raw in
+    let all : bits bs ≡ (bits mid ++ number_bits (8 - sp + w) (t * 2 ^ w + v)) ++ zeros (sp - w) = ap bits e ∙ out in (
+      put_is bs mid old t (8 - sp) v w (sp - w) fits small before all,
+      padded_from bs (bits mid ++ number_bits (8 - sp + w) (t * 2 ^ w + v)) (sp - w) (omega arith) all,
+    )
+
+pub fill_fits : (t sp v w : ℕ) → sp < 8 → w ≤ sp → t < 2 ^ (8 - sp) → v < 2 ^ w → (t * 2 ^ w + v) * 2 ^ (sp - w) < 256
+fill_fits t sp v w few within fits small =
+    let below : t * 2 ^ w + v < 2 ^ (8 - sp + w) = all_fits t (8 - sp) v w fits small in
+    let e : 8 - sp + w + (sp - w) ≡ 8 = omega arith in
+    subst (λ (n : ℕ). (t * 2 ^ w + v) * 2 ^ (sp - w) < 2 ^ n) e (shl_below (t * 2 ^ w + v) (8 - sp + w) (sp - w) below)
+
+-- nothing is there to be filled
+pub fill_none : (bs : List ℕ) (sp v w : ℕ) → IsPadded bs sp → length bs ≡ 0 → w ≤ sp → (written bs (sp - w) ≡ written bs sp ++ number_bits w v) × IsPadded bs (sp - w)
+unfolding number_bits
+fill_none bs sp v w p e le =
+    let z : sp ≡ 0 = omega (arith, p.within) in
+    let n : w ≡ 0 = omega arith in
+    let k : sp - w ≡ sp = omega arith in
+    rw (k, n) (sym (append-nil (written bs sp)), p)
+
+-- over the end of a byte
+pub put_over : (new mid : List ℕ) (old : List Bool) (v sp left width r : ℕ) → v < 2 ^ width → sp + left ≡ width → r < 8 → written mid (sp - sp) ≡ old ++ number_bits sp (v / 2 ^ left)
+    → bits new ≡ bits mid ++ number_bits left (v % 2 ^ left) ++ zeros r → (written new r ≡ old ++ number_bits width v) × IsPadded new r
+put_over new mid old v sp left width r lt sum few before e =
+    let z : sp - sp ≡ 0 = omega arith in
+    let parts : number_bits width v ≡ number_bits sp (v / 2 ^ left) ++ number_bits left (v % 2 ^ left) =
+    ap (λ (n : ℕ). number_bits n v) (sym sum) ∙ number_bits-add sp left v (subst (λ (n : ℕ). v < 2 ^ n) (sym sum) lt) in
+    let front : bits mid ≡ old ++ number_bits sp (v / 2 ^ left) = sym (whole_is mid (sp - sp) z) ∙ before in
+    let all : bits new ≡ (old ++ number_bits width v) ++ zeros r =
+    e ∙ ap (λ (t : List Bool). t ++ zeros r) (ap (λ (t : List Bool). t ++ number_bits left (v % 2 ^ left)) front ∙ append_assoc old (number_bits sp (v / 2 ^ left)) (number_bits left (v % 2 ^ left)) ∙ ap (λ (t : List Bool). old ++ t) (sym parts)) in (
+      written_is new (old ++ number_bits width v) r all,
+      padded_from new (old ++ number_bits width v) r few all,
+    )
+
+-- behind whole bytes
+pub put_whole : (new old : List ℕ) (v sp width r : ℕ) → sp ≡ 0 → r < 8 → bits new ≡ bits old ++ number_bits width v ++ zeros r → (written new r ≡ written old sp ++ number_bits width v) × IsPadded new r
+put_whole new old v sp width r z few e =
+    let all : bits new ≡ (written old sp ++ number_bits width v) ++ zeros r = e ∙ ap (λ (t : List Bool). (t ++ number_bits width v) ++ zeros r) (sym (whole_is old sp z)) in (
+      written_is new (written old sp ++ number_bits width v) r all,
+      padded_from new (written old sp ++ number_bits width v) r few all,
+    )

@@ -25,21 +25,20 @@ impl Model for BitOut {
     ghost invariant = { λ b. IsPadded b.bytes.items b.spare };
 }
 
-/// The bits of the number go to the end of whole bytes, and bits 0 up to a whole byte.
-fn push_bits(bytes: &mut Vec<u8>, all: u128, width: u32) -> u32
-    requires fits { all < 2 ^ width }
-    requires narrow { width ≤ 80 }
-    requires room { vec_len bytes.old + 10 ≤ vec_capacity bytes.old }
-    ensures bits { bits bytes.new.items ≡ bits bytes.old.items ++ number_bits width all ++ zeros result }
+/// Adds the bits of a number to whole bytes, and 0 bits up to a whole byte. Answers how many.
+fn push_bits(bytes: &mut Vec<u8>, value: u64, width: u32) -> u32
+    requires fits { value < 2 ^ width }
+    requires narrow { width ≤ 64 }
+    requires room { vec_len bytes.old + 8 ≤ vec_capacity bytes.old }
+    ensures bits { bits bytes.new.items ≡ bits bytes.old.items ++ number_bits width value ++ zeros result }
     ensures spare { result < 8 }
-    ensures len { length bytes.new.items ≡ length bytes.old.items + (width + 7) / 8 }
 {
-    let mut rest = all;
+    let mut rest = value;
     let mut left = width;
     while left >= 8 {
         let low = left - 8;
         bytes.push_reserved((rest >> low) as u8);
-        rest &= (1u128 << low) - 1;
+        rest &= (1u64 << low) - 1;
         left = low;
     }
     if left == 0 {
@@ -49,20 +48,18 @@ fn push_bits(bytes: &mut Vec<u8>, all: u128, width: u32) -> u32
     8 - left
 }
 
-/// Takes off a last byte that is not full: its bits as a number, and how many they are.
-fn open_tail(bytes: &mut Vec<u8>, spare: u32) -> (u128, u32)
-    requires { IsPadded bytes.old.items spare }
-    ensures bits { written bytes.old.items spare ≡ bits bytes.new.items ++ number_bits result.1 result.0 }
-    ensures fits { result.0 < 2 ^ result.1 }
-    ensures few { result.1 < 8 }
-    ensures room { (vec_len bytes.new ≤ vec_len bytes.old) × (vec_capacity bytes.new ≡ vec_capacity bytes.old) }
+/// Adds a number to a last byte that has room for it.
+fn fill_tail(bytes: &mut Vec<u8>, spare: u32, value: u64, width: u32)
+    requires padded { IsPadded bytes.old.items spare }
+    requires within { width ≤ spare }
+    requires fits { value < 2 ^ width }
+    ensures padded { IsPadded bytes.new.items (spare - width) }
+    ensures bits { written bytes.new.items (spare - width) ≡ written bytes.old.items spare ++ number_bits width value }
+    ensures room { (vec_len bytes.new ≡ vec_len bytes.old) × (vec_capacity bytes.new ≡ vec_capacity bytes.old) }
 {
-    if spare == 0 {
-        return (0, 0);
-    }
-    match bytes.pop() {
-        Some(last) => (u128::from(last >> spare), 8 - spare),
-        None => (0, 0),
+    if let Some(last) = bytes.pop() {
+        let all = u64::from(last >> spare) * (1u64 << width) + value;
+        bytes.push_reserved((all << (spare - width)) as u8);
     }
 }
 
@@ -149,10 +146,19 @@ impl BitOut {
         ensures ok { OnOk result (self.new ≡ self.old ++ number_bits width value) }
         ensures err { OnErr result (self.new ≡ self.old) }
     {
-        self.bytes.reserve(10)?;
-        let (tail, used) = open_tail(&mut self.bytes, self.spare);
-        let all = tail * (1u128 << width) + u128::from(value);
-        self.spare = push_bits(&mut self.bytes, all, used + width);
+        if width <= self.spare {
+            fill_tail(&mut self.bytes, self.spare, value, width);
+            self.spare -= width;
+            return Ok(());
+        }
+        self.bytes.reserve(8)?;
+        if self.spare == 0 {
+            self.spare = push_bits(&mut self.bytes, value, width);
+            return Ok(());
+        }
+        let left = width - self.spare;
+        fill_tail(&mut self.bytes, self.spare, value >> left, self.spare);
+        self.spare = push_bits(&mut self.bytes, value & ((1u64 << left) - 1), left);
         Ok(())
     }
 

@@ -10,19 +10,18 @@ overflow_cast-rest c = let f = byte_fits c.loop-left.left c.loop-left.rest c.loo
 
 pub loop-left-preserved : goal.loop-left-preserved
 loop-left-preserved c =
-    let lt : c.loop-left.left - 8 < 128 = omega arith in
-    let e : bit_and c.loop-left.rest (1 * 2 ^ (c.loop-left.left - 8) % 2 ^ 128 - 1) ≡ c.loop-left.rest % 2 ^ (c.loop-left.left - 8) = rw (one_shl (c.loop-left.left - 8) 128 lt) (and_mask c.loop-left.rest (c.loop-left.left - 8)) in
+    let lt : c.loop-left.left - 8 < 64 = omega arith in
+    let e : bit_and c.loop-left.rest (1 * 2 ^ (c.loop-left.left - 8) % 2 ^ 64 - 1) ≡ c.loop-left.rest % 2 ^ (c.loop-left.left - 8) = rw (one_shl (c.loop-left.left - 8) 64 lt) (and_mask c.loop-left.rest (c.loop-left.left - 8)) in
     record {
       so_far = rw (c.push_reserved.ensures.items, e) (byte_out c.loop-left.bytes.items c.loop-left.left c.loop-left.rest c.loop-left-test.true c.loop-left.invariant.fits ∙ c.loop-left.invariant.so_far);
       fits = rw e (mod_below c.loop-left.rest (2 ^ (c.loop-left.left - 8)) (pow_pos (c.loop-left.left - 8)));
       narrow = omega (arith, c.loop-left.invariant.narrow);
       room = omega (arith, c.loop-left.invariant.room, c.push_reserved.ensures.len, c.push_reserved.ensures.capacity);
-      len = rw (c.push_reserved.ensures.items, length_push) (omega (arith, c.loop-left.invariant.len));
     }
 
 pub returns-then-left-eq0-clause-bits : goal.returns-then-left-eq0-clause-bits
 returns-then-left-eq0-clause-bits c =
-    left_none (bits c.loop-left.bytes.items) (bits c.args.bytes.now.items ++ number_bits c.args.width c.args.all) c.loop-left.left c.loop-left.rest c.if-left-eq0.true c.loop-left.invariant.so_far
+    left_none (bits c.loop-left.bytes.items) (bits c.args.bytes.now.items ++ number_bits c.args.width c.args.value) c.loop-left.left c.loop-left.rest c.if-left-eq0.true c.loop-left.invariant.so_far
 
 pub overflow_cast-rest-2 : goal.overflow_cast-rest-2
 overflow_cast-rest-2 c = let f = last_fits c.loop-left.left c.loop-left.rest (omega arith) c.loop-left.invariant.fits in omega arith
@@ -30,5 +29,5 @@ overflow_cast-rest-2 c = let f = last_fits c.loop-left.left c.loop-left.rest (om
 pub returns-clause-bits : goal.returns-clause-bits
 returns-clause-bits c =
     let f : c.loop-left.rest * 2 ^ (8 - c.loop-left.left) < 2 ^ 8 = last_fits c.loop-left.left c.loop-left.rest (omega arith) c.loop-left.invariant.fits in
-    let e : c.loop-left.rest * 2 ^ (8 - c.loop-left.left) % 2 ^ 128 ≡ c.loop-left.rest * 2 ^ (8 - c.loop-left.left) = omega arith in
-    rw (c.push_reserved-2.ensures.items, e) (last_out c.loop-left.bytes.items (bits c.args.bytes.now.items ++ number_bits c.args.width c.args.all) c.loop-left.left c.loop-left.rest (omega arith) c.loop-left.invariant.fits c.loop-left.invariant.so_far)
+    let e : c.loop-left.rest * 2 ^ (8 - c.loop-left.left) % 2 ^ 64 ≡ c.loop-left.rest * 2 ^ (8 - c.loop-left.left) = omega arith in
+    rw (c.push_reserved-2.ensures.items, e) (last_out c.loop-left.bytes.items (bits c.args.bytes.now.items ++ number_bits c.args.width c.args.value) c.loop-left.left c.loop-left.rest (omega arith) c.loop-left.invariant.fits c.loop-left.invariant.so_far)

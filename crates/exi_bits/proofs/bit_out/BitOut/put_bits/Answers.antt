@@ -1,25 +1,35 @@
-use Rattle.std.proofs.Common.{◌≡◌, ◌+◌, ◌*◌, ◌<◌, ◌^◌, ◌++◌, arith, sym, ◌∙◌}
-use Rattle.std.proofs.lemmas.Nat.{one_shl}
+use Rattle.std.proofs.Common.{◌≡◌, ◌+◌, ◌-◌, ◌*◌, ◌/◌, ◌<◌, ◌^◌, ◌%◌, ◌++◌, arith, refl, sym, ◌∙◌, subst, ℕ}
+use Rattle.std.proofs.lemmas.Nat.{one_shl, and_mask, shr_below}
 use Rattle.exi_bits.specs.Bits.{bits, number_bits}
-use Rattle.exi_bits.specs.Written.{zeros}
-use Rattle.exi_bits.proofs.Outs.{all_fits, padded_from, put_is}
+use Rattle.exi_bits.specs.Written.{written, zeros}
+use Rattle.exi_bits.proofs.Outs.{put_over, put_whole}
 use Rattle.exi_bits.proofs.bit_out.BitOut.put_bits.Goals as goal
 
-pub push_bits-self-inside-requires-clause-fits : goal.push_bits-self-inside-requires-clause-fits
-push_bits-self-inside-requires-clause-fits c =
-    let lt : c.args.width < 128 = omega arith in
-    rw (one_shl c.args.width 128 lt, c.from.ensures) (all_fits c.open_tail-tail.result.0 c.open_tail-tail.result.1 c.args.value c.args.width c.open_tail-tail.ensures.fits c.requires.fits)
+pub invariant_of-self-then-self-eq0 : goal.invariant_of-self-then-self-eq0
+invariant_of-self-then-self-eq0 c =
+    (put_whole c.push_bits-self-inside.new.bytes.items _ c.args.value c.self.inside.spare c.args.width c.push_bits-self-inside.result c.if-self-eq0.true c.push_bits-self-inside.ensures.spare c.push_bits-self-inside.ensures.bits).1
+
+pub returns-then-self-eq0-clause-ok : goal.returns-then-self-eq0-clause-ok
+returns-then-self-eq0-clause-ok c =
+    rw (← c.self.view_is, ← c.in_ok-reserve.ensures.items) ((put_whole c.push_bits-self-inside.new.bytes.items c.reserve.new.self.items c.args.value c.self.inside.spare c.args.width c.push_bits-self-inside.result c.if-self-eq0.true c.push_bits-self-inside.ensures.spare c.push_bits-self-inside.ensures.bits).0)
+
+pub fill_tail-requires-2-clause-fits : goal.fill_tail-requires-2-clause-fits
+fill_tail-requires-2-clause-fits c =
+    let e : c.args.width ≡ c.self.inside.spare + (c.args.width - c.self.inside.spare) = omega arith in
+    shr_below c.args.value c.self.inside.spare (c.args.width - c.self.inside.spare) (subst (λ (n : ℕ). c.args.value < 2 ^ n) e c.requires.fits)
 
 pub invariant_of-self-2 : goal.invariant_of-self-2
-invariant_of-self-2 c = padded_from c.push_bits-self-inside.new.bytes.items _ c.push_bits-self-inside.result c.push_bits-self-inside.ensures.spare c.push_bits-self-inside.ensures.bits
+invariant_of-self-2 c =
+    let few : c.self.inside.spare < 8 = c.self.invariant.few in
+    let lt : c.args.width - c.self.inside.spare < 64 = omega arith in
+    let e : c.self.inside.spare + (c.args.width - c.self.inside.spare) ≡ c.args.width = omega arith in
+    let after = rw (one_shl (c.args.width - c.self.inside.spare) 64 lt, and_mask) at c.push_bits-self-inside-2.ensures.bits in
+    (put_over c.push_bits-self-inside-2.new.bytes.items c.fill_tail-2.new.bytes.items _ c.args.value c.self.inside.spare (c.args.width - c.self.inside.spare) c.args.width c.push_bits-self-inside-2.result c.requires.fits e c.push_bits-self-inside-2.ensures.spare c.fill_tail-2.ensures.bits after).1
 
 pub returns-clause-ok : goal.returns-clause-ok
 returns-clause-ok c =
-    let lt : c.args.width < 128 = omega arith in
-    let t = c.open_tail-tail.result in
-    let new = c.push_bits-self-inside.new.bytes.items in
-    let mid = c.open_tail-tail.new.bytes.items in
-    let before : c.args.self.now ≡ bits mid ++ number_bits t.1 t.0 = sym c.self.view_is ∙ rw (← c.in_ok-reserve.ensures.items) c.open_tail-tail.ensures.bits in
-    let after : bits new ≡ bits mid ++ number_bits (t.1 + c.args.width) (t.0 * 2 ^ c.args.width + c.args.value) ++ zeros c.push_bits-self-inside.result =
-    rw (one_shl c.args.width 128 lt, c.from.ensures) at c.push_bits-self-inside.ensures.bits in
-    put_is new mid c.args.self.now t.0 t.1 c.args.value c.args.width c.push_bits-self-inside.result c.open_tail-tail.ensures.fits c.requires.fits before after
+    let few : c.self.inside.spare < 8 = c.self.invariant.few in
+    let lt : c.args.width - c.self.inside.spare < 64 = omega arith in
+    let e : c.self.inside.spare + (c.args.width - c.self.inside.spare) ≡ c.args.width = omega arith in
+    let after = rw (one_shl (c.args.width - c.self.inside.spare) 64 lt, and_mask) at c.push_bits-self-inside-2.ensures.bits in
+    rw (← c.self.view_is, ← c.in_ok-reserve.ensures.items) ((put_over c.push_bits-self-inside-2.new.bytes.items c.fill_tail-2.new.bytes.items (written c.reserve.new.self.items c.self.inside.spare) c.args.value c.self.inside.spare (c.args.width - c.self.inside.spare) c.args.width c.push_bits-self-inside-2.result c.requires.fits e c.push_bits-self-inside-2.ensures.spare c.fill_tail-2.ensures.bits after).0)
