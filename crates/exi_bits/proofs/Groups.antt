@@ -6,7 +6,7 @@ use Rattle.exi_bits.specs.declared.align.Align.TheVariants as align
 use Rattle.exi_bits.specs.declared.fault.Kind.{Kind}
 use Rattle.exi_bits.specs.declared.fault.Kind.TheVariants as kind
 use Rattle.exi_bits.specs.Bits.{Spot, number_at}
-use Rattle.exi_bits.specs.Unsigned.{◌>>=◌, groups_at, narrow, narrow_groups_at}
+use Rattle.exi_bits.specs.Unsigned.{◌>>=◌, groups_at, narrow, narrow_groups_at, unsigned_at}
 
 -- what was read before, and what is still read
 abbrev pub with_low : ℕ → ℕ → Result (ℕ × Spot) Kind → Result (ℕ × Spot) Kind
@@ -97,3 +97,10 @@ last_group g v o n s t first lt h small fits n-is so_far =
     let e : o % 128 ≡ o = omega arith in
     let k : v + 2 ^ (7 * g) * o < 2 ^ 128 = rw e at fits in
     rw (n-is, e) (narrow_ok (v + 2 ^ (7 * g) * o) first t (ends_ok g v (7 * g) o s t (groups_at 19 first) lt h small so_far) k)
+
+-- an integer of one octet
+pub one_octet : (o : ℕ) (s t : Spot) → number_at 8 align.Bits s ≡ Some (o, t) → o < 128 → unsigned_at s ≡ Ok (o, t)
+unfolding unsigned_at
+one_octet o s t h small =
+    let e : narrow_groups_at s ≡ Ok (o, t) = narrow_ok o s t (last_at 18 o s t h small) (omega arith) in
+    rw e refl

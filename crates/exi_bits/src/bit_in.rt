@@ -146,6 +146,12 @@ impl<'a> BitIn<'a> {
         ensures phase { self.new.place % 8 ≡ self.old.place % 8 }
     {
         let bit = self.at();
+        if let Some(octet) = self.octet() {
+            if octet < 128 {
+                return Ok(u128::from(octet));
+            }
+            self.back(bit);
+        }
         match self.groups() {
             Ok(value) => Ok(value),
             Err(kind) => {
