@@ -1,4 +1,4 @@
--- Bits of bytes, and the numbers that they spell.
+-- Bits of bytes, and the n-bit numbers that they spell (W3C EXI, sections 6 and 7.1.9).
 use Rattle.std.specs.Prelude.{◌≡◌, Option, Some, None, nat_lt, if◌then◌else◌, ℕ, zero, suc, ◌+◌, ◌*◌, ◌-◌, ◌^◌, ◌%◌, ◌/◌, Bool, true, false, List, [], ◌∷◌, ◌++◌, ◌<◌, length, get_or, take, drop, nat_le}
 use Rattle.exi_bits.specs.declared.align.Align.{Align}
 use Rattle.exi_bits.specs.declared.align.Align.TheVariants as align
@@ -32,9 +32,11 @@ pub record Spot : Type 0 where
 abbrev pub rest : Spot → List Bool
 rest s = drop s.place (bits s.bytes)
 
+-- how many bits are left
 abbrev pub left : Spot → ℕ
 left s = 8 * length s.bytes - s.place
 
+-- so many bits further on
 abbrev pub moved : Spot → ℕ → Spot
 moved s n = record { bytes = s.bytes; place = s.place + n }
 
@@ -56,6 +58,7 @@ unfoldable pub le_bytes : ℕ → ℕ → List ℕ
 le_bytes zero v = []
 le_bytes (suc n) v = v % 256 ∷ le_bytes n (v / 256)
 
+-- the number that bytes spell, the least significant first
 unfoldable pub le_value : List ℕ → ℕ
 le_value [] = 0
 le_value (b ∷ bs) = b + 256 * le_value bs
@@ -75,6 +78,7 @@ abbrev pub value_at : ℕ → Align → Spot → ℕ
 value_at n align.Bits s = value_of (take n (rest s))
 value_at n align.Bytes s = le_value (take (octets n) (drop (s.place / 8) s.bytes))
 
+-- a number of so many bits, and the spot behind it; nothing where fewer bits are left
 unfoldable pub number_at : ℕ → Align → Spot → Option (ℕ × Spot)
 number_at n a s = if nat_lt (left s) (taken n a) then None else Some (value_at n a s, moved s (taken n a))
 

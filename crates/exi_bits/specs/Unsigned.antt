@@ -1,4 +1,5 @@
--- Unsigned Integers: groups of seven bits in octets, the least significant first.
+-- Unsigned Integers: groups of seven bits in octets, the least significant first (W3C EXI, section 7.1.6).
+-- The recommendation has no bound. Here there are at most 19 octets, and the number is below 2 ^ 128.
 use Rattle.std.specs.Prelude.{◌≡◌, Option, Some, None, Result, Ok, Err, nat_lt, if◌then◌else◌, ℕ, zero, suc, ◌+◌, ◌*◌, ◌-◌, ◌^◌, Bool, List, [], ◌∷◌, ◌++◌, ◌⊎◌, ◌<◌, ◌≤◌, ◌/◌, ◌%◌, length}
 use Rattle.exi_bits.specs.declared.align.Align.TheVariants as align
 use Rattle.exi_bits.specs.declared.align.Align.{Align}
@@ -80,6 +81,7 @@ groups_at (suc most) s = do
   octet ← needed (number_at 8 align.Bits s)
   if nat_lt octet.0 128 then Ok octet else (groups_at most octet.1 >>= λ more. Ok (octet.0 - 128 + 128 * more.0, more.1))
 
+-- a number below 2 ^ 128
 abbrev pub narrow : ℕ × Spot → Result (ℕ × Spot) Kind
 narrow found = if nat_lt found.0 (2 ^ 128) then Ok found else Err kind.TooWide
 
@@ -88,6 +90,7 @@ abbrev pub at_spot : {X : Type 0} → Spot → Result X Kind → Result X Fault
 at_spot s (Ok x) = Ok x
 at_spot s (Err k) = Err (record { kind = k; bit = s.place })
 
+-- an Unsigned Integer and what is after it, or what is wrong with it
 unfoldable pub narrow_groups_at : Spot → Result (ℕ × Spot) Kind
 narrow_groups_at s = groups_at 19 s >>= narrow
 
@@ -105,12 +108,15 @@ abbrev pub ReadsSome : {X Y E : Type 0} → (X → Y) → Result X E → Spot �
 ReadsSome view (Ok x) new read = read ≡ Ok (view x, new)
 ReadsSome view (Err e) new read = read ≡ Err e
 
+-- a number of so many bits, or Short
 unfoldable pub field_at : ℕ → Align → Spot → Result (ℕ × Spot) Fault
 field_at n a s = at_spot s (needed (number_at n a s))
 
+-- that fault, at the spot
 abbrev pub fault_at : {X : Type 0} → Kind → Spot → Result X Fault
 fault_at k s = Err (record { kind = k; bit = s.place })
 
+-- a number of so many bits that has to be below a count
 unfoldable pub place_at : ℕ → Align → ℕ → Spot → Result (ℕ × Spot) Fault
 place_at n a count s = do
   found ← field_at n a s

@@ -4,12 +4,15 @@ use Rattle.exi_bits.specs.Bits.{bits}
 use Rattle.exi_bits.specs.declared.align.Align.{Align}
 use Rattle.exi_bits.specs.declared.align.Align.TheVariants as align
 
+-- so many 0 bits
 abbrev pub zeros : ℕ → List Bool
 zeros n = replicate n false
 
+-- the bits of the bytes without so many at the end
 abbrev pub written : List ℕ → ℕ → List Bool
 written bytes spare = take (8 * length bytes - spare) (bits bytes)
 
+-- the last bits, fewer than a byte has, are 0
 pub record IsPadded (bytes : List ℕ) (spare : ℕ) : Type 0 where
   pub few : spare < 8
   pub within : spare ≤ 8 * length bytes

@@ -8,7 +8,10 @@ use crate::fault::{Fault, Kind};
 use crate::words::{bits_at, bytes_at, narrow_at, with_group};
 use std::marker::Model;
 
-/// Bytes, and the bit at which reading goes on.
+/// Bytes, and the bit at which reading goes on: its place, counted from 0 at the first byte's most
+/// significant bit. No call takes memory, and a call that answers `None` or `Err` leaves the place.
+///
+/// A contract sees it as a `Spot`, the bytes and the place.
 #[derive(Drop)]
 pub struct BitIn<'a> {
     bytes: &'a [u8],
@@ -27,13 +30,15 @@ impl<'a> Model for BitIn<'a> {
 }
 
 impl<'a> BitIn<'a> {
+    /// Reads at the first bit. There may be at most 2^32 bytes.
     pub fn new(bytes: &'a [u8]) -> Self
-        requires { length bytes.now ≤ 2 ^ 32 }
-        ensures { result ≡ record { bytes = bytes.now; place = 0 } }
+        requires few { length bytes.now ≤ 2 ^ 32 }
+        ensures start { result ≡ record { bytes = bytes.now; place = 0 } }
     {
         BitIn { bytes, place: 0 }
     }
 
+    /// The place.
     pub fn at(&self) -> u64
         ensures place { result ≡ self.now.place }
         ensures within { result ≤ 8 * length self.now.bytes }
@@ -41,13 +46,18 @@ impl<'a> BitIn<'a> {
         self.place
     }
 
+    /// How many bits remain.
     pub fn left(&self) -> u64
-        ensures { result ≡ left self.now }
+        ensures bits { result ≡ left self.now }
     {
         self.bytes.len() as u64 * 8 - self.place
     }
 
-    /// The next number of that width.
+    /// Takes an n-bit number of at most 64 bits (W3C EXI, section 7.1.9): `width` bits, or under
+    /// [`Align::Bytes`] the whole bytes that hold so many, where the number may come out too great for
+    /// its width. A number of no bits is 0. Under `Bytes` the place has to be a whole byte.
+    ///
+    /// `None` exactly where fewer bits remain.
     #[tactic(auto, unfolding(crate::specs::Bits::number_at))]
     pub fn take(&mut self, width: u32, align: Align) -> Option<u64>
         requires narrow { width ≤ 64 }
@@ -77,9 +87,9 @@ impl<'a> BitIn<'a> {
         }
     }
 
-    /// Goes back to a bit.
+    /// Goes to a bit, at most to the end.
     pub fn back(&mut self, place: u64)
-        requires { place ≤ 8 * length self.old.bytes }
+        requires within { place ≤ 8 * length self.old.bytes }
         ensures place { self.new ≡ at_bit self.old place }
     {
         self.place = place;
@@ -92,7 +102,7 @@ impl<'a> BitIn<'a> {
         self.place = (self.place + 7) / 8 * 8;
     }
 
-    /// Goes to a byte.
+    /// Goes to the first bit of a byte, or to the end.
     pub fn go(&mut self, byte: u64)
         requires within { byte ≤ length self.old.bytes }
         ensures place { self.new ≡ at_bit self.old (8 * byte) }
@@ -101,7 +111,7 @@ impl<'a> BitIn<'a> {
         self.place = byte * 8;
     }
 
-    /// The next eight bits.
+    /// Takes eight bits, which lie in one byte or in two.
     #[tactic(auto, unfolding(crate::specs::Bits::number_at))]
     fn octet(&mut self) -> Option<u64>
         ensures read { Takes result self.old self.new (number_at 8 align.Bits self.old) }
@@ -116,7 +126,7 @@ impl<'a> BitIn<'a> {
         Some(value)
     }
 
-    /// The octets of an Unsigned Integer. The place is anything after an `Err`.
+    /// Takes the octets of an Unsigned Integer. The place is anything after an `Err`.
     fn groups(&mut self) -> Result<u128, Kind>
         ensures read { ReadsSome (λ x. x) result self.new (narrow_groups_at self.old) }
         ensures bytes { self.new.bytes ≡ self.old.bytes }
@@ -138,7 +148,13 @@ impl<'a> BitIn<'a> {
         Err(Kind::TooWide)
     }
 
-    /// The next Unsigned Integer.
+    /// Takes an Unsigned Integer (W3C EXI, section 7.1.6) at any bit: octets of seven bits of the
+    /// number each, the least significant first, all but the last with the top bit.
+    ///
+    /// # Errors
+    ///
+    /// At the first bit of the integer: `Short` where the bits end before the last octet does, and
+    /// `TooWide` where the 19th octet has the top bit or brings the value to 2^128 or more.
     #[tactic(auto, unfolding(crate::specs::Unsigned::unsigned_at))]
     pub fn unsigned(&mut self) -> Result<u128, Fault>
         ensures read { Reads (λ x. x) result self.old self.new (unsigned_at self.old) }
@@ -161,7 +177,11 @@ impl<'a> BitIn<'a> {
         }
     }
 
-    /// The next number of that width, or Short.
+    /// Takes an n-bit number, as [`BitIn::take`] does.
+    ///
+    /// # Errors
+    ///
+    /// `Short` at the place, where fewer bits remain.
     #[tactic(auto, unfolding(crate::specs::Unsigned::field_at))]
     pub fn number(&mut self, width: u32, align: Align) -> Result<u64, Fault>
         requires narrow { width ≤ 64 }
@@ -181,7 +201,12 @@ impl<'a> BitIn<'a> {
         }
     }
 
-    /// The next number of that width, which has to be below a count.
+    /// Takes an n-bit number that chooses one of `count` things, and so has to be below the count.
+    ///
+    /// # Errors
+    ///
+    /// At the first bit of the number: `Short` where fewer bits remain, and `BadPlace` where the number
+    /// is not below the count.
     #[tactic(auto, unfolding(crate::specs::Unsigned::place_at))]
     pub fn place(&mut self, width: u32, align: Align, count: u64) -> Result<u64, Fault>
         requires narrow { width ≤ 64 }

@@ -7,7 +7,9 @@ use crate::align::Align;
 use std::alloc::{AllocError, Global};
 use std::marker::Model;
 
-/// Bits, in bytes whose last one has `spare` bits 0 at its end.
+/// Bits that were written, in bytes. The last byte has `spare` bits 0 at its end.
+///
+/// A contract sees the list of the bits.
 #[derive(Drop)]
 pub struct BitOut {
     bytes: Vec<u8>,
@@ -116,8 +118,9 @@ fn push_groups(bytes: &mut Vec<u8>, spare: u32, value: u128)
 }
 
 impl BitOut {
+    /// No bits. Takes no memory yet.
     pub fn new(alloc: Global) -> BitOut
-        ensures { result ≡ [] }
+        ensures empty { result ≡ [] }
     {
         BitOut {
             bytes: Vec::new(alloc),
@@ -125,7 +128,14 @@ impl BitOut {
         }
     }
 
-    /// Adds a number.
+    /// Adds an n-bit number of at most 64 bits (W3C EXI, section 7.1.9), as [`BitIn::take`] reads it.
+    /// The value has to fit the width, and under [`Align::Bytes`] there have to be whole bytes of bits.
+    ///
+    /// # Errors
+    ///
+    /// Where there is no memory. The bits are then as before.
+    ///
+    /// [`BitIn::take`]: crate::BitIn::take
     pub fn put(&mut self, value: u64, width: u32, align: Align) -> Result<(), AllocError>
         requires narrow { width ≤ 64 }
         requires fits { value < 2 ^ width }
@@ -140,6 +150,7 @@ impl BitOut {
         }
     }
 
+    /// Adds a number bit by bit, the most significant first.
     fn put_bits(&mut self, value: u64, width: u32) -> Result<(), AllocError>
         requires narrow { width ≤ 64 }
         requires fits { value < 2 ^ width }
@@ -162,6 +173,7 @@ impl BitOut {
         Ok(())
     }
 
+    /// Adds so many bytes of a number, the least significant first.
     fn put_bytes(&mut self, value: u64, count: u32) -> Result<(), AllocError>
         requires narrow { count ≤ 8 }
         requires whole { length self.old % 8 ≡ 0 }
@@ -174,13 +186,18 @@ impl BitOut {
         Ok(())
     }
 
-    /// Adds an Unsigned Integer, in as few octets as spell it.
+    /// Adds an Unsigned Integer (W3C EXI, section 7.1.6) at any bit, in as few octets as spell it.
+    ///
+    /// # Errors
+    ///
+    /// Where there is no memory. The bits are then as before.
     pub fn unsigned(&mut self, value: u128) -> Result<(), AllocError>
         ensures ok { OnOk result (self.new ≡ self.old ++ bits (shortest value)) }
         ensures err { OnErr result (self.new ≡ self.old) }
         ensures phase { length self.new % 8 ≡ length self.old % 8 }
     {
-        self.bytes.reserve(20)?;
+        // as many octets as the widest value has
+        self.bytes.reserve(19)?;
         push_groups(&mut self.bytes, self.spare, value);
         Ok(())
     }

@@ -1,7 +1,6 @@
-use Rattle.std.proofs.Common.{◌≡◌, ◌+◌, ◌-◌, ◌*◌, ◌/◌, ◌%◌, ◌<◌, ◌≤◌, ◌^◌, ◌++◌, ◌∷◌, [], length, arith, ap, sym, refl, ◌∙◌, subst, List, ℕ}
+use Rattle.std.proofs.Common.{◌≡◌, ◌+◌, ◌-◌, ◌*◌, ◌/◌, ◌%◌, ◌<◌, ◌^◌, length, arith, ◌∙◌}
 use Rattle.std.proofs.lemmas.Nat.{one_shl}
 use Rattle.std.proofs.lemmas.List.{append-nil}
-use Rattle.exi_bits.specs.Bits.{number_bits}
 use Rattle.exi_bits.specs.Written.{written}
 use Rattle.exi_bits.proofs.Outs.{fill_is, fill_fits, fill_none, tail_opens, tail_fits}
 use Rattle.exi_bits.proofs.bit_out.fill_tail.Goals as goal

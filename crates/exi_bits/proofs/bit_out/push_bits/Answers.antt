@@ -1,6 +1,5 @@
 use Rattle.std.proofs.Common.{◌≡◌, ◌-◌, ◌*◌, ◌%◌, ◌<◌, ◌^◌, ◌++◌, ◌∙◌, arith, bit_and}
 use Rattle.std.proofs.lemmas.Nat.{and_mask, one_shl, mod_below, pow_pos}
-use Rattle.std.proofs.lemmas.List.{length_push}
 use Rattle.exi_bits.specs.Bits.{bits, number_bits}
 use Rattle.exi_bits.proofs.BitLaws.{byte_out, byte_fits, last_fits, last_out, left_none}
 use Rattle.exi_bits.proofs.bit_out.push_bits.Goals as goal

@@ -1,4 +1,4 @@
-use Rattle.std.proofs.Common.{◌≡◌, ◌+◌, ◌/◌, ◌<◌, ◌≤◌, ◌^◌, ◌++◌, length, vec_len, vec_capacity}
+use Rattle.std.proofs.Common.{◌≡◌, ◌+◌, ◌/◌, ◌<◌, ◌≤◌, ◌^◌, ◌++◌, vec_len, vec_capacity}
 use Rattle.exi_bits.specs.Bits.{bits, number_bits}
 use Rattle.exi_bits.proofs.bit_out.push_bits.Given as goal
 

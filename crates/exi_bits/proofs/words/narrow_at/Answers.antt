@@ -1,4 +1,4 @@
-use Rattle.std.proofs.Common.{◌≡◌, ◌<◌, ◌≤◌, ◌^◌, ◌+◌, ◌%◌, ◌*◌, ◌/◌, arith, refl, ◌∙◌, ap, get_or}
+use Rattle.std.proofs.Common.{◌<◌, ◌+◌, ◌%◌, ◌/◌, arith, get_or}
 use Rattle.std.proofs.lemmas.Nat.{and_mask, one_shl}
 use Rattle.exi_bits.proofs.BitLaws.{in_one_byte, in_two_bytes}
 use Rattle.exi_bits.proofs.words.narrow_at.Goals as goal

@@ -1,4 +1,3 @@
-use Rattle.std.proofs.Common.{◌≡◌, ◌<◌}
 use Rattle.exi_bits.specs.Bits.{bits}
 use Rattle.exi_bits.proofs.BitLaws.{value_below_at}
 use Rattle.exi_bits.proofs.bit_in.BitIn.octet.Goals as goal

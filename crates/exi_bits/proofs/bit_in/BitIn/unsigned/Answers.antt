@@ -1,4 +1,3 @@
-use Rattle.std.proofs.Common.{◌≡◌}
 use Rattle.exi_bits.proofs.Groups.{one_octet}
 use Rattle.exi_bits.proofs.bit_in.BitIn.unsigned.Goals as goal
 

@@ -1,7 +1,6 @@
-use Rattle.std.proofs.Common.{◌≡◌, ◌+◌, ◌-◌, ◌*◌, ◌/◌, ◌<◌, ◌^◌, ◌%◌, ◌++◌, arith, refl, sym, ◌∙◌, subst, ℕ}
+use Rattle.std.proofs.Common.{◌≡◌, ◌+◌, ◌-◌, ◌<◌, ◌^◌, arith, subst, ℕ}
 use Rattle.std.proofs.lemmas.Nat.{one_shl, and_mask, shr_below}
-use Rattle.exi_bits.specs.Bits.{bits, number_bits}
-use Rattle.exi_bits.specs.Written.{written, zeros}
+use Rattle.exi_bits.specs.Written.{written}
 use Rattle.exi_bits.proofs.Outs.{put_over, put_whole}
 use Rattle.exi_bits.proofs.bit_out.BitOut.put_bits.Goals as goal
 
