@@ -10,17 +10,17 @@ use std::alloc::{AllocError, AllocFailed};
 pub enum Part {
     /// A document whose root is not the header of options.
     Root,
-    /// An element of the options document that the recommendation leaves to its users.
+    /// An element among the uncommon options that the recommendation leaves to its users.
     Metadata,
-    /// Alignment before compression.
+    /// Alignment for a later compression.
     PreCompress,
     /// A limit on the length of the values in the string tables.
     ValueMaxLength,
     /// A limit on the number of the values in the string tables.
     ValuePartitionCapacity,
-    /// Datatypes that stand for others.
+    /// Representations of datatypes other than the built-in ones.
     DatatypeMap,
-    /// Values kept letter by letter.
+    /// Values that keep their lexical form.
     LexicalValues,
     /// Compressed streams.
     Compression,
@@ -69,19 +69,19 @@ pub enum Kind {
     BadMoment,
     /// A number that is not below the count of what it chooses from.
     BadPlace,
-    /// A list of more items than are supported.
+    /// A list of more than 65,536 items.
     ListTooLong,
     /// An event code that stands for no production.
     NoCode,
     /// A type that is named and is not there, in a strict stream.
     BadType,
-    /// A self-contained element where none may stand.
+    /// A self-contained element that does not follow the start of an element at once.
     ScPlace,
-    /// A self-contained fragment that does not begin with an element.
+    /// A self-contained fragment that does not begin with the element that it stands for.
     ScRoot,
-    /// A self-contained fragment of more than one element.
+    /// More than the one element in a self-contained fragment.
     ScNotOne,
-    /// A name that more than one production could stand for.
+    /// An element of a fragment whose name is declared in more than one way.
     AmbiguousName,
     /// More events than the limit allows.
     EventLimit,
