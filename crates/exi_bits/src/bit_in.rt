@@ -32,8 +32,8 @@ impl<'a> Model for BitIn<'a> {
 impl<'a> BitIn<'a> {
     /// Reads at the first bit. There may be at most 2^32 bytes.
     pub fn new(bytes: &'a [u8]) -> Self
-        requires few { length bytes.now ≤ 2 ^ 32 }
-        ensures start { result ≡ record { bytes = bytes.now; place = 0 } }
+        requires { length bytes.now ≤ 2 ^ 32 }
+        ensures { result ≡ record { bytes = bytes.now; place = 0 } }
     {
         BitIn { bytes, place: 0 }
     }
@@ -48,7 +48,7 @@ impl<'a> BitIn<'a> {
 
     /// How many bits remain.
     pub fn left(&self) -> u64
-        ensures bits { result ≡ left self.now }
+        ensures { result ≡ left self.now }
     {
         self.bytes.len() as u64 * 8 - self.place
     }
@@ -89,8 +89,8 @@ impl<'a> BitIn<'a> {
 
     /// Goes to a bit, at most to the end.
     pub fn back(&mut self, place: u64)
-        requires within { place ≤ 8 * length self.old.bytes }
-        ensures place { self.new ≡ at_bit self.old place }
+        requires { place ≤ 8 * length self.old.bytes }
+        ensures { self.new ≡ at_bit self.old place }
     {
         self.place = place;
     }

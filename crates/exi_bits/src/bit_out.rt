@@ -120,7 +120,7 @@ fn push_groups(bytes: &mut Vec<u8>, spare: u32, value: u128)
 impl BitOut {
     /// No bits. Takes no memory yet.
     pub fn new(alloc: Global) -> BitOut
-        ensures empty { result ≡ [] }
+        ensures { result ≡ [] }
     {
         BitOut {
             bytes: Vec::new(alloc),
