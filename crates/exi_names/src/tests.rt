@@ -72,10 +72,7 @@ fn events(alloc: Global) -> Result<EventList, AllocError> {
         prefix: Txt::of(alloc, "p")?,
         element: true,
     })?;
-    list.add(Event::At(
-        name(alloc, None)?,
-        Val::Items(values(alloc)?),
-    ))?;
+    list.add(Event::At(name(alloc, None)?, Val::Items(values(alloc)?)))?;
     list.add(Event::Ch(Val::Text(Txt::of(alloc, "x")?)))?;
     list.add(Event::Er(Txt::of(alloc, "e")?))?;
     list.add(Event::Cm(Txt::of(alloc, "c")?))?;
@@ -221,7 +218,20 @@ fn xml_characters(rt: HostRuntime) {
         assert_eq!(rt; xml_char(least).map(|c| c as u128), Some(least));
         assert_eq!(rt; xml_char(most).map(|c| c as u128), Some(most));
     }
-    for code in [0, 0x8, 0xB, 0xC, 0xE, 0x1F, 0xD800, 0xDFFF, 0xFFFE, 0xFFFF, 0x11_0000, 1 << 32 | 0x41] {
+    for code in [
+        0,
+        0x8,
+        0xB,
+        0xC,
+        0xE,
+        0x1F,
+        0xD800,
+        0xDFFF,
+        0xFFFE,
+        0xFFFF,
+        0x11_0000,
+        1 << 32 | 0x41,
+    ] {
         assert_eq!(rt; xml_char(code), None, "at {code}");
     }
     assert!(rt; is_xml('\u{FFFD}') && !is_xml('\u{FFFE}'));
@@ -254,7 +264,10 @@ fn alphabets_are_sorted(rt: HostRuntime) -> Result<(), Fail> {
 fn stops_are_printed(rt: HostRuntime) -> Result<(), Fail> {
     let alloc = rt.alloc();
     let shown = format!(in alloc; "{}, {}", PushStop::Memory, PushStop::Stopped)?;
-    assert_eq!(rt; shown.as_str(), "out of memory, the events are taken no further");
+    assert_eq!(rt;
+        shown.as_str(),
+        "out of memory, the events are taken no further"
+    );
     let shown = format!(in alloc; "{}, {}", TextStop::Syntax(3), TextStop::Memory)?;
     assert_eq!(rt; shown.as_str(), "line 3 is not of the form, out of memory");
     Ok(())
