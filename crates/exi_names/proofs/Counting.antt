@@ -1,5 +1,5 @@
 -- Characters counted by the bytes that begin one.
-use Rattle.std.proofs.Common.{◌≡◌, ◌+◌, ◌%◌, ◌/◌, ◌≤◌, ◌<◌, ℕ, Bool, true, false, cond, ◌||◌, nat_lt, nat_le, inl, inr, List, [], ◌∷◌, ◌++◌, length, refl, sym, ap, ◌∙◌, arith, lit<}
+use Rattle.std.proofs.Common.{◌≡◌, ◌+◌, ◌%◌, ◌/◌, ◌≤◌, ◌<◌, ℕ, Bool, true, false, cond, ◌||◌, nat_lt, nat_le, inl, inr, List, [], ◌∷◌, length, refl, sym, ap, ◌∙◌, arith, lit<}
 use Rattle.std.specs.List.{count_by}
 use Rattle.std.specs.Str.{chars, IsUtf8}
 use Rattle.std.proofs.Math.Nat.{mod-lt}
