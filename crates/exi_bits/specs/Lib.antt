@@ -4,3 +4,4 @@ pub mod Repeat
 pub mod Written
 pub mod Words
 pub mod Laws
+pub mod Widths

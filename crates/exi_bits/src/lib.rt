@@ -36,9 +36,11 @@ mod fault;
 pub mod laws;
 #[cfg(test)]
 mod tests;
+mod widths;
 mod words;
 
 pub use align::Align;
 pub use bit_in::BitIn;
 pub use bit_out::BitOut;
 pub use fault::{Fault, Kind, Part, Stop};
+pub use widths::bits_for;

@@ -1,5 +1,6 @@
 ghost use Rattle.std.specs.Prelude.{◌≡◌, ◌≤◌, ◌<◌, None, IfOk, length, vec_len};
-ghost use Rattle.exi_ports.specs.Edge.{Reads, faults_after_fetch};
+ghost use Rattle.exi_ports.specs.Edge.{Reads, faults_after};
+ghost use Rattle.exi_ports.specs.Ports.{IsWithin};
 
 use crate::shelf::{Fetch, Shelf};
 use exi_names::{Octets, Txt};
@@ -34,7 +35,7 @@ impl<'a, R: Files> FileShelf<'a, R> {
     /// Counts a fault where the answer is one.
     fn counted(&mut self, answer: Fetch) -> Fetch
         ensures same { result ≡ answer }
-        ensures counts { self.new.faults ≡ faults_after_fetch self.old.faults answer }
+        ensures counts { self.new.faults ≡ faults_after self.old.faults answer }
         ensures later { self.old.faults ≤ self.new.faults }
     {
         if matches!(answer, Fetch::Failed) {
@@ -59,7 +60,9 @@ impl<'a, R: Files> Shelf for FileShelf<'a, R> {
 }
 
 /// Opens a file and reads it.
-fn fetch_file<R: Files>(rt: &R, alloc: Global, name: &Txt, most: u64) -> Fetch {
+fn fetch_file<R: Files>(rt: &R, alloc: Global, name: &Txt, most: u64) -> Fetch
+    ensures within { IsWithin most result }
+{
     let Ok(mut file) = File::open(rt, name.as_str()) else {
         return Fetch::Failed;
     };
@@ -80,7 +83,8 @@ fn new_chunk(alloc: Global) -> Result<Vec<u8>, AllocError>
 /// `most` + 1 are kept.
 fn read_all<S: Read>(alloc: Global, source: &mut S, chunk: &mut [u8], most: u64) -> Fetch
     requires { 0 < length chunk.old }
-    ensures { Reads (S.remaining source.old) most result }
+    ensures read { Reads (S.remaining source.old) most result }
+    ensures within { IsWithin most result }
 {
     let mut all = Vec::new(alloc);
     while all.len() as u64 <= most {

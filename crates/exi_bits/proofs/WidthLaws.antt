@@ -1,0 +1,40 @@
+-- The least width of a count.
+use Rattle.std.proofs.Common.{◌≡◌, ℕ, zero, suc, ◌+◌, ◌-◌, ◌^◌, ◌<◌, ◌≤◌, ◌⊎◌, inl, inr, refl, sym, ap, ◌∙◌, arith}
+use Rattle.std.proofs.lemmas.Bool.{le-leb, lt-leb, cases_lt}
+use Rattle.std.proofs.Common.{lit<}
+use Rattle.std.proofs.Math.Nat.{pow-succ'}
+use Rattle.std.proofs.lemmas.Nat.{leading_top}
+use Rattle.std.specs.Int.Count.{count_leading_zeros}
+use Rattle.exi_bits.proofs.BitLaws.{pow_up}
+use Rattle.exi_bits.specs.Widths.{width_from, width_for}
+
+-- the number that holds the count, and before which none does, is found
+pub width_found : (tries n w count : ℕ) → ((k : ℕ) → k < w → 2 ^ k < count) → count ≤ 2 ^ w → n ≤ w → w ≤ n + tries → width_from tries n count ≡ w
+unfolding width_from
+width_found zero n w count below holds from to = omega arith
+width_found (suc tries) n w count below holds from to =
+    elim (cases_lt n w) [
+      | inl less ↦ rw (lt-leb count (2 ^ n) (below n less)) (width_found tries (n + 1) w count below holds (omega arith) (omega arith))
+      | inr not_less ↦
+          let e : n ≡ w = omega arith in
+          let h : count ≤ 2 ^ n = rw e holds in
+          rw (le-leb count (2 ^ n) h) e
+    ]
+
+pub width_few : (count : ℕ) → count ≤ 1 → 0 ≡ width_for count
+width_few count few = sym (width_found count 0 0 count (λ k less. absurd (omega arith)) (omega arith) (omega arith) (omega arith))
+
+below_power : (j k count : ℕ) → k ≤ j → 2 ^ j < count → 2 ^ k < count
+below_power j k count le less = let p = pow_up k j le in omega arith
+
+-- the zeros in front of the greatest value leave the width
+pub width_many : (count : ℕ) → 1 < count → count - 1 < 2 ^ 64 → 64 - count_leading_zeros 64 (count - 1) ≡ width_for count
+width_many count many fits =
+    let t = leading_top 64 (count - 1) (omega arith) fits in
+    let w : 64 - count_leading_zeros 64 (count - 1) ≡ suc t.0 = omega (arith, t.1) in
+    let short : suc t.0 ≤ count = omega (arith, t.2, below_self t.0) in
+    w ∙ sym (width_found count 0 (suc t.0) count (λ k less. below_power t.0 k count (omega arith) (omega (arith, t.2))) (omega (arith, t.3)) (omega arith) (omega arith))
+  where
+    below_self : (n : ℕ) → n < 2 ^ n
+    below_self zero = lit< tt
+    below_self (suc n) = let h = below_self n in rw pow-succ' (omega arith)
