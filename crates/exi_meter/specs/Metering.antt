@@ -48,11 +48,11 @@ abbrev pub with_event : Metering → Metering
 with_event m = record m { used = record m.used { events = m.used.events + 1 } }
 
 -- more units of text
-abbrev pub text_fits : ℕ → Metering → Bool
-text_fits units m = nat_le (m.used.text + units) m.limits.text
+abbrev pub text_fits : Metering → ℕ → Bool
+text_fits m units = nat_le (m.used.text + units) m.limits.text
 
-abbrev pub with_text : ℕ → Metering → Metering
-with_text units m = record m { used = record m.used { text = m.used.text + units } }
+abbrev pub with_text : Metering → ℕ → Metering
+with_text m units = record m { used = record m.used { text = m.used.text + units } }
 
 -- one more open element; the deepest level is kept
 abbrev pub level_fits : Metering → Bool
@@ -66,14 +66,14 @@ abbrev pub without_level : Metering → Metering
 without_level m = record m { level = m.level - 1 }
 
 -- what was counted apart, inside the open elements: its deepest level lies below theirs
-abbrev pub tally_fits : Tally → Metering → Bool
-tally_fits more m =
+abbrev pub tally_fits : Metering → Tally → Bool
+tally_fits m more =
     nat_le (m.used.events + more.events) m.limits.events
     && nat_le (m.used.text + more.text) m.limits.text
     && nat_le (m.level + more.deepest) m.limits.depth
 
-abbrev pub with_tally : Tally → Metering → Metering
-with_tally more m = record m {
+abbrev pub with_tally : Metering → Tally → Metering
+with_tally m more = record m {
   used = record {
     events = m.used.events + more.events;
     text = m.used.text + more.text;

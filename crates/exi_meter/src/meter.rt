@@ -96,8 +96,8 @@ impl Meter {
 
     /// Counts `units` of text; false, and nothing is changed, exactly where that would pass the limit.
     pub fn text(&mut self, units: u128) -> bool
-        ensures fits { result ≡ text_fits units self.old }
-        ensures counted { OnTrue result (self.new ≡ with_text units self.old) }
+        ensures fits { result ≡ text_fits self.old units }
+        ensures counted { OnTrue result (self.new ≡ with_text self.old units) }
         ensures same { OnFalse result (self.new ≡ self.old) }
         ensures within { IsWithin self.new }
     {
@@ -136,7 +136,7 @@ impl Meter {
     /// Whether `more` can be added: what is used and `more`, and the open elements and the deepest of
     /// `more`, pass no limit.
     pub fn fits(&self, more: &Tally) -> bool
-        ensures { result ≡ tally_fits more.now self.now }
+        ensures { result ≡ tally_fits self.now more.now }
     {
         more.events <= self.limits.events() - self.used.events
             && more.text <= self.limits.text() - self.used.text
@@ -145,8 +145,8 @@ impl Meter {
 
     /// Adds what was counted apart, inside the elements that are open. It must fit.
     pub fn add(&mut self, more: &Tally)
-        requires { IsTrue (tally_fits more.now self.old) }
-        ensures value { self.new ≡ with_tally more.now self.old }
+        requires { IsTrue (tally_fits self.old more.now) }
+        ensures value { self.new ≡ with_tally self.old more.now }
         ensures within { IsWithin self.new }
     {
         self.used.events += more.events;

@@ -1,0 +1,5 @@
+pub mod Characters
+pub mod Wholes
+pub mod Seen
+pub mod Events
+pub mod Lists

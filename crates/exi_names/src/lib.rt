@@ -1,0 +1,43 @@
+//! Names, values and events of EXI 1.0.
+//!
+//! Nothing here reads or writes bits: these are the plain data that a stream's bits stand for, and
+//! that a reader hands out and a writer takes in. A document is a list of events between `Sd` and `Ed`:
+//!
+//! ```text
+//! <a k="7">x<!--y--></a>
+//!
+//!   Sd   Se a   At k 7   Ch "x"   Cm "y"   Ee   Ed
+//!        |      |    |       |
+//!        QName  QName Val    Val
+//! ```
+//!
+//! [`Event`] restates the event types of the recommendation's section 4, [`Val`] and [`Datatype`] the
+//! datatypes of its section 7, [`StartNames`] the first string tables of its appendix D.
+//!
+//! What allocates answers [`AllocError`](std::alloc::AllocError) where memory is refused, and then
+//! leaves what it was called on as it was.
+#![tactic(auto)]
+
+mod chars;
+mod event;
+mod event_list;
+mod event_out;
+mod moment;
+mod names;
+mod octets;
+mod stops;
+mod txt;
+mod val;
+mod whole;
+
+pub use chars::{is_xml, xml_char};
+pub use event::Event;
+pub use event_list::EventList;
+pub use event_out::EventOut;
+pub use moment::{Moment, MomentKind};
+pub use names::{NameId, QName};
+pub use octets::Octets;
+pub use stops::{PushStop, TextStop};
+pub use txt::Txt;
+pub use val::{Val, ValList};
+pub use whole::Whole;
