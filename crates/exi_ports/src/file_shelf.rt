@@ -1,5 +1,5 @@
 ghost use Rattle.std.specs.Prelude.{◌≡◌, ◌≤◌, ◌<◌, None, IfOk, length, vec_len};
-ghost use Rattle.exi_ports.specs.Edge.{Reads, faults_after};
+ghost use Rattle.exi_ports.specs.Edge.{Reads, faults_after_fetch};
 ghost use Rattle.exi_ports.specs.Ports.{IsWithin};
 
 use crate::shelf::{Fetch, Shelf};
@@ -35,7 +35,7 @@ impl<'a, R: Files> FileShelf<'a, R> {
     /// Counts a fault where the answer is one.
     fn counted(&mut self, answer: Fetch) -> Fetch
         ensures same { result ≡ answer }
-        ensures counts { self.new.faults ≡ faults_after self.old.faults answer }
+        ensures counts { self.new.faults ≡ faults_after_fetch self.old.faults answer }
         ensures later { self.old.faults ≤ self.new.faults }
     {
         if matches!(answer, Fetch::Failed) {
