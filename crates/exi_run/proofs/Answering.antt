@@ -1,22 +1,18 @@
 -- What the status says, in parts.
-use Rattle.std.proofs.Common.{◌≡◌, ◌≤◌, ◌<◌, ◌⊎◌, ℕ, List, [], ◌∷◌, ◌++◌, Option, Some, None, Result, Ok, Err, IsErrOf, inl, inr, length, take, drop, refl, sym, ap, ◌∙◌, subst, arith}
-use Rattle.std.specs.Prelude.{codes, IfSome, OnOk}
+use Rattle.std.proofs.Common.{◌≡◌, ◌≤◌, ◌<◌, ◌⊎◌, ℕ, List, [], ◌∷◌, ◌++◌, Option, Some, None, Ok, Err, inl, inr, length, take, drop, refl, sym, ap, ◌∙◌, subst, arith}
+use Rattle.std.specs.Prelude.{codes, IfSome}
 use Rattle.std.proofs.lemmas.List.{append-nil, take-append-drop}
 use Rattle.std.proofs.lemmas.Bool.{cases_lt}
-use Rattle.exi_names.specs.Events.{Happening, Grows, Rose}
+use Rattle.exi_names.specs.Events.{Happening, Grows}
 use Rattle.exi_ports.specs.Ports.{GrowsInPart, file_at}
-use Rattle.exi_ports.specs.declared.sink.SinkStop.{SinkStop}
-use Rattle.exi_ports.specs.declared.sink.SinkStop.TheVariants as stop
 use Rattle.exi_run.specs.declared.reader.End.{End}
 use Rattle.exi_run.specs.declared.reader.End.TheVariants as end
 use Rattle.exi_run.specs.declared.status.Status.{Status}
 use Rattle.exi_run.specs.declared.status.Status.TheVariants as status
-use Rattle.exi_run.specs.declared.status.Halt.{Halt}
 use Rattle.exi_run.specs.declared.status.Halt.TheVariants as halt
 use Rattle.exi_run.specs.Sequence.{IsWhole}
-use Rattle.exi_run.specs.Text.{lines, last_line}
 use Rattle.exi_run.specs.Printing.{grows_more}
-use Rattle.exi_run.specs.Answers.{Due, most_bytes, text_of, one_line, usage_due, failed_due, long_due, whole_due, status_of, OwedOf, OwedBy, OwedFrom, Owed, Did, Answered, Served, GrowsByFront, GrowsByLines, no_memory, Files, OfFile, IsTold, Tells, IsOr, IsLater, RefusalPut}
+use Rattle.exi_run.specs.Answers.{Due, most_bytes, text_of, one_line, usage_due, failed_due, long_due, whole_due, status_of, OwedOf, OwedBy, OwedFrom, Owed, Answered, Served, GrowsByLines, no_memory, Files, OfFile, IsTold, Tells, IsOr, IsLater, RefusalPut}
 use Rattle.exi_run.proofs.Owing.{text-whole}
 
 -- ---- what may be owed: one of three lines, or the whole of a stream
@@ -157,9 +153,9 @@ told_is s old new due d told is none (inr (inr b)) = not_told s status.NoMemory 
 pub tells : (name : Option (List ℕ)) (files : Option Files) (rose : Type 0) (s : Status) (old new : Option (List ℕ)) → IsAnswer name files rose s old new → OfFile name files (λ bytes. IsTold s → Tells s old new bytes)
 tells name files rose s old new (due, owed, a) =
     by_words name files rose s old new (λ bytes. IsTold s → Tells s old new bytes) due owed a
-      (λ bytes r is told. absurd (told_is s old new due failed_due told is (λ h. h) (put_or s due old new a)))
-      (λ bytes long is told. absurd (told_is s old new due long_due told is (λ h. h) (put_or s due old new a)))
-      (λ bytes few es e w is told. tells_whole s old new due bytes es e told w is (put_or s due old new a))
+    (λ bytes r is told. absurd (told_is s old new due failed_due told is (λ h. h) (put_or s due old new a)))
+    (λ bytes long is told. absurd (told_is s old new due long_due told is (λ h. h) (put_or s due old new a)))
+    (λ bytes few es e w is told. tells_whole s old new due bytes es e told w is (put_or s due old new a))
 
 or_by : (s t : Status) (due d : Due) (old new : Option (List ℕ)) → due ≡ d → d.status ≡ t → (((due.status ≡ s) × Grows old (text_of due.lines) new) ⊎ ((s ≡ status.WriteFault) ⊎ (s ≡ status.NoMemory))) → IsOr t s
 or_by s t due d old new is st (inl a) = inl (sym a.0 ∙ same_status due d is ∙ st)
@@ -172,9 +168,9 @@ refused (Some name) files rose s old new h none = absurd cc
 pub long_is : (name : Option (List ℕ)) (files : Option Files) (rose : Type 0) (s : Status) (old new : Option (List ℕ)) → IsAnswer name files rose s old new → OfFile name files (λ bytes. most_bytes < length bytes → (rose → ⊥) → IsOr status.TooLong s)
 long_is name files rose s old new (due, owed, a) =
     by_words name files rose s old new (λ bytes. most_bytes < length bytes → (rose → ⊥) → IsOr status.TooLong s) due owed a
-      (λ bytes r is long still. absurd (still r))
-      (λ bytes l is long still. or_by s status.TooLong due long_due old new is refl (put_or s due old new a))
-      (λ bytes few es e w is long still. absurd (omega arith))
+    (λ bytes r is long still. absurd (still r))
+    (λ bytes l is long still. or_by s status.TooLong due long_due old new is refl (put_or s due old new a))
+    (λ bytes few es e w is long still. absurd (omega arith))
 
 whole_or : (s : Status) (due : Due) (old new : Option (List ℕ)) (es : List Happening) (e : End) (out : Type 0) → due ≡ whole_due es e → (s ≡ status.WriteFault → out) → (out → ⊥) → (((due.status ≡ s) × Grows old (text_of due.lines) new) ⊎ ((s ≡ status.WriteFault) ⊎ (s ≡ status.NoMemory))) → IsTold s ⊎ (s ≡ status.NoMemory)
 whole_or s due old new es e out is write still (inl a) = inl (told_of s e (sym a.0 ∙ same_status due (whole_due es e) is))
@@ -184,9 +180,9 @@ whole_or s due old new es e out is write still (inr (inr b)) = inr b
 pub completes : (name : Option (List ℕ)) (files : Option Files) (rose out : Type 0) (s : Status) (old new : Option (List ℕ)) → IsAnswer name files rose s old new → (s ≡ status.WriteFault → out) → OfFile name files (λ bytes. length bytes ≤ most_bytes → (rose → ⊥) → (out → ⊥) → IsTold s ⊎ (s ≡ status.NoMemory))
 completes name files rose out s old new (due, owed, a) write =
     by_words name files rose s old new (λ bytes. length bytes ≤ most_bytes → (rose → ⊥) → (out → ⊥) → IsTold s ⊎ (s ≡ status.NoMemory)) due owed a
-      (λ bytes r is few still calm. absurd (still r))
-      (λ bytes l is few still calm. absurd (omega arith))
-      (λ bytes f es e w is few still calm. whole_or s due old new es e out is write calm (put_or s due old new a))
+    (λ bytes r is few still calm. absurd (still r))
+    (λ bytes l is few still calm. absurd (omega arith))
+    (λ bytes f es e w is few still calm. whole_or s due old new es e out is write calm (put_or s due old new a))
 
 status_put : (s t : Status) (due : Due) (old new : Option (List ℕ)) → s ≡ t → (t ≡ status.WriteFault → ⊥) → (t ≡ status.NoMemory → ⊥) → (((due.status ≡ s) × Grows old (text_of due.lines) new) ⊎ ((s ≡ status.WriteFault) ⊎ (s ≡ status.NoMemory))) → (due.status ≡ t) × Grows old (text_of due.lines) new
 status_put s t due old new is a b (inl h) = (h.0 ∙ is, h.1)
@@ -196,9 +192,9 @@ status_put s t due old new is a b (inr (inr h)) = absurd (b (sym is ∙ h))
 pub too_long_is : (name : Option (List ℕ)) (files : Option Files) (rose : Type 0) (s : Status) (old new : Option (List ℕ)) → IsAnswer name files rose s old new → OfFile name files (λ bytes. s ≡ status.TooLong → most_bytes < length bytes)
 too_long_is name files rose s old new (due, owed, a) =
     by_words name files rose s old new (λ bytes. s ≡ status.TooLong → most_bytes < length bytes) due owed a
-      (λ bytes r is st. let h : status.ReadFault ≡ status.TooLong = sym (same_status due failed_due is) ∙ (status_put s status.TooLong due old new st (λ x. cc) (λ x. cc) (put_or s due old new a)).0 in absurd cc)
-      (λ bytes l is st. l)
-      (λ bytes f es e w is st. absurd (told_of status.TooLong e (sym (status_put s status.TooLong due old new st (λ x. cc) (λ x. cc) (put_or s due old new a)).0 ∙ same_status due (whole_due es e) is)))
+    (λ bytes r is st. let h : status.ReadFault ≡ status.TooLong = sym (same_status due failed_due is) ∙ (status_put s status.TooLong due old new st (λ x. cc) (λ x. cc) (put_or s due old new a)).0 in absurd cc)
+    (λ bytes l is st. l)
+    (λ bytes f es e w is st. absurd (told_of status.TooLong e (sym (status_put s status.TooLong due old new st (λ x. cc) (λ x. cc) (put_or s due old new a)).0 ∙ same_status due (whole_due es e) is)))
 
 -- ---- refusals
 kind_usage : (name : Option (List ℕ)) (due : Due) → IsKind name due → due.status ≡ status.Usage → (name ≡ None) × (due ≡ usage_due)

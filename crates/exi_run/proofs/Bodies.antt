@@ -1,5 +1,5 @@
 -- What printing a body says of the whole stream.
-use Rattle.std.proofs.Common.{◌≡◌, ◌≤◌, ◌<◌, ◌+◌, ℕ, List, [], ◌∷◌, ◌++◌, true, Option, Some, None, Result, Ok, Err, take, drop, refl, sym, ap, ◌∙◌, subst, arith, append_assoc}
+use Rattle.std.proofs.Common.{◌≡◌, ◌≤◌, ℕ, List, [], ◌∷◌, ◌++◌, Option, Result, Ok, Err, take, drop, refl, sym, ap, ◌∙◌, subst, arith, append_assoc}
 use Rattle.std.proofs.lemmas.List.{append-nil, take-append-drop}
 use Rattle.exi_bits.specs.declared.fault.Fault.{Fault}
 use Rattle.exi_bits.specs.Bits.{Spot}
@@ -9,10 +9,10 @@ use Rattle.exi_run.specs.declared.reader.End.{End}
 use Rattle.exi_run.specs.declared.reader.End.TheVariants as end
 use Rattle.exi_run.specs.declared.reading.ReadStop.{ReadStop}
 use Rattle.exi_run.specs.declared.reading.ReadStop.TheVariants as stop
-use Rattle.exi_run.specs.Sequence.{Config, goes, ends, move, Leads, IsRun, first_of, start_of, header_at, IsWholeFrom, IsWhole, IsFrontFrom, IsFront}
-use Rattle.exi_run.specs.Taking.{CameTo, TookRun}
-use Rattle.exi_run.specs.Text.{line, lines, has_line}
-use Rattle.exi_run.specs.Printing.{Prints, BreaksOff, PrintsBody, grows_more, grows_none, lines-append}
+use Rattle.exi_run.specs.Sequence.{Config, Leads, IsRun, first_of, start_of, header_at, IsWholeFrom, IsWhole, IsFrontFrom, IsFront}
+use Rattle.exi_run.specs.Taking.{TookRun}
+use Rattle.exi_run.specs.Text.{line, lines}
+use Rattle.exi_run.specs.Printing.{Prints, BreaksOff, PrintsBody, grows_more, lines-append}
 use Rattle.exi_run.specs.Answers.{GrowsByFront}
 use Rattle.exi_run.proofs.Runs.{leads_push, moves_on}
 

@@ -1,18 +1,16 @@
 -- What is owed, and what was done of it.
-use Rattle.std.proofs.Common.{◌≡◌, ◌≤◌, ◌<◌, ◌⊎◌, ◌+◌, ◌^◌, ℕ, List, [], ◌∷◌, ◌++◌, Option, Some, None, Result, Ok, Err, inl, inr, length, take, drop, refl, sym, ap, ◌∙◌, subst, arith, append_assoc}
-use Rattle.std.specs.Prelude.{map, codes, IfOk}
-use Rattle.std.proofs.lemmas.List.{append-nil, take-append-drop}
-use Rattle.exi_names.specs.Events.{Happening, Grows, Rose}
+use Rattle.std.proofs.Common.{◌≡◌, ◌≤◌, ℕ, List, [], ◌∷◌, ◌++◌, Option, Ok, Err, length, refl, sym, ap, ◌∙◌, subst, arith, append_assoc}
+use Rattle.std.specs.Prelude.{map}
+use Rattle.std.proofs.lemmas.List.{append-nil}
+use Rattle.exi_names.specs.Events.{Happening, Grows}
 use Rattle.exi_ports.specs.Ports.{GrowsInPart}
 use Rattle.exi_run.specs.declared.reader.End.{End}
-use Rattle.exi_run.specs.declared.status.Status.{Status}
-use Rattle.exi_run.specs.declared.status.Status.TheVariants as status
 use Rattle.exi_run.specs.declared.status.Halt.{Halt}
 use Rattle.exi_run.specs.declared.status.Halt.TheVariants as halt
 use Rattle.exi_run.specs.Sequence.{IsWhole, IsFront}
 use Rattle.exi_run.specs.Text.{line, lines, last_line}
-use Rattle.exi_run.specs.Printing.{grows_more, grows_none, lines-append}
-use Rattle.exi_run.specs.Answers.{Due, most_bytes, text_of, one_line, whole_due, status_of, OwedOf, Owed, Did, DidLine, DidEvents, GrowsByFront, GrowsByLines, Served, Files}
+use Rattle.exi_run.specs.Printing.{grows_more, lines-append}
+use Rattle.exi_run.specs.Answers.{Due, most_bytes, text_of, whole_due, status_of, OwedOf, Did, DidLine, DidEvents, GrowsByFront}
 use Rattle.exi_run.proofs.Runs.{whole_there, front_whole_lem}
 use Rattle.exi_run.proofs.Bodies.{in_part}
 

@@ -1,7 +1,6 @@
 -- Places among no texts.
-use Rattle.std.proofs.Common.{◌≡◌, ℕ, List, [], refl, sym, ap, ◌∙◌, Ok, Err, add-zero, arith}
+use Rattle.std.proofs.Common.{◌≡◌, [], refl, Ok, add-zero, arith}
 use Rattle.std.proofs.lemmas.Bool.{le-ltb}
-use Rattle.std.specs.Prelude.{drop, take, nat_lt}
 use Rattle.exi_bits.specs.declared.align.Align.TheVariants as align
 use Rattle.exi_bits.specs.declared.fault.Kind.TheVariants as kind
 use Rattle.exi_bits.specs.Bits.{Spot, left, number_at, value_of}

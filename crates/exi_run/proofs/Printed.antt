@@ -1,11 +1,11 @@
 -- One event more, as a line in a sink.
-use Rattle.std.proofs.Common.{◌≡◌, ◌≤◌, ◌<◌, ℕ, List, [], ◌∷◌, ◌++◌, true, false, Option, Result, Ok, Err, OnOk, IsErrOf, refl, sym, ap, ◌∙◌, subst, arith}
+use Rattle.std.proofs.Common.{◌≡◌, ◌≤◌, ℕ, List, [], ◌∷◌, false, Option, Result, Ok, Err, OnOk, IsErrOf, refl, sym, ◌∙◌, subst}
 use Rattle.std.proofs.lemmas.List.{append-nil}
 use Rattle.exi_names.specs.Events.{Happening, Grows, Rose}
 use Rattle.exi_ports.specs.Ports.{GrowsInPart}
 use Rattle.exi_ports.specs.declared.sink.SinkStop.{SinkStop}
 use Rattle.exi_ports.specs.declared.sink.SinkStop.TheVariants as stop
-use Rattle.exi_run.specs.Text.{line, lines, has_line}
+use Rattle.exi_run.specs.Text.{line, has_line}
 use Rattle.exi_run.specs.Printing.{Prints, BreaksOff, PutsLine, grows_none}
 
 pub puts_one : (e : Happening) (old new : Option (List ℕ)) (before after : ℕ) (piece : List ℕ) → piece ≡ line e → Grows old piece new → before ≤ after → Prints old before (e ∷ []) new after

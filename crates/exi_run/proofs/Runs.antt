@@ -1,5 +1,5 @@
 -- Each stream has one run, of few events, and each of them has its line.
-use Rattle.std.proofs.Common.{◌≡◌, ◌<◌, ◌≤◌, ◌+◌, ℕ, zero, suc, Bool, true, false, List, [], ◌∷◌, ◌++◌, Result, Ok, Err, refl, sym, ap, ◌∙◌, subst, lit<, arith, append_assoc}
+use Rattle.std.proofs.Common.{◌≡◌, ◌<◌, ℕ, zero, suc, Bool, true, false, List, [], ◌∷◌, ◌++◌, Result, Ok, Err, refl, sym, ap, ◌∙◌, subst, lit<, arith}
 use Rattle.std.specs.Prelude.{◌==◌, if◌then◌else◌}
 use Rattle.exi_bits.specs.declared.align.Align.TheVariants as align
 use Rattle.exi_bits.specs.declared.fault.Fault.{Fault}
@@ -7,7 +7,7 @@ use Rattle.exi_bits.specs.declared.fault.Kind.TheVariants as kind
 use Rattle.exi_bits.specs.Bits.{Spot}
 use Rattle.exi_bits.specs.Unsigned.{◌>>=◌, field_at, fault_at}
 use Rattle.exi_names.specs.Seen.{text}
-use Rattle.exi_names.specs.Events.{Happening, sd, ed, se, ee, ch}
+use Rattle.exi_names.specs.Events.{Happening, se, ee, ch}
 use Rattle.exi_names.specs.declared.names.QName.{QName}
 use Rattle.exi_run.specs.declared.reader.State.{State}
 use Rattle.exi_run.specs.declared.reader.State.TheVariants as state

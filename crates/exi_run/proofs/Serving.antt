@@ -1,19 +1,16 @@
 -- What a command did, by the words, the files and the stream.
-use Rattle.std.proofs.Common.{◌≡◌, ◌≤◌, ◌<◌, ◌⊎◌, ℕ, List, [], ◌∷◌, ◌++◌, Option, Some, None, Result, Ok, Err, inl, inr, length, take, drop, refl, sym, ap, ◌∙◌, subst, arith, append_assoc}
+use Rattle.std.proofs.Common.{◌≡◌, ℕ, List, [], ◌∷◌, ◌++◌, Option, Some, None, Result, Ok, Err, inl, inr, length, take, drop, refl, sym, ◌∙◌, subst, arith}
 use Rattle.std.specs.Prelude.{codes}
 use Rattle.std.proofs.lemmas.List.{append-nil, take-append-drop}
 use Rattle.std.proofs.lemmas.Bool.{cases_lt}
-use Rattle.exi_names.specs.Events.{Happening, Grows, Rose}
-use Rattle.exi_ports.specs.Ports.{GrowsInPart, Fetched, Asks, IsAnswer, file_at}
-use Rattle.exi_ports.specs.declared.shelf.Fetch.{Fetch}
+use Rattle.exi_names.specs.Events.{Grows}
+use Rattle.exi_ports.specs.Ports.{Fetched, IsAnswer, file_at}
 use Rattle.exi_ports.specs.declared.shelf.Fetch.TheVariants as fetch
-use Rattle.exi_run.specs.declared.reader.End.{End}
 use Rattle.exi_run.specs.declared.status.Status.{Status}
-use Rattle.exi_run.specs.declared.status.Status.TheVariants as status
 use Rattle.exi_run.specs.declared.status.Halt.{Halt}
 use Rattle.exi_run.specs.declared.status.Halt.TheVariants as halt
 use Rattle.exi_run.specs.Printing.{grows_none}
-use Rattle.exi_run.specs.Answers.{Due, most_bytes, text_of, one_line, usage_due, failed_due, long_due, whole_due, OwedOf, OwedBy, OwedFrom, Owed, Did, DidLine, GrowsByFront, GrowsByLines, Served, Files}
+use Rattle.exi_run.specs.Answers.{Due, most_bytes, one_line, failed_due, long_due, whole_due, OwedOf, OwedBy, OwedFrom, Owed, Did, DidLine, GrowsByFront, Served, Files}
 use Rattle.exi_run.proofs.Runs.{whole_there}
 use Rattle.exi_run.proofs.Owing.{others_of}
 

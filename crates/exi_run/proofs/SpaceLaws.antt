@@ -1,10 +1,9 @@
 -- The texts of the first tables, in characters and in bytes.
 use Rattle.std.specs.Prelude.{if◌then◌else◌}
-use Rattle.std.proofs.Common.{subst, ◌≡◌, ◌<◌, ◌≤◌, ℕ, Bool, eqb, List, [], ◌∷◌, true, false, refl, sym, ap, ◌∙◌, arith, inl, inr, slice_index_or}
+use Rattle.std.proofs.Common.{subst, ◌≡◌, ℕ, Bool, List, [], true, false, refl, sym, ap, ◌∙◌, inl, inr, slice_index_or}
 use Rattle.std.proofs.Math.Utf8.{encodes, encode}
 use Rattle.std.specs.Prelude.{map, codes}
 use Rattle.std.specs.Str.{chars, bytes_eq}
-use Rattle.std.specs.Cmp.Lexicographic.{pointwise}
 use Rattle.std.proofs.lemmas.Str.{encodes_same}
 use Rattle.std.proofs.lemmas.Bool.{cases_Bool, false_from_ne_true, both_ways}
 use Rattle.std.proofs.lemmas.Slice.Eq.{bytes_eq-Decides}

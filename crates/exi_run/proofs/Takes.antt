@@ -1,11 +1,11 @@
 -- What takes events takes one more, none more, or stops.
-use Rattle.std.proofs.Common.{◌≡◌, List, [], ◌∷◌, ◌++◌, Option, Some, None, Result, Ok, Err, sym, subst}
+use Rattle.std.proofs.Common.{◌≡◌, List, [], ◌∷◌, ◌++◌, Some, Ok, Err, sym, subst}
 use Rattle.std.proofs.lemmas.List.{append-nil}
 use Rattle.exi_names.specs.Events.{Happening}
 use Rattle.exi_run.specs.declared.reader.End.{End}
 use Rattle.exi_run.specs.declared.reading.ReadStop.{ReadStop}
 use Rattle.exi_run.specs.declared.reading.ReadStop.TheVariants as stop
-use Rattle.exi_run.specs.Sequence.{Config, goes, ends, move, Leads}
+use Rattle.exi_run.specs.Sequence.{Config, goes, move, Leads}
 use Rattle.exi_run.specs.Taking.{CameTo, Turned, TookRun}
 use Rattle.exi_run.proofs.Runs.{leads_push}
 

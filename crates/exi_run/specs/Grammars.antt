@@ -1,7 +1,7 @@
 -- The built-in grammars of a stream without a schema, under the default options (W3C EXI 1.0, sections
 -- 6.2 and 8.4): comments, processing instructions, DTDs, prefixes and self-contained elements are not
 -- preserved, so their productions are pruned, and the parts of the other codes close up.
-use Rattle.std.specs.Prelude.{ℕ, zero, suc, ◌+◌, ◌==◌, ◌||◌, max, Bool, true, false, List, [], ◌∷◌, Option, Some, None, is_some, Result, Ok, Err, if◌then◌else◌}
+use Rattle.std.specs.Prelude.{ℕ, zero, suc, ◌+◌, ◌==◌, ◌||◌, max, Bool, true, false, List, [], ◌∷◌, Option, Some, None, is_some, Result, Ok, if◌then◌else◌}
 use Rattle.exi_bits.specs.declared.align.Align.TheVariants as align
 use Rattle.exi_bits.specs.declared.fault.Fault.{Fault}
 use Rattle.exi_bits.specs.declared.fault.Kind.TheVariants as kind

@@ -1,5 +1,5 @@
 -- What reading a stream is: the header, and then one event after another (W3C EXI 1.0, sections 5 and 6).
-use Rattle.std.specs.Prelude.{◌≡◌, ℕ, ◌+◌, ◌*◌, ◌/◌, ◌==◌, nat_lt, Bool, true, false, List, [], ◌∷◌, length, Option, Some, None, unwrap_or, Result, Ok, Err, if◌then◌else◌}
+use Rattle.std.specs.Prelude.{◌≡◌, ℕ, ◌+◌, ◌*◌, ◌/◌, ◌==◌, nat_lt, Bool, true, false, List, [], ◌∷◌, length, unwrap_or, Result, Ok, Err, if◌then◌else◌}
 use Rattle.exi_bits.specs.declared.align.Align.TheVariants as align
 use Rattle.exi_bits.specs.declared.fault.Fault.{Fault}
 use Rattle.exi_bits.specs.declared.fault.Kind.TheVariants as kind

@@ -1,7 +1,7 @@
 -- Names and values on the stream, as hits or misses in the string tables (W3C EXI 1.0, sections
 -- 7.1.10 and 7.3, appendix D). The stream is bit-packed. What a miss would add to the tables is not
 -- looked up again in a stream of one element, so no table grows here.
-use Rattle.std.specs.Prelude.{ℕ, ◌+◌, ◌-◌, ◌==◌, ◌&&◌, nat_lt, List, [], ◌∷◌, map, length, slice_index_or, Option, Some, None, Result, Ok, Err, if◌then◌else◌, codes}
+use Rattle.std.specs.Prelude.{ℕ, ◌+◌, ◌-◌, ◌==◌, nat_lt, List, [], ◌∷◌, map, length, slice_index_or, None, Result, Ok, if◌then◌else◌, codes}
 use Rattle.std.specs.Str.{bytes_eq}
 use Rattle.exi_bits.specs.declared.align.Align.TheVariants as align
 use Rattle.exi_bits.specs.declared.fault.Fault.{Fault}

@@ -1,5 +1,5 @@
 -- How far a stream was read, in what takes its events.
-use Rattle.std.specs.Prelude.{◌≡◌, List, [], ◌∷◌, ◌++◌, Option, Some, None, Result, Ok, Err}
+use Rattle.std.specs.Prelude.{◌≡◌, List, [], ◌∷◌, Option, Some, None, Result, Ok, Err}
 use Rattle.exi_names.specs.Events.{Happening}
 use Rattle.exi_run.specs.declared.reader.End.{End}
 use Rattle.exi_run.specs.declared.reading.ReadStop.{ReadStop}

@@ -22,6 +22,8 @@ mod reader;
 mod reading;
 mod spaces;
 mod status;
+#[cfg(test)]
+mod tests;
 mod text;
 mod top;
 mod words;

@@ -44,11 +44,7 @@ fn make_turn<E: EventOut>(
 /// # Errors
 ///
 /// `Stopped` where `out` stopped, `Memory` where memory is refused; `out` then took first events.
-pub fn read_body<E: EventOut>(
-    alloc: Global,
-    input: BitIn<'_>,
-    out: &mut E,
-) -> Result<End, ReadStop>
+pub fn read_body<E: EventOut>(alloc: Global, input: BitIn<'_>, out: &mut E) -> Result<End, ReadStop>
     ensures run { TookRun E.took E.broke result (first_of input.entry) out.old out.new }
     ensures same { E.same out.old out.new }
     ensures later { E.stops out.old ≤ E.stops out.new }

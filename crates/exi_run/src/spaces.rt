@@ -18,6 +18,7 @@ pub enum Space {
 }
 
 const XML: &str = "http://www.w3.org/XML/1998/namespace";
+
 const INSTANCE: &str = "http://www.w3.org/2001/XMLSchema-instance";
 
 /// How many URIs stand in the string tables from the start.

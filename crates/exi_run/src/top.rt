@@ -123,12 +123,7 @@ fn serve<F: Shelf, O: Sink>(
 }
 
 /// What the words ask for, and at want of memory the line that says so.
-fn respond<F: Shelf, O: Sink>(
-    alloc: Global,
-    words: &[Txt],
-    shelf: &mut F,
-    out: &mut O,
-) -> Status
+fn respond<F: Shelf, O: Sink>(alloc: Global, words: &[Txt], shelf: &mut F, out: &mut O) -> Status
     ensures answered { IsAnswered (file_of words.now) (F.files shelf.old) (Rose (F.faults shelf.old) (F.faults shelf.new)) result (O.taken out.old) (O.taken out.new) }
     ensures asked { GrowsByFront (F.asked shelf.old) (names_of (file_of words.now)) (F.asked shelf.new) }
     ensures write_fault { result ≡ Status.WriteFault → Rose (O.faults out.old) (O.faults out.new) }

@@ -1,4 +1,4 @@
-use Rattle.std.proofs.Common.{◌≡◌, ◌++◌, ◌∷◌, [], ap, ◌∙◌}
+use Rattle.std.proofs.Common.{◌∙◌}
 use Rattle.std.proofs.lemmas.Result.{err_from_is_err_and}
 use Rattle.exi_bits.specs.Repeat.{times}
 use Rattle.exi_bits.proofs.Repeats.{times_goes_on, times_fails, times_done}

@@ -1,4 +1,4 @@
-use Rattle.std.proofs.Common.{◌≤◌, arith, ◌∙◌}
+use Rattle.std.proofs.Common.{arith}
 use Rattle.std.proofs.lemmas.Result.{err_from_is_err_and}
 use Rattle.exi_run.specs.Sequence.{first_of}
 use Rattle.exi_run.proofs.Runs.{moves_on}

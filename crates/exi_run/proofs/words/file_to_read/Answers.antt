@@ -1,4 +1,4 @@
-use Rattle.std.proofs.Common.{arith, sym, ◌∙◌, ap, Bool, Option, Some, None, List, ℕ}
+use Rattle.std.proofs.Common.{arith, sym, ◌∙◌, ap, Bool, Some, None}
 use Rattle.std.specs.Prelude.{if◌then◌else◌}
 use Rattle.exi_run.proofs.Commands.{by_command}
 use Rattle.exi_run.proofs.words.file_to_read.Goals as goal
