@@ -1,0 +1,12 @@
+pub mod SpaceLaws
+pub mod Partitions
+pub mod Steps
+pub mod Quotes
+pub mod Commands
+pub mod Runs
+pub mod Takes
+pub mod Printed
+pub mod Bodies
+pub mod Owing
+pub mod Serving
+pub mod Answering

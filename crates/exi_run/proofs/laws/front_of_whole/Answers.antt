@@ -1,0 +1,5 @@
+use Rattle.exi_run.proofs.Runs.{front_whole_lem}
+use Rattle.exi_run.proofs.laws.front_of_whole.Goals as goal
+
+pub returns : goal.returns
+returns c = front_whole_lem

@@ -1,0 +1,10 @@
+pub mod StringTables
+pub mod Spaces
+pub mod Grammars
+pub mod Sequence
+pub mod Reading
+pub mod Bytes
+pub mod Text
+pub mod Printing
+pub mod Taking
+pub mod Answers

@@ -1,0 +1,78 @@
+ghost use Rattle.std.specs.Prelude.{◌≡◌, ◌≤◌, IsErrOf};
+ghost use Rattle.std.proofs.Common.{refl, ◌∙◌};
+ghost use Rattle.exi_names.specs.Events.{happens, Rose};
+ghost use Rattle.exi_run.specs.Text.{lines};
+ghost use Rattle.exi_run.specs.Printing.{Prints, BreaksOff, PrintsEvent, PutsLine, prints_none, prints_more};
+
+use crate::text::{is_printable, print_line};
+use exi_names::{Event, EventOut, PushStop};
+use exi_ports::{Sink, SinkStop};
+use std::alloc::Global;
+
+/// Prints each event as a line, in one put.
+///
+/// It stops where the sink fails, and at an event that has no line here.
+#[derive(Drop)]
+pub struct Printer<'a, O: Sink> {
+    /// Where the lines go.
+    pub out: &'a mut O,
+    /// The allocator of the lines.
+    pub alloc: Global,
+    /// How often it stopped.
+    pub stops: u64,
+}
+
+impl<'a, O: Sink> Printer<'a, O> {
+    /// The line of an event goes to the sink.
+    fn print(&mut self, event: &Event) -> Result<(), PushStop>
+        ensures printed { PrintsEvent (happens event.now) result (O.taken self.old.out.now) (O.faults self.old.out.now) (O.taken self.new.out.now) (O.faults self.new.out.now) }
+        ensures same { self.new.out.ghost_name ≡ self.old.out.ghost_name }
+        ensures later { self.old.stops ≤ self.new.stops }
+        ensures stopped { IsErrOf result PushStop.Stopped → Rose self.old.stops self.new.stops }
+    {
+        if !is_printable(event) {
+            self.stops = self.stops.saturating_add(1);
+            return Err(PushStop::Stopped);
+        }
+        match put_event(self.alloc, self.out, event) {
+            Ok(()) => Ok(()),
+            Err(SinkStop::Memory) => Err(PushStop::Memory),
+            Err(SinkStop::Failed) => {
+                self.stops = self.stops.saturating_add(1);
+                Err(PushStop::Stopped)
+            }
+        }
+    }
+}
+
+impl<'a, O: Sink> EventOut for Printer<'a, O> {
+    ghost took = { λ a es b. Prints (O.taken a.out.now) (O.faults a.out.now) es (O.taken b.out.now) (O.faults b.out.now) };
+
+    ghost broke = { λ a e b. BreaksOff (O.taken a.out.now) (O.faults a.out.now) e (O.taken b.out.now) (O.faults b.out.now) };
+
+    ghost same = { λ a b. b.out.ghost_name ≡ a.out.ghost_name };
+
+    ghost stops = { λ a. a.stops };
+
+    fn push(&mut self, event: Event) -> Result<(), PushStop> {
+        self.print(&event)
+    }
+
+    ghost same_now = { λ s. refl };
+
+    ghost same_then = { λ a b c p q. q ∙ p };
+
+    ghost none = { λ s. prints_none (O.taken s.out.now) (O.faults s.out.now) };
+
+    ghost more = { λ a b c es fs. prints_more (O.taken a.out.now) (O.taken b.out.now) (O.taken c.out.now) (O.faults a.out.now) (O.faults b.out.now) (O.faults c.out.now) es fs };
+}
+
+/// The line of an event, in one put.
+fn put_event<O: Sink>(alloc: Global, out: &mut O, event: &Event) -> Result<(), SinkStop>
+    ensures { PutsLine (happens event.now) result (O.taken out.old) (O.faults out.old) (O.taken out.new) (O.faults out.new) }
+{
+    let Ok(line) = print_line(alloc, event) else {
+        return Err(SinkStop::Memory);
+    };
+    out.put(&line)
+}
