@@ -18,26 +18,34 @@
 //! leaves what it was called on as it was.
 #![tactic(auto)]
 
+mod alphabet;
 mod chars;
+mod datatype;
 mod event;
 mod event_list;
 mod event_out;
 mod moment;
 mod names;
 mod octets;
+mod start;
 mod stops;
 mod txt;
+mod txt_list;
 mod val;
 mod whole;
 
+pub use alphabet::Alphabet;
 pub use chars::{is_xml, xml_char};
+pub use datatype::Datatype;
 pub use event::Event;
 pub use event_list::EventList;
 pub use event_out::EventOut;
 pub use moment::{Moment, MomentKind};
 pub use names::{NameId, QName};
 pub use octets::Octets;
+pub use start::StartNames;
 pub use stops::{PushStop, TextStop};
 pub use txt::Txt;
+pub use txt_list::{TxtList, TxtLists};
 pub use val::{Val, ValList};
 pub use whole::Whole;
