@@ -1,0 +1,5 @@
+pub mod Changes
+pub mod Under
+pub mod FirstPrefixes
+pub mod Firsts
+pub mod Empty

@@ -1,0 +1,26 @@
+//! The string tables of EXI 1.0 (section 7.3).
+//!
+//! A text that stands in a stream for the first time is spelled by its characters, and gets a place in
+//! a partition; later it is told by that place. On the wire, with `w(n)` the bits of a number below `n`:
+//!
+//! ```text
+//! URI           n-bit number, w(count + 1) bits     0: a miss, a literal follows    k: place k - 1
+//! local name    Unsigned Integer                    0: a hit, w(count) bits follow  L: a miss of L - 1 characters
+//! prefix        w(count) bits: the place
+//! value         Unsigned Integer                    0: a hit in the name's own partition
+//!                                                   1: a hit in the global partition
+//!                                                   L: a miss of L - 2 characters
+//! ```
+//!
+//! [`Tables`] is what readers and writers need: each partition's count, its texts by place, the least
+//! place of a text, and growth at a miss. [`ListTables`] keeps plain lists: a look-up by place is by
+//! index, one by text looks at each text in turn. No look-up takes memory.
+#![tactic(auto)]
+
+mod list_tables;
+mod partitions;
+mod places;
+mod tables;
+
+pub use list_tables::ListTables;
+pub use tables::Tables;
