@@ -3,3 +3,5 @@ pub mod Under
 pub mod FirstPrefixes
 pub mod Firsts
 pub mod Empty
+pub mod Least
+pub mod Growing

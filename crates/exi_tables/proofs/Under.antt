@@ -28,16 +28,16 @@ rest_all all j = let at : 0 + j ≡ j = omega arith in rw at refl
 pub under_length : (name : NameId) (k : ℕ) (more : List Added) → length (places_from name k more) ≡ length (texts_under name more)
 under_length name k [] = refl
 under_length name k (a ∷ more) = elim (cases_Bool (same_name name a.name)) [
-    | inl yes_is ↦ rw (yes_is, under_length name (k + 1) more) refl
-    | inr no_is ↦ rw (no_is, under_length name (k + 1) more) refl
-  ]
+  | inl yes_is ↦ rw (yes_is, under_length name (k + 1) more) refl
+  | inr no_is ↦ rw (no_is, under_length name (k + 1) more) refl
+]
 
 pub under_few : (name : NameId) (k : ℕ) (more : List Added) → length (places_from name k more) ≤ length more
 under_few name k [] = omega arith
 under_few name k (a ∷ more) = elim (cases_Bool (same_name name a.name)) [
-    | inl yes_is ↦ rw yes_is (omega (arith, under_few name (k + 1) more))
-    | inr no_is ↦ rw no_is (omega (arith, under_few name (k + 1) more))
-  ]
+  | inl yes_is ↦ rw yes_is (omega (arith, under_few name (k + 1) more))
+  | inr no_is ↦ rw no_is (omega (arith, under_few name (k + 1) more))
+]
 
 -- one more of both, in front
 pub get_front : (found : ℕ → Option (List ℕ)) (t : List ℕ) (ts : List (List ℕ)) (k : ℕ) (ks : List ℕ) → found k ≡ Some t →
@@ -55,7 +55,7 @@ pub under_get : (name : NameId) (all : List Added) (k : ℕ) (more : List Added)
 under_get name all k [] rest i = refl
 under_get name all k (a ∷ more) rest i =
     let ih : (i : ℕ) → slice_get (texts_under name more) i ≡ option_and_then (text_at all) (slice_get (places_from name (k + 1) more) i)
-            = under_get name all (k + 1) more (rest_more all k a more rest) in
+    = under_get name all (k + 1) more (rest_more all k a more rest) in
     let first : text_at all k ≡ Some a.text = rw (rest_first all k a more rest) refl in
     elim (cases_Bool (same_name name a.name)) [
       | inl yes_is ↦ rw yes_is (get_front (text_at all) a.text (texts_under name more) k (places_from name (k + 1) more) first ih i)
@@ -68,11 +68,11 @@ pub under_prefix : (name : NameId) (text : List ℕ) (all : List Added) (k : ℕ
 under_prefix name text all k [] rest = refl
 under_prefix name text all k (a ∷ more) rest =
     let ih : prefix_len (λ t. not (bytes_eq t text)) (texts_under name more) ≡ prefix_len (λ j. not (has_text text (slice_get all j))) (places_from name (k + 1) more)
-            = under_prefix name text all (k + 1) more (rest_more all k a more rest) in
+    = under_prefix name text all (k + 1) more (rest_more all k a more rest) in
     elim (cases_Bool (same_name name a.name)) [
-    | inl yes_is ↦ rw (yes_is, rest_first all k a more rest) (ap (λ n. cond (not (bytes_eq a.text text)) (1 + n) 0) ih)
-    | inr no_is ↦ rw no_is ih
-  ]
+      | inl yes_is ↦ rw (yes_is, rest_first all k a more rest) (ap (λ n. cond (not (bytes_eq a.text text)) (1 + n) 0) ih)
+      | inr no_is ↦ rw no_is ih
+    ]
 
 pub under_position : (name : NameId) (text : List ℕ) (all : List Added) →
     position (λ t. bytes_eq t text) (texts_under name all) ≡ position (λ j. has_text text (slice_get all j)) (places_from name 0 all)
@@ -81,25 +81,25 @@ under_position name text all = rw (under_prefix name text all 0 all (rest_all al
 pub under_push : (name : NameId) (k : ℕ) (more : List Added) (a : Added) →
     places_from name k (more ++ a ∷ []) ≡ places_from name k more ++ cond (same_name name a.name) ((k + length more) ∷ []) []
 under_push name k [] a = elim (cases_Bool (same_name name a.name)) [
-    | inl yes_is ↦ let at : k + 0 ≡ k = omega arith in rw (yes_is, at) refl
-    | inr no_is ↦ rw no_is refl
-  ]
+  | inl yes_is ↦ let at : k + 0 ≡ k = omega arith in rw (yes_is, at) refl
+  | inr no_is ↦ rw no_is refl
+]
 under_push name k (b ∷ more) a =
     let ih : places_from name (k + 1) (more ++ a ∷ []) ≡ places_from name (k + 1) more ++ cond (same_name name a.name) ((k + length (b ∷ more)) ∷ []) []
-            = (let at : k + 1 + length more ≡ k + length (b ∷ more) = omega arith in rw at at (under_push name (k + 1) more a)) in
+    = (let at : k + 1 + length more ≡ k + length (b ∷ more) = omega arith in rw at at (under_push name (k + 1) more a)) in
     elim (cases_Bool (same_name name b.name)) [
-    | inl yes_is ↦ rw yes_is (ap (λ ps. k ∷ ps) ih)
-    | inr no_is ↦ rw no_is ih
-  ]
+      | inl yes_is ↦ rw yes_is (ap (λ ps. k ∷ ps) ih)
+      | inr no_is ↦ rw no_is ih
+    ]
 
 -- what a look-up by place finds among the places kept, it finds under the name
 pub under_found : (name : NameId) (all : List Added) (i g : ℕ) → true ≡ ltb i (length (places_from name 0 all)) → g ≡ get_or (places_from name 0 all) i g →
     slice_get (map (λ a. a.text) all) g ≡ slice_get (texts_under name all) i
 under_found name all i g within is =
     let at : slice_get (places_from name 0 all) i ≡ Some g
-            = slice_get-get_or (places_from name 0 all) i g (ltb-true i (length (places_from name 0 all)) (sym within)) ∙ ap Some (sym is) in
+    = slice_get-get_or (places_from name 0 all) i g (ltb-true i (length (places_from name 0 all)) (sym within)) ∙ ap Some (sym is) in
     let found : slice_get (texts_under name all) i ≡ option_and_then (text_at all) (slice_get (places_from name 0 all) i)
-            = under_get name all 0 all (rest_all all) i in
+    = under_get name all 0 all (rest_all all) i in
     slice_get-map (λ a. a.text) all g ∙ sym (found ∙ ap (option_and_then (text_at all)) at)
 
 pub under_missing : (name : NameId) (all : List Added) (i : ℕ) → false ≡ ltb i (length (places_from name 0 all)) → None ≡ slice_get (texts_under name all) i
@@ -114,7 +114,7 @@ pub own_push : (rows more : List (List (List ℕ))) (added : List Added) (a : Ad
 own_push rows more added a n pushed kept =
     let at : 0 + length added ≡ length added = omega arith in
     let push : places_from n 0 (added ++ a ∷ []) ≡ places_from n 0 added ++ cond (same_name n a.name) (length added ∷ []) []
-            = rw at at (under_push n 0 added a) in
+    = rw at at (under_push n 0 added a) in
     pushed ∙ ap (λ ps. ps ++ cond (same_name n a.name) (length added ∷ []) []) kept ∙ sym push
 
 pub few_push : (added : List Added) (a : Added) → length (map (λ b. b.text) added) < 2 ^ 32 - 1 → length (added ++ a ∷ []) < 2 ^ 32

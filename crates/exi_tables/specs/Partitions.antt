@@ -1,7 +1,7 @@
 -- String tables (EXI 1.0, section 7.3): texts that are told by their places once they have stood in the stream.
 --
 -- A partition is a list of texts, and a text's place is its index. Each place of a partition is live, and stays so.
-use Rattle.std.specs.Prelude.{ℕ, zero, suc, ◌+◌, ◌==◌, Bool, ◌&&◌, List, [], ◌∷◌, ◌++◌, map, filter, position, slice_get, codes, Option, Some, None, option_to_list}
+use Rattle.std.specs.Prelude.{ℕ, zero, suc, ◌+◌, ◌<◌, ◌==◌, length, Bool, ◌&&◌, List, [], ◌∷◌, ◌++◌, map, filter, position, slice_get, codes, Option, Some, None, option_to_list}
 use Rattle.std.specs.Str.{bytes_eq}
 use Rattle.exi_names.specs.declared.names.NameId.{NameId}
 use Rattle.exi_names.specs.StartTables.{Names}
@@ -56,6 +56,11 @@ texts_under name added = map (λ a. a.text) (filter (λ a. same_name name a.name
 abbrev pub name_values : Partitions → NameId → List (List ℕ)
 name_values p name = texts_under name p.added
 
+-- the places of a URI and of one of its local names
+pub record IsName (p : Partitions) (name : NameId) : Type 0 where
+  pub within_uris : name.uri < length (uris p)
+  pub within_locals : name.local < length (locals p name.uri)
+
 -- a missed URI stands at the end, with no names and no prefixes
 abbrev pub with_uri : Partitions → List ℕ → Partitions
 with_uri p text = record p { namespaces = p.namespaces ++ record { uri = text; locals = []; prefixes = [] } ∷ [] }
@@ -66,15 +71,19 @@ changed_at [] place change = []
 changed_at (x ∷ xs) zero change = change x ∷ xs
 changed_at (x ∷ xs) (suc place) change = x ∷ changed_at xs place change
 
+abbrev pub and_local : List ℕ → Namespace → Namespace
+and_local text n = record n { locals = n.locals ++ text ∷ [] }
+
+abbrev pub and_prefix : List ℕ → Namespace → Namespace
+and_prefix text n = record n { prefixes = n.prefixes ++ text ∷ [] }
+
 -- a missed local name stands at the end of those of its URI
 abbrev pub with_local : Partitions → ℕ → List ℕ → Partitions
-with_local p uri text =
-    record p { namespaces = changed_at p.namespaces uri (λ n. record n { locals = n.locals ++ text ∷ [] }) }
+with_local p uri text = record p { namespaces = changed_at p.namespaces uri (and_local text) }
 
 -- a missed prefix stands at the end of those of its URI
 abbrev pub with_prefix : Partitions → ℕ → List ℕ → Partitions
-with_prefix p uri text =
-    record p { namespaces = changed_at p.namespaces uri (λ n. record n { prefixes = n.prefixes ++ text ∷ [] }) }
+with_prefix p uri text = record p { namespaces = changed_at p.namespaces uri (and_prefix text) }
 
 -- a missed value stands at the end of the global partition and of its name's own; the empty text is never added
 abbrev pub with_value : Partitions → NameId → List ℕ → Partitions

@@ -17,10 +17,12 @@
 //! index, one by text looks at each text in turn. No look-up takes memory.
 #![tactic(auto)]
 
+mod laws;
 mod list_tables;
 mod partitions;
 mod places;
 mod tables;
 
+pub use laws::{adds_at_the_end, finds_the_least, grows_by_one, keeps_places};
 pub use list_tables::ListTables;
-pub use tables::Tables;
+pub use tables::{Tables, is_name};

@@ -66,14 +66,10 @@ impl Row {
 
     /// Pushes a place for a local name.
     fn push(&mut self, alloc: Global, local: usize, place: u32) -> Result<(), AllocError>
-        ensures ok {
-            OnOk result ((l : ℕ) →
-                slice_index_or self.new l []
-                ≡ slice_index_or self.old l [] ++ (if l == local then place ∷ [] else []))
-        }
-        ensures err {
-            OnErr result ((l : ℕ) → slice_index_or self.new l [] ≡ slice_index_or self.old l [])
-        }
+        ensures ok { OnOk result ((l : ℕ) →
+            slice_index_or self.new l []
+            ≡ slice_index_or self.old l [] ++ (if l == local then place ∷ [] else [])) }
+        ensures err { OnErr result ((l : ℕ) → slice_index_or self.new l [] ≡ slice_index_or self.old l []) }
     {
         self.widen(alloc, local)?;
         let places = &mut self.items[local];
@@ -124,11 +120,9 @@ impl NamePlaces {
     ///
     /// `AllocError` where memory is refused; each name's places are then unchanged.
     pub fn push(&mut self, alloc: Global, name: NameId, place: u32) -> Result<(), AllocError>
-        ensures ok {
-            OnOk result ((n : NameId) →
-                places_at self.new n
-                ≡ places_at self.old n ++ (if same_name n name then place ∷ [] else []))
-        }
+        ensures ok { OnOk result ((n : NameId) →
+            places_at self.new n
+            ≡ places_at self.old n ++ (if same_name n name then place ∷ [] else [])) }
         ensures err { OnErr result ((n : NameId) → places_at self.new n ≡ places_at self.old n) }
     {
         self.widen(alloc, name.uri as usize)?;

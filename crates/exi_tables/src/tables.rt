@@ -1,8 +1,20 @@
-ghost use Rattle.std.specs.Prelude.{◌≡◌, ◌<◌, ◌-◌, ◌^◌, length, IfOk, OnOk, OnErr};
+ghost use Rattle.std.specs.Prelude.{◌≡◌, ◌<◌, ◌-◌, ◌^◌, ◌↔◌, length, IsTrue, IfOk, OnOk, OnErr};
 ghost use Rattle.std.specs.Option.{option_copied};
 ghost use Rattle.exi_tables.specs.Partitions.{
-    Partitions, first_partitions, live_at, least_place, uris, locals, prefixes, values, name_values,
-    with_uri, with_local, with_prefix, with_value,
+  Partitions,
+  IsName,
+  first_partitions,
+  live_at,
+  least_place,
+  uris,
+  locals,
+  prefixes,
+  values,
+  name_values,
+  with_uri,
+  with_local,
+  with_prefix,
+  with_value,
 };
 
 use exi_names::{NameId, StartNames, Txt};
@@ -26,7 +38,7 @@ pub trait Tables {
     /// `AllocError` where memory is refused.
     fn start(alloc: Global, names: &StartNames) -> Result<Self, AllocError>
     where
-        Self: Sized
+        Self: Sized,
         ensures { IfOk result (λ tables. held tables ≡ first_partitions names.now) };
 
     /// How many URIs there are.
@@ -120,20 +132,17 @@ pub trait Tables {
 
     /// How many values a name's own partition has.
     fn name_values(&self, name: NameId) -> u32
-        requires uri { name.uri < length (uris (held self.now)) }
-        requires local { name.local < length (locals (held self.now) name.uri) }
+        requires name { IsName (held self.now) name }
         ensures { result ≡ length (name_values (held self.now) name) };
 
     /// The value at a place of a name's own partition.
     fn name_value_at(&self, name: NameId, place: u32) -> Option<&Txt>
-        requires uri { name.uri < length (uris (held self.now)) }
-        requires local { name.local < length (locals (held self.now) name.uri) }
+        requires name { IsName (held self.now) name }
         ensures { option_copied result ≡ live_at (name_values (held self.now) name) place };
 
     /// The least place of a value in a name's own partition.
     fn name_value_place(&self, name: NameId, text: &Txt) -> Option<u32>
-        requires uri { name.uri < length (uris (held self.now)) }
-        requires local { name.local < length (locals (held self.now) name.uri) }
+        requires name { IsName (held self.now) name }
         ensures { result ≡ least_place (name_values (held self.now) name) text.now };
 
     /// Adds a value at the end of the global partition and of its name's own. The empty text is not added.
@@ -142,9 +151,15 @@ pub trait Tables {
     ///
     /// `AllocError` where memory is refused; the tables are then unchanged.
     fn add_value(&mut self, name: NameId, text: Txt) -> Result<(), AllocError>
-        requires uri { name.uri < length (uris (held self.old)) }
-        requires local { name.local < length (locals (held self.old) name.uri) }
+        requires name { IsName (held self.old) name }
         requires room { length (values (held self.old)) < 2 ^ 32 - 1 }
         ensures added { OnOk result (held self.new ≡ with_value (held self.old) name text) }
         ensures err { OnErr result (held self.new ≡ held self.old) };
+}
+
+/// Whether the places of a name exist: that of its URI, and that of its local name under it.
+pub fn is_name<T: Tables>(tables: &T, name: NameId) -> bool
+    ensures { IsTrue result ↔ IsName (T.held tables.now) name }
+{
+    name.uri < tables.uris() && name.local < tables.locals(name.uri)
 }

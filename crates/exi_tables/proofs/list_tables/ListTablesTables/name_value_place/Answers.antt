@@ -8,7 +8,7 @@ use Rattle.exi_tables.proofs.list_tables.ListTablesTables.name_value_place.Goals
 pub narrowed-requires : goal.narrowed-requires
 narrowed-requires c x found =
     let few : length (places_from c.args.name 0 c.self.inside.added.items) < 2 ^ 32
-            = omega (arith, under_few c.args.name 0 c.self.inside.added.items, c.self.invariant.few_values) in
+    = omega (arith, under_few c.args.name 0 c.self.inside.added.items, c.self.invariant.few_values) in
     let short : length c.of.result.now < 2 ^ 32 = rw (c.of.ensures, c.self.invariant.own c.args.name) few in
     let at = position-Some (λ place. has_text c.args.text.now (slice_get c.deref.result.now place)) c.of.result.now x 0 (sym c.least_of.ensures ∙ found) in
     omega (arith, at.0, short)
