@@ -1,6 +1,6 @@
--- String tables (EXI 1.0, section 7.3): texts that are told by their places once they have stood in the stream.
+-- String tables (EXI 1.0, section 7.3): texts that are told by their places once they stood in the stream.
 --
--- A partition is a list of texts, and a text's place is its index. Each place of a partition is live, and stays so.
+-- A partition is a list of texts, and a text's place is its index. Each place is live, and stays so.
 use Rattle.std.specs.Prelude.{ℕ, zero, suc, ◌+◌, ◌<◌, ◌==◌, length, Bool, ◌&&◌, List, [], ◌∷◌, ◌++◌, map, filter, position, slice_get, codes, Option, Some, None, option_to_list}
 use Rattle.std.specs.Str.{bytes_eq}
 use Rattle.exi_names.specs.declared.names.NameId.{NameId}
@@ -22,7 +22,7 @@ live_at partition place = slice_get partition place
 abbrev pub least_place : List (List ℕ) → List ℕ → Option ℕ
 least_place partition text = position (λ t. bytes_eq t text) partition
 
--- the URIs (section 7.3.1)
+-- the URIs (section 7.3.2)
 abbrev pub uris : Partitions → List (List ℕ)
 uris p = map (λ n. n.uri) p.namespaces
 
@@ -85,7 +85,7 @@ with_local p uri text = record p { namespaces = changed_at p.namespaces uri (and
 abbrev pub with_prefix : Partitions → ℕ → List ℕ → Partitions
 with_prefix p uri text = record p { namespaces = changed_at p.namespaces uri (and_prefix text) }
 
--- a missed value stands at the end of the global partition and of its name's own; the empty text is never added
+-- a missed value stands at the end of the global partition and of its name's own; the empty text never does
 abbrev pub with_value : Partitions → NameId → List ℕ → Partitions
 with_value p name [] = p
 with_value p name (c ∷ cs) = record p { added = p.added ++ record { name = name; text = c ∷ cs } ∷ [] }

@@ -30,7 +30,8 @@ impl Model for ListTables {
 
     ghost view = { λ t. record { namespaces = t.namespaces.items; added = t.added.items } };
 
-    ghost invariant = { λ t. IsPlaced (record { namespaces = t.namespaces.items; added = t.added.items }) t.own };
+    ghost invariant = { λ t.
+        IsPlaced (record { namespaces = t.namespaces.items; added = t.added.items }) t.own };
 }
 
 impl Tables for ListTables {
@@ -236,7 +237,8 @@ fn least_value(added: &[Added], text: &Txt) -> Option<usize>
 
 /// The least index at which the places' values have the text.
 fn least_of(added: &[Added], places: &[u32], text: &Txt) -> Option<usize>
-    ensures { result ≡ position (λ place. has_text text.now (slice_get added.now place)) places.now }
+    ensures { result
+        ≡ position (λ place. has_text text.now (slice_get added.now place)) places.now }
 {
     places
         .iter()

@@ -1,4 +1,5 @@
-ghost use Rattle.std.specs.Prelude.{◌≡◌, ◌==◌, ◌<◌, length, [], ◌∷◌, ◌++◌, List, ℕ, slice_index_or, OnOk, OnErr, if◌then◌else◌};
+ghost use Rattle.std.specs.Prelude.{◌≡◌, ◌==◌, ◌<◌, ℕ, [], ◌∷◌, ◌++◌, length, slice_index_or};
+ghost use Rattle.std.specs.Prelude.{OnOk, OnErr, if◌then◌else◌};
 ghost use Rattle.exi_names.specs.declared.names.NameId.{NameId};
 ghost use Rattle.exi_tables.specs.Partitions.{same_name};
 ghost use Rattle.exi_tables.specs.Places.{places_at};
@@ -69,7 +70,8 @@ impl Row {
         ensures ok { OnOk result ((l : ℕ) →
             slice_index_or self.new l []
             ≡ slice_index_or self.old l [] ++ (if l == local then place ∷ [] else [])) }
-        ensures err { OnErr result ((l : ℕ) → slice_index_or self.new l [] ≡ slice_index_or self.old l []) }
+        ensures err { OnErr result ((l : ℕ) →
+            slice_index_or self.new l [] ≡ slice_index_or self.old l []) }
     {
         self.widen(alloc, local)?;
         let places = &mut self.items[local];

@@ -23,15 +23,15 @@ use std::alloc::{AllocError, Global};
 /// String tables: URIs, for each URI its local names and its prefixes, the global values, and each
 /// name's own values (EXI 1.0, section 7.3).
 ///
-/// Places count from 0. A look-up by place gives `None` where no live text has that place, and one by
-/// text the least live place that has it, or `None` where none has. No look-up takes memory.
+/// Places count from 0. A look-up by place gives `None` where no live text has that place, and one
+/// by text the least live place that has it, or `None` where none has. No look-up takes memory.
 ///
 /// A list that a call makes longer must have fewer than 2^32 - 1 texts.
 pub trait Tables {
     ghost held: { Self → Partitions };
 
-    /// The tables at the start of a stream (EXI 1.0, appendix D): these names, the prefixes "", `xml`
-    /// and `xsi` for the first three URIs, and no values.
+    /// The tables at the start of a stream (EXI 1.0, appendix D): these names, the prefixes "",
+    /// `xml` and `xsi` for the first three URIs, and no values.
     ///
     /// # Errors
     ///
@@ -145,7 +145,8 @@ pub trait Tables {
         requires name { IsName (held self.now) name }
         ensures { result ≡ least_place (name_values (held self.now) name) text.now };
 
-    /// Adds a value at the end of the global partition and of its name's own. The empty text is not added.
+    /// Adds a value at the end of the global partition and of its name's own. The empty text is not
+    /// added.
     ///
     /// # Errors
     ///
