@@ -1,5 +1,5 @@
 -- The first tables without a schema.
-use Rattle.std.proofs.Common.{◌≡◌, ◌≤◌, ◌^◌, ℕ, zero, suc, List, [], ◌∷◌, map, length, slice_get, IfSome, refl, lit≤}
+use Rattle.std.proofs.Common.{◌≡◌, ◌≤◌, ◌^◌, ℕ, zero, suc, map, length, slice_get, IfSome, refl, lit≤}
 use Rattle.std.specs.Str.{chars}
 use Rattle.exi_names.specs.StartTables.{first_uris, xml_names, xsi_names, first_names, IsStart}
 use Rattle.exi_names.specs.declared.start.TheConstants.{URIS, XML_NAMES, XSI_NAMES}

@@ -1,5 +1,5 @@
 -- The first string tables (EXI 1.0, appendix D).
-use Rattle.std.specs.Prelude.{◌≡◌, ◌≤◌, ◌^◌, ℕ, List, [], ◌∷◌, length, take, slice_get, IfSome, EachIndex, codes}
+use Rattle.std.specs.Prelude.{◌≡◌, ◌≤◌, ◌^◌, ℕ, List, [], ◌∷◌, length, take, slice_get, IfSome, codes}
 
 -- the URIs, and for each of them its local names
 pub record Names : Type 0 where

@@ -1,5 +1,5 @@
 -- Whole numbers by sign and magnitude, without a minus zero.
-use Rattle.std.specs.Prelude.{ℕ, Bool, true, false, zero, suc}
+use Rattle.std.specs.Prelude.{ℕ, Bool, false, zero, suc}
 
 pub record Number : Type 0 where
   pub minus : Bool

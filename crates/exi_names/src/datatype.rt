@@ -7,7 +7,7 @@ use crate::val::ValList;
 use std::alloc::{AllocError, Global};
 
 /// A datatype by how its values are represented (EXI 1.0, section 7).
-#[derive(Drop)]
+#[derive(Debug, Drop)]
 pub enum Datatype {
     /// An integer of a bounded range, as an n-bit number.
     Small {

@@ -7,7 +7,7 @@ use crate::val::Val;
 use std::alloc::{AllocError, Global};
 
 /// An event of a document or fragment (EXI 1.0, section 4).
-#[derive(Drop)]
+#[derive(Debug, Drop)]
 pub enum Event {
     /// The document or fragment begins.
     Sd,

@@ -8,7 +8,7 @@ use crate::stops::PushStop;
 use std::alloc::{AllocError, Global};
 
 /// Events in memory, in order. It takes each event and never stops.
-#[derive(Drop)]
+#[derive(Debug, Drop)]
 pub struct EventList {
     items: Vec<Event>,
 }

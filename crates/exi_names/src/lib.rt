@@ -29,6 +29,8 @@ mod names;
 mod octets;
 mod start;
 mod stops;
+#[cfg(test)]
+mod tests;
 mod txt;
 mod txt_list;
 mod val;

@@ -79,7 +79,8 @@ impl Octets {
         self.bytes.extend_from_slice(bytes)
     }
 
-    /// Makes room for that many more bytes, so that putting them takes no memory.
+    /// Asks for room for that many more bytes at once, in place of step by step. The bytes stay as they
+    /// are; this is a matter of speed alone.
     ///
     /// # Errors
     ///

@@ -1,4 +1,4 @@
-ghost use Rattle.std.specs.Prelude.{◌≡◌, [], ◌∷◌, ◌++◌, length, IfOk, OnOk, OnErr, IsTrue, ◌↔◌, encode_utf8_all};
+ghost use Rattle.std.specs.Prelude.{◌≡◌, [], ◌∷◌, ◌++◌, ◌||◌, nat_lt, nat_le, count_by, length, IfOk, OnOk, OnErr, IsTrue, ◌↔◌, encode_utf8_all};
 ghost use Rattle.std.specs.Str.{chars, bytes_eq};
 ghost use Rattle.std.specs.String.{string_bytes};
 
@@ -81,7 +81,7 @@ impl Txt {
     pub fn count(&self) -> u64
         ensures { result ≡ length self.now }
     {
-        self.text.as_str().chars().count() as u64
+        count_begins(self.text.as_str().as_bytes()) as u64
     }
 
     /// The characters in UTF-8.
@@ -99,4 +99,14 @@ impl Txt {
     {
         self.text.as_str() == other.text.as_str()
     }
+}
+
+/// How many of the bytes begin a character in UTF-8.
+fn count_begins(bytes: &[u8]) -> usize
+    ensures { result ≡ count_by (λ byte. nat_lt byte 0x80 || nat_le 0xC0 byte) bytes.now }
+{
+    bytes
+        .iter()
+        .filter(|byte| **byte < 0x80 || 0xC0 <= **byte)
+        .count()
 }

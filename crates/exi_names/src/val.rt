@@ -10,7 +10,7 @@ use std::alloc::{AllocError, Global};
 
 /// A value of an attribute or of character content (EXI 1.0, section 7).
 #[cycle(val)]
-#[derive(Drop)]
+#[derive(Debug, Drop)]
 pub enum Val {
     /// A string.
     Text(Txt),
@@ -57,7 +57,7 @@ pub enum Val {
 
 /// A list of values.
 #[cycle(val)]
-#[derive(Drop)]
+#[derive(Debug, Drop)]
 pub struct ValList {
     /// The values in order.
     pub items: Vec<Val>,
