@@ -1,14 +1,14 @@
 -- What growth adds and keeps.
-use Rattle.std.proofs.Common.{◌≡◌, ◌≢◌, ℕ, zero, suc, ◌<◌, ◌≤◌, ◌+◌, ◌^◌, Bool, true, false, cond, List, [], ◌∷◌, ◌++◌, map, length, refl, ap, sym, ◌∙◌, arith, inl, inr, Option, Some, None, length-append, ◌⊎◌, get_or, subst}
+use Rattle.std.proofs.Common.{◌≡◌, ◌≢◌, ℕ, zero, suc, ◌<◌, ◌≤◌, ◌+◌, List, [], ◌∷◌, ◌++◌, map, length, refl, ap, ◌∙◌, arith, inl, inr, Option, Some, None, length-append, ◌⊎◌, get_or}
 use Rattle.std.specs.Prelude.{slice_get, filter, option_map}
-use Rattle.std.proofs.lemmas.Bool.{cases_Bool, cases_eq, eq-eqb}
-use Rattle.std.proofs.lemmas.List.{length-map, map-append, append-nil}
+use Rattle.std.proofs.lemmas.Bool.{cases_Bool, cases_eq}
+use Rattle.std.proofs.lemmas.List.{length-map, map-append}
 use Rattle.std.proofs.lemmas.List.Elements.{filter-append}
-use Rattle.std.proofs.lemmas.Option.{slice_get_within, slice_get-get_or, slice_get_past}
+use Rattle.std.proofs.lemmas.Option.{slice_get_within, slice_get-get_or}
 use Rattle.exi_names.specs.declared.names.NameId.{NameId}
 use Rattle.exi_tables.specs.declared.partitions.Namespace.{Namespace}
 use Rattle.exi_tables.specs.declared.partitions.Added.{Added}
-use Rattle.exi_tables.specs.Partitions.{Partitions, IsName, live_at, uris, locals, locals_in, prefixes, prefixes_in, values, name_values, texts_under, same_name, changed_at, and_local, and_prefix, with_uri, with_local, with_prefix, with_value}
+use Rattle.exi_tables.specs.Partitions.{Partitions, IsName, uris, locals, locals_in, prefixes, prefixes_in, values, name_values, texts_under, same_name, changed_at, and_local, and_prefix, with_uri, with_local, with_prefix, with_value}
 use Rattle.exi_tables.specs.Growth.{KeepsPlaces, KeepsAll, NoneLonger}
 
 -- lists that have grown

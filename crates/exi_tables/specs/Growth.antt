@@ -1,5 +1,5 @@
 -- What look-ups and growth keep: laws about the definitions of string tables.
-use Rattle.std.specs.Prelude.{◌≡◌, ◌≢◌, ◌<◌, ◌≤◌, ◌^◌, ℕ, List, length, Some}
+use Rattle.std.specs.Prelude.{◌≡◌, ◌≢◌, ◌<◌, ◌≤◌, ℕ, List, length, Some}
 use Rattle.exi_names.specs.declared.names.NameId.{NameId}
 use Rattle.exi_tables.specs.Partitions.{Partitions, live_at, uris, locals, prefixes, values, name_values}
 

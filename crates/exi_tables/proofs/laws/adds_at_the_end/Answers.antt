@@ -1,4 +1,4 @@
-use Rattle.std.proofs.Common.{refl, ◌∷◌, ◌++◌, []}
+use Rattle.std.proofs.Common.{refl, ◌∷◌, []}
 use Rattle.exi_tables.specs.Partitions.{locals_in, prefixes_in, and_local, and_prefix}
 use Rattle.exi_tables.proofs.Growing.{changed_within, changed_others}
 use Rattle.exi_tables.proofs.laws.adds_at_the_end.Goals as goal

@@ -1,5 +1,4 @@
 use Rattle.exi_tables.proofs.Least.{least_found, least_none}
-use Rattle.exi_tables.proofs.Growing.{get_appended}
 use Rattle.exi_tables.proofs.laws.finds_the_least.Goals as goal
 
 pub returns-clause-found : goal.returns-clause-found

@@ -1,4 +1,3 @@
-use Rattle.std.proofs.Common.{arith, sym, ◌∙◌}
 use Rattle.exi_tables.proofs.Firsts.{from_more}
 use Rattle.exi_tables.proofs.list_tables.first_namespaces.Goals as goal
 

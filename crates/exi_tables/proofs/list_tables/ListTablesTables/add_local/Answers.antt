@@ -1,6 +1,5 @@
 use Rattle.std.proofs.Common.{◌<◌, ◌∷◌, ◌++◌, [], ap, map, length}
 use Rattle.exi_tables.proofs.Changes.{set-changed_at, within-map}
-use Rattle.exi_tables.specs.Partitions.{Partitions}
 use Rattle.exi_tables.specs.declared.partitions.Namespace.{Namespace}
 use Rattle.exi_tables.proofs.list_tables.ListTablesTables.add_local.Goals as goal
 

@@ -1,4 +1,4 @@
-use Rattle.std.proofs.Common.{◌<◌, ◌^◌, length, arith, sym, ◌∙◌, ap}
+use Rattle.std.proofs.Common.{◌<◌, ◌^◌, length, arith}
 use Rattle.exi_tables.specs.Places.{places_from}
 use Rattle.exi_tables.proofs.Under.{under_few, under_length}
 use Rattle.exi_tables.proofs.list_tables.ListTablesTables.name_values.Goals as goal
