@@ -5,12 +5,12 @@
 //! ```text
 //!                 SD  SE a  AT x "12"  SE b  CH "hello"  EE  EE  ED
 //! events           1     2          3     4           5   6   7   8     one for each event
-//! text             0     1          4     5          10  10  10  10     the characters of names and values
-//! level            0     1          1     2           2   1   0   0     the open elements, and the deepest so far
+//! text             0     1          4     5          10  10  10  10     characters of names and values
+//! level            0     1          1     2           2   1   0   0     open elements
 //! ```
 //!
-//! A count that would pass its limit is refused, and then nothing changes. What was counted apart, as
-//! for a self-contained fragment (W3C EXI 1.0, section 8.5.4.4.1), is a [`Tally`], which is added as a whole.
+//! A count that would pass its limit is refused, and then nothing changes. What was counted apart,
+//! as for a self-contained element (EXI 1.0, section 5.4), is a [`Tally`], which is added as a whole.
 //!
 //! The limits are the codec's own: the recommendation has none. No call takes memory.
 #![tactic(auto)]

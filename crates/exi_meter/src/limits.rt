@@ -47,7 +47,8 @@ impl Limits {
 
     /// These limits, or `None` exactly where one of them is above that of a stream.
     pub fn new(events: u64, text: u64, depth: u32) -> Option<Limits>
-        ensures { SomeIff result (IsWithinStream (bounds_of events text depth)) (bounds_of events text depth) }
+        ensures { let bounds = bounds_of events text depth in
+            SomeIff result (IsWithinStream bounds) bounds }
     {
         if events <= MAX_EVENTS && text <= MAX_TEXT && depth <= MAX_DEPTH {
             Some(Limits {

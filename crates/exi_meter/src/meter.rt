@@ -80,7 +80,7 @@ impl Meter {
         self.level
     }
 
-    /// Counts one event; false, and nothing is changed, exactly where that would pass the limit.
+    /// Counts one event; false, and nothing changed, exactly where that would pass the limit.
     pub fn event(&mut self) -> bool
         ensures fits { result ≡ event_fits self.old }
         ensures counted { OnTrue result (self.new ≡ with_event self.old) }
@@ -94,7 +94,7 @@ impl Meter {
         fits
     }
 
-    /// Counts `units` of text; false, and nothing is changed, exactly where that would pass the limit.
+    /// Counts `units` of text; false, and nothing changed, exactly where that would pass the limit.
     pub fn text(&mut self, units: u128) -> bool
         ensures fits { result ≡ text_fits self.old units }
         ensures counted { OnTrue result (self.new ≡ with_text self.old units) }
@@ -109,7 +109,7 @@ impl Meter {
         fits
     }
 
-    /// Enters an element; false, and nothing is changed, exactly where that would pass the limit.
+    /// Enters an element; false, and nothing changed, exactly where that would pass the limit.
     pub fn enter(&mut self) -> bool
         ensures fits { result ≡ level_fits self.old }
         ensures counted { OnTrue result (self.new ≡ with_level self.old) }
@@ -133,8 +133,8 @@ impl Meter {
         self.level -= 1;
     }
 
-    /// Whether `more` can be added: what is used and `more`, and the open elements and the deepest of
-    /// `more`, pass no limit.
+    /// Whether `more` can be added: what is used and `more`, and the open elements and the deepest
+    /// of `more`, pass no limit.
     pub fn fits(&self, more: &Tally) -> bool
         ensures { result ≡ tally_fits self.now more.now }
     {
