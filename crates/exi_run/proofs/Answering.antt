@@ -14,6 +14,7 @@ use Rattle.exi_run.specs.Sequence.{IsWhole}
 use Rattle.exi_run.specs.Printing.{grows_more}
 use Rattle.exi_run.specs.Answers.{Due, most_bytes, text_of, one_line, usage_due, failed_due, long_due, whole_due, status_of, OwedOf, OwedBy, OwedFrom, Owed, Answered, Served, GrowsByLines, no_memory, Files, OfFile, IsTold, Tells, IsOr, IsLater, RefusalPut}
 use Rattle.exi_run.proofs.Owing.{text-whole}
+use Rattle.exi_run.proofs.Runs.{whole_lines}
 
 -- ---- what may be owed: one of three lines, or the whole of a stream
 abbrev IsKind : Option (List ℕ) → Due → Type 0
@@ -140,7 +141,7 @@ same_status due d is = ap (λ (x : Due). x.status) is
 tells_whole : (s : Status) (old new : Option (List ℕ)) (due : Due) (bytes : List ℕ) (es : List Happening) (e : End) → IsTold s → IsWhole bytes es e → due ≡ whole_due es e
     → (((due.status ≡ s) × Grows old (text_of due.lines) new) ⊎ ((s ≡ status.WriteFault) ⊎ (s ≡ status.NoMemory))) → Tells s old new bytes
 tells_whole s old new due bytes es e told w is (inl a) =
-    (es, e, w, sym a.0 ∙ same_status due (whole_due es e) is, subst (λ (t : List ℕ). Grows old t new) (ap (λ (d : Due). text_of d.lines) is ∙ text-whole es e) a.1)
+    (es, e, w, whole_lines bytes es e w, sym a.0 ∙ same_status due (whole_due es e) is, subst (λ (t : List ℕ). Grows old t new) (ap (λ (d : Due). text_of d.lines) is ∙ text-whole es e) a.1)
 tells_whole s old new due bytes es e told w is (inr (inl b)) = absurd (not_told s status.WriteFault b (λ h. h) told)
 tells_whole s old new due bytes es e told w is (inr (inr b)) = absurd (not_told s status.NoMemory b (λ h. h) told)
 

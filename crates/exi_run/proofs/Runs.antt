@@ -17,6 +17,7 @@ use Rattle.exi_run.specs.StringTables.{first_partitions, name_at, value_at}
 use Rattle.exi_run.specs.Sequence.{Config, config, one, Move, goes, ends, moved_by, move, has_ended, closed_at, Leads, IsRun, first_of, start_of, header_at, IsWholeFrom, IsWhole, IsFrontFrom, IsFront}
 use Rattle.exi_run.specs.Reading.{root_at, text_at, start_tag_by, start_tag_at, element_content_at}
 use Rattle.exi_run.specs.Text.{has_line}
+use Rattle.exi_run.specs.Answers.{HaveLines}
 use Rattle.exi_run.proofs.Steps.{one_document, one_root, one_start_tag, one_element_content, one_end}
 
 -- how many events may still come
@@ -168,3 +169,15 @@ front_from (Err f) es fs e p q = (fs, ap (λ (x : List Happening). x ++ fs) (sym
 
 pub front_whole_lem : (bytes : List ℕ) (es fs : List Happening) (e : End) → IsFront bytes es → IsWhole bytes fs e → (rest : List Happening) × (fs ≡ es ++ rest)
 front_whole_lem bytes = front_from (header_at (start_of bytes))
+
+-- each event of a run has its line
+lead_lines : (c last : Config) (es : List Happening) → Leads c es last → HaveLines es
+lead_lines c last [] l = tt
+lead_lines c last (e ∷ es) l = ((moves_on c e l.0 l.1).0, lead_lines l.0 last es l.2)
+
+lines_from : (r : Result Spot Fault) (es : List Happening) (e : End) → IsWholeFrom r es e → HaveLines es
+lines_from (Ok body) es e w = lead_lines (first_of body) w.0 es w.1
+lines_from (Err f) es e w = subst HaveLines (sym w.0) tt
+
+pub whole_lines : (bytes : List ℕ) (es : List Happening) (e : End) → IsWhole bytes es e → HaveLines es
+whole_lines bytes = lines_from (header_at (start_of bytes))

@@ -1,5 +1,5 @@
 -- What the program owes for its words, its files and its stream, and what each status says of it.
-use Rattle.std.specs.Prelude.{◌≡◌, ◌⊎◌, ℕ, ◌<◌, ◌≤◌, List, [], ◌∷◌, ◌++◌, length, map, Option, Some, None, IfSome, Result, Ok, Err, codes, if◌then◌else◌}
+use Rattle.std.specs.Prelude.{◌≡◌, ◌⊎◌, ℕ, ◌<◌, ◌≤◌, List, [], ◌∷◌, ◌++◌, length, map, Option, Some, None, IfSome, Result, Ok, Err, true, codes, if◌then◌else◌}
 use Rattle.std.specs.List.{flat_map}
 use Rattle.std.specs.Str.{bytes_eq}
 use Rattle.exi_names.specs.Events.{Happening, Grows}
@@ -11,7 +11,7 @@ use Rattle.exi_run.specs.declared.status.Status.TheVariants as status
 use Rattle.exi_run.specs.declared.status.Halt.{Halt}
 use Rattle.exi_run.specs.declared.status.Halt.TheVariants as halt
 use Rattle.exi_run.specs.Sequence.{IsWhole, IsFront}
-use Rattle.exi_run.specs.Text.{line, lines, last_line}
+use Rattle.exi_run.specs.Text.{line, lines, last_line, has_line}
 
 -- the files that a shelf tells, by their names
 abbrev pub Files : Type 0
@@ -145,9 +145,14 @@ IsTold status.Events = ⊥
 IsTold status.Hints = ⊥
 IsTold status.TooLong = ⊥
 
--- the sink took the whole text of these bytes, and the status is that of its end
+-- each of these events has its line
+abbrev pub HaveLines : List Happening → Type 0
+HaveLines [] = Unit {0}
+HaveLines (e ∷ es) = (has_line e ≡ true) × HaveLines es
+
+-- the sink took the whole text of these bytes, a line for each event, and the status is that of its end
 abbrev pub Tells : Status → Option (List ℕ) → Option (List ℕ) → List ℕ → Type 0
-Tells s old new bytes = (es : List Happening) × (e : End) × IsWhole bytes es e × (s ≡ status_of e) × Grows old (lines es ++ last_line e) new
+Tells s old new bytes = (es : List Happening) × (e : End) × IsWhole bytes es e × HaveLines es × (s ≡ status_of e) × Grows old (lines es ++ last_line e) new
 
 -- this status, or one of the two that may come in its place
 abbrev pub IsOr : Status → Status → Type 0

@@ -1,6 +1,9 @@
--- The built-in grammars of a stream without a schema, under the default options (W3C EXI 1.0, sections
--- 6.2 and 8.4): comments, processing instructions, DTDs, prefixes and self-contained elements are not
--- preserved, so their productions are pruned, and the parts of the other codes close up.
+-- The built-in grammars of a stream without a schema, under the default options (W3C EXI 1.0, section 8.4;
+-- event codes: section 6.2): comments, processing instructions, DTDs, prefixes and self-contained elements are not
+-- preserved, so their productions are pruned, and the parts of the other codes close up (section 8.3).
+-- With one element, the grammar of the document and that of its element are one machine here: SE(*) goes on in
+-- the element's StartTagContent, and EE goes back to DocEnd. What the recommendation adds to an element's grammar
+-- as it is used (section 8.4.3) could be used by a later element alone, so nothing is learned.
 use Rattle.std.specs.Prelude.{ℕ, zero, suc, ◌+◌, ◌==◌, ◌||◌, max, Bool, true, false, List, [], ◌∷◌, Option, Some, None, is_some, Result, Ok, if◌then◌else◌}
 use Rattle.exi_bits.specs.declared.align.Align.TheVariants as align
 use Rattle.exi_bits.specs.declared.fault.Fault.{Fault}

@@ -28,7 +28,7 @@ mod text;
 mod top;
 mod words;
 
-pub use laws::{front_of_whole, one_whole};
+pub use laws::{first_tables, front_of_whole, one_whole};
 pub use reader::End;
 pub use status::Status;
 pub use top::run;

@@ -142,8 +142,8 @@ fn respond<F: Shelf, O: Sink>(alloc: Global, words: &[Txt], shelf: &mut F, out: 
 /// Does what the words ask for: `read FILE` reads an EXI stream and puts it as text.
 ///
 /// The file is fetched from `shelf` once, at most 64 MiB of it. `out` takes one line for each event and
-/// then one for the end, `done BIT` or `fault KIND BIT`, each line in one put; after a put that fails
-/// nothing more is put. `rt` and `gate` are for workers, of which this command has none yet.
+/// then one for the end, `done BIT` or `fault KIND BIT`; the body gives each line to one put, and puts
+/// nothing more after one that fails. `rt` and `gate` are for workers, of which this command has none yet.
 pub fn run<R: Threads + Wait + Sync, F: Shelf, O: Sink, G: Gate>(
     _rt: &R,
     alloc: Global,
