@@ -29,7 +29,8 @@ pub fn finds_the_least()
         least_place partition text ≡ None → live_at partition place ≢ Some text }
 {}
 
-/// Law: what is added stands at the end of its own partition, and no other partition changes.
+/// Law: what is added stands at the end of its own partition; the local names and prefixes of other
+/// URIs and the own values of other names stay as they were.
 pub fn adds_at_the_end()
     ensures uri { (p : Partitions) (text : List ℕ) → uris (with_uri p text) ≡ uris p ++ text ∷ [] }
     ensures local { (p : Partitions) (uri : ℕ) (text : List ℕ) → uri < length (uris p) →

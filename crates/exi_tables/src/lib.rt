@@ -8,11 +8,15 @@
 //! URI         w(count + 1) bits   0: a miss, a literal follows   k: place k - 1
 //! local name  Unsigned Integer    0: a hit, place in w(count) bits
 //!                                 L: a miss of L - 1 characters
-//! prefix      w(count) bits       the place
+//! prefix      w(count) bits       the place, where it is the prefix of a name
+//!             w(count + 1) bits   in a namespace declaration: 0: a miss, a literal follows   k: place k - 1
 //! value       Unsigned Integer    0: a hit in the name's own partition, place in w(count) bits
 //!                                 1: a hit in the global partition, place in w(count) bits
 //!                                 L: a miss of L - 2 characters
 //! ```
+//!
+//! A text that is spelled out again gets a second place, which raises the counts alone: a look-up by text
+//! gives the least place, and a name goes on as that.
 //!
 //! [`Tables`] is what readers and writers need: each partition's count, its texts by place, the
 //! least place of a text, and growth at a miss. [`ListTables`] keeps plain lists: a look-up by place
