@@ -1,0 +1,4 @@
+pub mod Fronts
+pub mod BothWays
+pub mod Items
+pub mod Whole
