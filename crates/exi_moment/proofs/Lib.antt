@@ -2,3 +2,4 @@ pub mod Fronts
 pub mod BothWays
 pub mod Items
 pub mod Whole
+mod Worked

@@ -9,6 +9,7 @@ use Rattle.exi_bits.specs.declared.fault.Kind.TheVariants as fault
 use Rattle.exi_bits.specs.Bits.{Spot, IsAligned, IsBytes, bits, moved, number, number_bits, rest, value_of}
 use Rattle.exi_bits.specs.Unsigned.{◌>>=◌, fault_at, field_at, place_at, shortest, unsigned_at}
 use Rattle.exi_bits.proofs.BitLaws.{number_bits-value_of, value_of_below}
+use Rattle.exi_bits.proofs.InBytes.{rest_behind}
 use Rattle.exi_bits.proofs.UnsignedLaws.{shortest_spelled}
 use Rattle.exi_names.specs.declared.moment.Moment.{Moment}
 use Rattle.exi_names.specs.declared.moment.MomentKind.{MomentKind}
@@ -399,3 +400,6 @@ moment_written m a narrow few =
     let dated = both_text _ _ _ _ d timed in
     let all = both_text _ _ _ _ y dated in
     subst (λ (x : List Bool). Spells a m x) (grouped (text_where (fields m.kind).year (integer_text a (year_offset m))) (text_where (has_month_day m.kind) (number 9 a (month_day_number m))) (text_where (fields m.kind).time (number 17 a (time_number m) ++ fraction_text a m.fraction)) (text_where (fields m.kind).time (number 17 a (time_number m))) (text_where (fields m.kind).time (fraction_text a m.fraction)) (zone_text a m.zone) (where_both (fields m.kind).time (number 17 a (time_number m)) (fraction_text a m.fraction))) all
+
+pub moment_read_back : (m : Moment) (a : Align) (s : Spot) (before more : List Bool) → IsMoment m → IsTrue (is_year m.year) → IfSome m.fraction (λ digits. digits < 2 ^ 128) → IsBytes s.bytes → IsAligned a s → bits s.bytes ≡ before ++ spelling a m ++ more → s.place ≡ length before → moment_at m.kind a s ≡ given (m, moved s (length (spelling a m)))
+moment_read_back m a s before more ranges narrow few fits whole e p = moment_again m a s (spelling a m) more ranges narrow fits whole (moment_written m a narrow few) (rest_behind s before (spelling a m) more e p)

@@ -1,7 +1,7 @@
 -- The laws between the spellings and the reading.
 use Rattle.std.specs.Prelude.{◌≡◌, IsTrue, Ok, Bool, List, [], ◌++◌, length, IfSome, ◌<◌, ◌^◌}
 use Rattle.exi_bits.specs.declared.align.Align.{Align}
-use Rattle.exi_bits.specs.Bits.{Spot, Front, IsAligned, IsBytes, moved, rest}
+use Rattle.exi_bits.specs.Bits.{Spot, Front, IsAligned, IsBytes, bits, moved, rest}
 use Rattle.exi_names.specs.declared.moment.Moment.{Moment}
 use Rattle.exi_names.specs.declared.moment.MomentKind.{MomentKind}
 use Rattle.exi_moment.specs.Parts.{IsMoment, is_year}
@@ -31,3 +31,7 @@ MomentIsNoPrefix = (m other : Moment) (a : Align) (text prefix more : List Bool)
 -- what is written is a spelling
 abbrev pub WrittenIsSpelled : Type 0
 WrittenIsSpelled = (m : Moment) (a : Align) → IsTrue (is_year m.year) → IfSome m.fraction (λ digits. digits < 2 ^ 128) → Spells a m (spelling a m)
+
+-- what was added behind some bits is read there, whatever follows
+abbrev pub WrittenIsRead : Type 0
+WrittenIsRead = (m : Moment) (a : Align) (s : Spot) (before more : List Bool) → IsMoment m → IsTrue (is_year m.year) → IfSome m.fraction (λ digits. digits < 2 ^ 128) → IsBytes s.bytes → IsAligned a s → bits s.bytes ≡ before ++ spelling a m ++ more → s.place ≡ length before → moment_at m.kind a s ≡ Ok (m, moved s (length (spelling a m)))

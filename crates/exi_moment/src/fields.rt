@@ -1,7 +1,7 @@
-ghost use Rattle.std.specs.Prelude.{◌≡◌};
-ghost use Rattle.exi_moment.specs.Parts.{fields, has_month_day, is_in, is_month_day, is_time};
+ghost use Rattle.std.specs.Prelude.{◌≡◌, ◌↔◌, IsTrue};
+ghost use Rattle.exi_moment.specs.Parts.{fields, has_month_day, is_in, is_month_day, is_time, IsMoment};
 
-use exi_names::MomentKind;
+use exi_names::{Moment, MomentKind};
 
 /// Whether the kind has a year.
 pub fn counts_year(kind: MomentKind) -> bool
@@ -93,4 +93,25 @@ pub fn time_in_range(counts: bool, hour: u64, minute: u64, second: u64) -> bool
     in_range(counts, 0, 24, hour)
         && in_range(counts, 0, 59, minute)
         && in_range(counts, 0, 60, second)
+}
+
+/// Whether the fields are in their ranges, as [`write_moment`] wants them (W3C EXI, section 7.1.8).
+///
+/// Month 1 to 12, day 1 to 31 in any month, hour to 24, minute to 59, second to 60, zone at most 840
+/// minutes either way; a field that the kind does not have is 0 or `None`.
+///
+/// [`write_moment`]: crate::write_moment
+pub fn is_moment(value: &Moment) -> bool
+    ensures { IsTrue result ↔ IsMoment value.now }
+{
+    (counts_year(value.kind) || value.year == 0)
+        && month_day_in_range(value.kind, u64::from(value.month), u64::from(value.day))
+        && time_in_range(
+            counts_time(value.kind),
+            u64::from(value.hour),
+            u64::from(value.minute),
+            u64::from(value.second),
+        )
+        && (counts_time(value.kind) || value.fraction.is_none())
+        && value.zone.is_none_or(|zone| zone.unsigned_abs() <= 840)
 }

@@ -1,7 +1,7 @@
 //! What is spelled and what is read are the same. Each law is a function that does nothing: what it
 //! ensures is the law.
 
-ghost use Rattle.exi_moment.specs.Laws.{MomentIsSpelled, MomentIsRead, MomentIsNoPrefix, WrittenIsSpelled};
+ghost use Rattle.exi_moment.specs.Laws.{MomentIsSpelled, MomentIsRead, MomentIsNoPrefix, WrittenIsSpelled, WrittenIsRead};
 
 /// What is read is spelled so, is of the kind that was asked for, and has its fields in their ranges.
 pub fn moment_is_spelled()
@@ -21,4 +21,9 @@ pub fn moment_is_no_prefix()
 /// What `write_moment` writes is a spelling.
 pub fn written_is_spelled()
     ensures { WrittenIsSpelled }
+{}
+
+/// What `write_moment` adds, `read_moment` reads back, whatever follows.
+pub fn written_is_read()
+    ensures { WrittenIsRead }
 {}

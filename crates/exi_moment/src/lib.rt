@@ -47,5 +47,6 @@ mod read;
 mod tests;
 mod write;
 
+pub use fields::is_moment;
 pub use read::read_moment;
 pub use write::write_moment;

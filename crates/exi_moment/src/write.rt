@@ -86,13 +86,13 @@ fn write_zone(out: &mut BitOut, zone: Option<i16>, align: Align) -> Result<(), A
 /// Writes a date or a time (W3C EXI, section 7.1.8), as [`read_moment`] reads it, in as few bits as
 /// spell it.
 ///
-/// The fields have to be in their ranges: month 1 to 12, day 1 to 31, hour to 24, minute to 59, second
-/// to 60, zone within 840 minutes either way; one that the kind does not have has to be 0 or `None`.
+/// The fields have to be in their ranges, as [`is_moment`] tells.
 ///
 /// # Errors
 ///
 /// Where there is no memory. Some of the first bits may then have been added.
 ///
+/// [`is_moment`]: crate::is_moment
 /// [`read_moment`]: crate::read_moment
 #[tactic(auto, using(crate::proofs::Fronts::first_front, crate::proofs::Fronts::second_front, crate::proofs::Fronts::third_front, crate::proofs::Fronts::fourth_front), unfolding(crate::specs::Spelling::spelling))]
 pub fn write_moment(out: &mut BitOut, value: &Moment, align: Align) -> Result<(), AllocError>
