@@ -3,8 +3,8 @@ use Rattle.std.proofs.Common.{◌≡◌, ℕ, List, [], ◌∷◌, Some, None, O
 use Rattle.std.specs.Prelude.{pos, negsuc}
 use Rattle.exi_bits.specs.declared.align.Align.TheVariants as align
 use Rattle.exi_bits.specs.declared.fault.Kind.TheVariants as fault
-use Rattle.exi_bits.specs.Bits.{Spot, bits, le_bytes, le_value, number_at, number_bits, value_of}
-use Rattle.exi_bits.specs.Unsigned.{fault_at, field_at, group_sum, groups, groups_at, narrow_groups_at, place_at, unsigned_at}
+use Rattle.exi_bits.specs.Bits.{Spot, bits, le_bytes, number_at, number_bits, value_of}
+use Rattle.exi_bits.specs.Unsigned.{fault_at, field_at, groups, groups_at, narrow_groups_at, place_at, unsigned_at}
 use Rattle.exi_names.specs.declared.moment.Moment.{Moment}
 use Rattle.exi_names.specs.declared.moment.MomentKind.TheVariants as form
 use Rattle.exi_moment.specs.Spelling.{spelling}

@@ -31,7 +31,7 @@
 //! ```
 //!
 //! The hours and minutes of a zone west of UTC are both negative. In a byte-aligned stream each number
-//! stands in whole bytes. So `2014-02-11T09:30:00Z` is the 48 bits `07 12 D2 F0 0B 80`:
+//! stands in whole bytes. So `2014-02-11T09:30:00Z` is the 48 bits `0712D2F00B80`:
 //!
 //! ```text
 //! 0 00001110  0010 01011  01001 011110 000000  0  1 01110000000
