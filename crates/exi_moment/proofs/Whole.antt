@@ -60,8 +60,8 @@ year_tells a y s t fits whole e =
       h.0,
     )
 
-number_tells : {X : Type 0} → (n v w : ℕ) (a : Align) (s t u : Spot) (o : Option X) (x : X) → IsBytes s.bytes → IsAligned a s → field_at n a s ≡ given (v, t) → t ≡ u → w ≡ v → Told a (SpellsNumber a n w) s u
-number_tells n v w a s t u o x fits whole e is same = subst (λ (q : Spot). Told a (SpellsNumber a n w) s q) is (subst (λ (k : ℕ). Told a (SpellsNumber a n k) s t) (sym same) (field_told n v a s t fits whole e))
+number_tells : (n v w : ℕ) (a : Align) (s t u : Spot) → IsBytes s.bytes → IsAligned a s → field_at n a s ≡ given (v, t) → t ≡ u → w ≡ v → Told a (SpellsNumber a n w) s u
+number_tells n v w a s t u fits whole e is same = subst (λ (q : Spot). Told a (SpellsNumber a n w) s q) is (subst (λ (k : ℕ). Told a (SpellsNumber a n k) s t) (sym same) (field_told n v a s t fits whole e))
 
 date_tells : (k : MomentKind) (a : Align) → Tells a (month_day_at k a) (SpellsDate a) (λ d. IsTrue (is_month_day k d.0 d.1))
 unfolding month_day_at
@@ -69,7 +69,7 @@ date_tells k a d s t fits whole e =
     let b = bind_ok (field_at 9 a s) (λ found. in_range s found.1 (month_day_of k found.0)) (d, t) e in
     let r = in_range_ok s b.0.1 t (month_day_of k b.0.0) d b.2 in
     let h = month_day_told k b.0.0 d r.0 in
-    (number_tells 9 b.0.0 (d.0 * 32 + d.1) a s b.0.1 t (month_day_of k b.0.0) d fits whole b.1 r.1 h.1, h.0)
+    (number_tells 9 b.0.0 (d.0 * 32 + d.1) a s b.0.1 t fits whole b.1 r.1 h.1, h.0)
 
 time_tells : (a : Align) → Tells a (time_at a) (SpellsTime a) (λ t. IsTrue (is_time true t.0 t.1 t.2))
 unfolding time_at
@@ -77,7 +77,7 @@ time_tells a d s t fits whole e =
     let b = bind_ok (field_at 17 a s) (λ found. in_range s found.1 (time_of found.0)) (d, t) e in
     let r = in_range_ok s b.0.1 t (time_of b.0.0) d b.2 in
     let h = time_told b.0.0 d r.0 in
-    (number_tells 17 b.0.0 ((d.0 * 64 + d.1) * 64 + d.2) a s b.0.1 t (time_of b.0.0) d fits whole b.1 r.1 h.1, h.0)
+    (number_tells 17 b.0.0 ((d.0 * 64 + d.1) * 64 + d.2) a s b.0.1 t fits whole b.1 r.1 h.1, h.0)
 
 offset_tells : (a : Align) → Tells a (offset_at a) (SpellsOffset a) (λ z. unsigned_abs z ≤ 840)
 unfolding offset_at
@@ -85,7 +85,7 @@ offset_tells a z s t fits whole e =
     let b = bind_ok (field_at 11 a s) (λ found. in_range s found.1 (zone_of found.0)) (z, t) e in
     let r = in_range_ok s b.0.1 t (zone_of b.0.0) z b.2 in
     let h = zone_told b.0.0 z r.0 in
-    (number_tells 11 b.0.0 (zone_number z) a s b.0.1 t (zone_of b.0.0) z fits whole b.1 r.1 h.1, h.0)
+    (number_tells 11 b.0.0 (zone_number z) a s b.0.1 t fits whole b.1 r.1 h.1, h.0)
 
 unsigned_tells : (a : Align) → Tells a unsigned_at SpellsUnsigned (λ v. Unit {0})
 unsigned_tells a v s t fits whole e = (unsigned_told v a s t fits whole e, tt)
@@ -139,6 +139,12 @@ after_date k a y d = where_it_counts (fields k).time (0, 0, 0) (time_at a) d.1 >
 abbrev after_year : MomentKind → Align → ℤ × Spot → Result (Moment × Spot) Fault
 after_year k a y = where_it_counts (has_month_day k) (0, 0) (month_day_at k a) y.1 >>= after_date k a y.0
 
+five_told : (a : Align) (P Q R S T : List Bool → Type 0) (s t u v w x : Spot) → Told a P s t → Told a Q t u → Told a R u v → Told a S v w → Told a T w x → Told a (Both P (Both Q (Both R (Both S T)))) s x
+five_told a P Q R S T s t u v w x p q r y z = told_both a P (Both Q (Both R (Both S T))) s t x p (told_both a Q (Both R (Both S T)) t u x q (told_both a R (Both S T) u v x r (told_both a S T v w x y z)))
+
+same_moment : (k : MomentKind) (a : Align) (s : Spot) (p q : Moment × Spot) → p ≡ q → ReadMoment k a s p.1 p.0 → ReadMoment k a s q.1 q.0
+same_moment k a s p q e r = subst (λ (x : Moment × Spot). ReadMoment k a s x.1 x.0) e r
+
 pub moment_told : (k : MomentKind) (a : Align) (m : Moment) (s t : Spot) → IsBytes s.bytes → IsAligned a s → moment_at k a s ≡ given (m, t) → ReadMoment k a s t m
 unfolding moment_at
 moment_told k a m s t fits whole e =
@@ -152,12 +158,9 @@ moment_told k a m s t fits whole e =
     let f = where_told a (fields k).time None (fraction_at a) (SpellsFraction a) (λ x. Unit {0}) (fraction_tells a) i.0.0 g.0.1 i.0.1 h.0.fits h.0.aligned i.1 in
     let j = bind_ok (zone_at a i.0.1) (λ z. Ok (of_parts k b.0.0 c.0.0 g.0.0 i.0.0 z.0, z.1)) (m, t) i.2 in
     let z = zone_tells a j.0.0 i.0.1 j.0.1 f.0.fits f.0.aligned j.1 in
-    let last = told_both a _ _ g.0.1 i.0.1 j.0.1 f.0 z.0 in
-    let timed = told_both a _ _ c.0.1 g.0.1 j.0.1 h.0 last in
-    let dated = told_both a _ _ b.0.1 c.0.1 j.0.1 d.0 timed in
-    let all = told_both a _ _ s b.0.1 j.0.1 y.0 dated in
-    subst (λ (p : Moment × Spot). ReadMoment k a s p.1 p.0) (ok_is (of_parts k b.0.0 c.0.0 g.0.0 i.0.0 j.0.0, j.0.1) (m, t) j.2) (record {
-      kind_is = refl;
+    let all = five_told a (Where (fields k).year (SpellsYear a b.0.0)) (Where (has_month_day k) (SpellsDate a c.0.0)) (Where (fields k).time (SpellsTime a g.0.0)) (Where (fields k).time (SpellsFraction a i.0.0)) (SpellsZone a j.0.0) s b.0.1 c.0.1 g.0.1 i.0.1 j.0.1 y.0 d.0 h.0 f.0 z.0 in
+    same_moment k a s (of_parts k b.0.0 c.0.0 g.0.0 i.0.0 j.0.0, j.0.1) (m, t) (ok_is (of_parts k b.0.0 c.0.0 g.0.0 i.0.0 j.0.0, j.0.1) (m, t) j.2) (record {
+      kind_is = refl {a = k};
       ranges = record {
         year = y.2;
         month_day = date_ranges k c.0.0 d.1 d.2;
@@ -383,6 +386,9 @@ zone_written : (a : Align) (z : Option ℤ) → SpellsZone a z (zone_text a z)
 zone_written a None = refl
 zone_written a (Some z) = both_text (SpellsNumber a 1 1) (SpellsOffset a z) (number 1 a 1) (number 11 a (zone_number z)) refl refl
 
+five_texts : (P Q R S T : List Bool → Type 0) (p q r s t : List Bool) → P p → Q q → R r → S s → T t → Both P (Both Q (Both R (Both S T))) (p ++ (q ++ (r ++ (s ++ t))))
+five_texts P Q R S T p q r s t u v w x y = both_text P (Both Q (Both R (Both S T))) p (q ++ (r ++ (s ++ t))) u (both_text Q (Both R (Both S T)) q (r ++ (s ++ t)) v (both_text R (Both S T) r (s ++ t) w (both_text S T s t x y)))
+
 grouped : (y d c t f z : List Bool) → c ≡ t ++ f → y ++ (d ++ (t ++ (f ++ z))) ≡ y ++ d ++ c ++ z
 grouped y d c t f z e =
     sym (append_assoc y d (t ++ (f ++ z))) ∙ ap (λ (x : List Bool). y ++ d ++ x) (sym (append_assoc t f z)) ∙ ap (λ (x : List Bool). y ++ d ++ (x ++ z)) (sym e) ∙ sym (append_assoc (y ++ d) c z)
@@ -390,16 +396,16 @@ grouped y d c t f z e =
 pub moment_written : (m : Moment) (a : Align) → IsTrue (is_year m.year) → IfSome m.fraction (λ digits. digits < 2 ^ 128) → Spells a m (spelling a m)
 unfolding spelling
 moment_written m a narrow few =
-    let k = fields m.kind in
     let y = where_text (fields m.kind).year (SpellsInteger a (year_offset m)) (integer_text a (year_offset m)) (integer_written a m.year (year_offset m) narrow refl) in
     let d = where_text (has_month_day m.kind) (SpellsNumber a 9 (month_day_number m)) (number 9 a (month_day_number m)) refl in
     let t = where_text (fields m.kind).time (SpellsNumber a 17 (time_number m)) (number 17 a (time_number m)) refl in
     let f = where_text (fields m.kind).time (SpellsFraction a m.fraction) (fraction_text a m.fraction) (fraction_written a m.fraction few) in
-    let last = both_text _ _ _ _ f (zone_written a m.zone) in
-    let timed = both_text _ _ _ _ t last in
-    let dated = both_text _ _ _ _ d timed in
-    let all = both_text _ _ _ _ y dated in
-    subst (λ (x : List Bool). Spells a m x) (grouped (text_where (fields m.kind).year (integer_text a (year_offset m))) (text_where (has_month_day m.kind) (number 9 a (month_day_number m))) (text_where (fields m.kind).time (number 17 a (time_number m) ++ fraction_text a m.fraction)) (text_where (fields m.kind).time (number 17 a (time_number m))) (text_where (fields m.kind).time (fraction_text a m.fraction)) (zone_text a m.zone) (where_both (fields m.kind).time (number 17 a (time_number m)) (fraction_text a m.fraction))) all
+    let year : List Bool = text_where (fields m.kind).year (integer_text a (year_offset m)) in
+    let day : List Bool = text_where (has_month_day m.kind) (number 9 a (month_day_number m)) in
+    let time : List Bool = text_where (fields m.kind).time (number 17 a (time_number m)) in
+    let fraction : List Bool = text_where (fields m.kind).time (fraction_text a m.fraction) in
+    let all = five_texts (Where (fields m.kind).year (SpellsInteger a (year_offset m))) (Where (has_month_day m.kind) (SpellsNumber a 9 (month_day_number m))) (Where (fields m.kind).time (SpellsNumber a 17 (time_number m))) (Where (fields m.kind).time (SpellsFraction a m.fraction)) (SpellsZone a m.zone) year day time fraction (zone_text a m.zone) y d t f (zone_written a m.zone) in
+    subst (λ (x : List Bool). Spells a m x) (grouped year day (text_where (fields m.kind).time (number 17 a (time_number m) ++ fraction_text a m.fraction)) time fraction (zone_text a m.zone) (where_both (fields m.kind).time (number 17 a (time_number m)) (fraction_text a m.fraction))) all
 
 pub moment_read_back : (m : Moment) (a : Align) (s : Spot) (before more : List Bool) → IsMoment m → IsTrue (is_year m.year) → IfSome m.fraction (λ digits. digits < 2 ^ 128) → IsBytes s.bytes → IsAligned a s → bits s.bytes ≡ before ++ spelling a m ++ more → s.place ≡ length before → moment_at m.kind a s ≡ given (m, moved s (length (spelling a m)))
 moment_read_back m a s before more ranges narrow few fits whole e p = moment_again m a s (spelling a m) more ranges narrow fits whole (moment_written m a narrow few) (rest_behind s before (spelling a m) more e p)
