@@ -1,0 +1,5 @@
+pub mod Fronts
+pub mod BothWays
+pub mod Items
+pub mod Whole
+mod Worked
