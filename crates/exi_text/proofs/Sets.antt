@@ -3,14 +3,12 @@ use Rattle.std.proofs.Common.{◌≡◌, ℕ, zero, suc, ◌+◌, ◌^◌, ◌<�
 use Rattle.std.proofs.Common.{lit<}
 use Rattle.std.proofs.Math.Nat.{pow-succ'}
 use Rattle.std.proofs.lemmas.Bool.{and_parts, cases_lt, eq-eqb, eqb-true, le-leb, leb-true, lt-leb, ne_eqb}
-use Rattle.std.proofs.lemmas.List.{append-nil}
 use Rattle.std.proofs.lemmas.List.Sorted.{searched}
 use Rattle.std.specs.List.Sorted.{IsBinarySearchResult}
 use Rattle.std.specs.Ordering.{nat_cmp}
 use Rattle.std.specs.Result.{result_ok}
 use Rattle.exi_bits.specs.declared.align.Align.{Align}
 use Rattle.exi_bits.specs.Widths.{width_for, width_from}
-use Rattle.exi_items.specs.Fronts.{HoldsFront}
 use Rattle.exi_names.specs.Alphabets.{is_alphabet, rises_from}
 use Rattle.exi_names.specs.Characters.{is_xml_char}
 use Rattle.exi_text.specs.Literals.{char_bits, chars_bits, one_more, place_of, width_in}
@@ -124,33 +122,6 @@ pub found_fits : (c : ℕ) (set : List ℕ) (i : ℕ) → Some i ≡ place_of c 
 found_fits c set i e = let p = place_is c set i (sym e) in place_fits set i (omega (arith, p.0))
 
 -- ---- one character after another
--- so much of the total was added, and so much is left
-pub record Goes (old total left out : List Bool) : Type 0 where
-  pub front : List Bool
-  pub parts : total ≡ front ++ left
-  pub held : out ≡ old ++ front
-
-pub goes_starts : (old total : List Bool) → Goes old total total old
-goes_starts old total = record { front = []; parts = refl; held = sym (append-nil old) }
-
-pub goes_on : (old total one more left out new : List Bool) → Goes old total left out → left ≡ one ++ more → new ≡ out ++ one → Goes old total more new
-goes_on old total one more left out new g e w = record {
-  front = g.front ++ one;
-  parts = g.parts ∙ ap (λ (x : List Bool). g.front ++ x) e ∙ sym (append_assoc g.front one more);
-  held = w ∙ ap (λ (x : List Bool). x ++ one) g.held ∙ append_assoc old g.front one;
-}
-
-pub goes_stops : (old total one more left out new : List Bool) → Goes old total left out → left ≡ one ++ more → HoldsFront out one new → HoldsFront old total new
-goes_stops old total one more left out new g e w = record {
-  front = g.front ++ w.front;
-  behind = w.behind ++ more;
-  parts = g.parts ∙ ap (λ (x : List Bool). g.front ++ x) (e ∙ ap (λ (x : List Bool). x ++ more) w.parts) ∙ simp append_assoc;
-  held = w.held ∙ ap (λ (x : List Bool). x ++ w.front) g.held ∙ append_assoc old g.front w.front;
-}
-
-pub goes_ends : (old total left out : List Bool) → Goes old total left out → left ≡ [] → out ≡ old ++ total
-goes_ends old total left out g e = g.held ∙ ap (λ (x : List Bool). old ++ x) (sym (g.parts ∙ ap (λ (x : List Bool). g.front ++ x) e ∙ append-nil g.front))
-
 pub next_chars : (set : Option (List ℕ)) (a : Align) (text more : List ℕ) (c : ℕ) → text ≡ c ∷ more → chars_bits set a text ≡ char_bits set a c ++ chars_bits set a more
 unfolding chars_bits
 next_chars set a text more c e = rw e refl

@@ -2,7 +2,7 @@ use Rattle.std.proofs.Common.{◌≡◌, IsUtf8, chars, option_copied}
 use Rattle.std.specs.Str.Iter.{chars_rest}
 use Rattle.exi_bits.specs.Written.{IsWholeBytes}
 use Rattle.exi_text.specs.Literals.{chars_bits}
-use Rattle.exi_text.proofs.Sets.{Goes}
+use Rattle.exi_items.proofs.Pieces.{Goes}
 use Rattle.exi_text.proofs.write.put_chars.Given as goal
 
 abbrev pub invariant-loop-c : goal.invariant-loop-c
