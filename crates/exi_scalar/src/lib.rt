@@ -27,6 +27,7 @@ mod boolean;
 mod decimal;
 mod float;
 mod integer;
+pub mod laws;
 mod signed;
 #[cfg(test)]
 mod tests;
