@@ -1,15 +1,13 @@
 -- What is spelled and what is read, for items that are put together.
 use Rattle.std.proofs.Common.{◌≡◌, ℕ, zero, suc, ◌+◌, ◌*◌, ◌%◌, ◌^◌, ◌<◌, Bool, true, false, cond, ltb, List, [], ◌∷◌, ◌++◌, length, drop, Option, Some, None, Result, Ok, Err, refl, sym, ap, ◌∙◌, subst, append_assoc, arith}
-use Rattle.std.proofs.lemmas.List.{append-nil, drop-drop, drop_at, length-append}
-use Rattle.std.proofs.lemmas.Bool.{ltb-true, lt-ltb}
+use Rattle.std.proofs.lemmas.List.{drop-drop, drop_at, length-append}
 use Rattle.exi_bits.specs.declared.align.Align.{Align}
 use Rattle.exi_bits.specs.declared.align.Align.TheVariants as align
 use Rattle.exi_bits.specs.declared.fault.Fault.{Fault}
-use Rattle.exi_bits.specs.declared.fault.Kind.{Kind}
 use Rattle.exi_bits.specs.declared.fault.Kind.TheVariants as kind
 use Rattle.exi_bits.specs.Bits.{Spot, Front, IsAligned, IsBytes, bits, moved, number, number_at, rest, taken}
 use Rattle.exi_bits.specs.Repeat.{Reader, times}
-use Rattle.exi_bits.specs.Unsigned.{◌>>=◌, at_spot, fault_at, field_at, needed, place_at, unsigned_at}
+use Rattle.exi_bits.specs.Unsigned.{◌>>=◌, at_spot, field_at, needed, place_at, unsigned_at}
 use Rattle.exi_bits.proofs.BitLaws.{length-bits}
 use Rattle.exi_bits.proofs.InBytes.{length-number, number_read, number_spelled}
 use Rattle.exi_bits.proofs.UnsignedLaws.{unsigned_read, unsigned_spelled}
@@ -106,6 +104,7 @@ item_for {X} {Y} a one two First Second i j = record { takes = taking; again = r
           aligned = l.aligned;
           fits = l.fits;
         })
+
     reading : (p : X × Y) (text : List Bool) (s : Spot) (more : List Bool) → IsBytes s.bytes → IsAligned a s → Then (First p.0) (Second p.0 p.1) text → rest s ≡ text ++ more → (one s >>= λ x. two x.0 x.1 >>= λ y. Ok ((x.0, y.0), y.1)) ≡ given (p, moved s (length text))
     reading p text s more fits al w e =
         let e' : rest s ≡ w.first ++ (w.second ++ more) = e ∙ ap (λ (x : List Bool). x ++ more) w.parts ∙ append_assoc w.first w.second more in
@@ -113,6 +112,7 @@ item_for {X} {Y} a one two First Second i j = record { takes = taking; again = r
         let r1 : one s ≡ given (p.0, moved s (length w.first)) = i.again p.0 w.first s (w.second ++ more) fits al w.front e' in
         let r2 : two p.0 (moved s (length w.first)) ≡ given (p.1, moved (moved s (length w.first)) (length w.second)) = (j p.0).again p.1 w.second (moved s (length w.first)) more fits al' w.behind (rest_moved s w.first (w.second ++ more) e') in
         rw (r1, r2) (ap (λ (u : Spot). given (p, u)) (moved_on s text w.first w.second w.parts))
+
     wholly : (p : X × Y) (text : List Bool) → Then (First p.0) (Second p.0 p.1) text → a ≡ align.Bytes → length text % 8 ≡ 0
     wholly p text w e =
         let m : length w.first % 8 ≡ 0 = i.whole p.0 w.first w.front e in
@@ -133,6 +133,7 @@ item_made {X} {Y} a read Spells f item = record { takes = taking; again = readin
         let e : (f u.0.0, u.0.1) ≡ (y, t) = ok_is (f u.0.0, u.0.1) (y, t) u.2 in
         let k = item.takes u.0.0 s u.0.1 fits al u.1 in
         subst (λ (w : Y × Spot). Taken a (Made f Spells w.0) s w.1) e (record { text = k.text; spelled = record { from = u.0.0; is = refl; spelled = k.spelled }; front = k.front; aligned = k.aligned; fits = k.fits })
+
     reading : (y : Y) (text : List Bool) (s : Spot) (more : List Bool) → IsBytes s.bytes → IsAligned a s → Made f Spells y text → rest s ≡ text ++ more → (read s >>= λ x. Ok (f x.0, x.1)) ≡ given (y, moved s (length text))
     reading y text s more fits al m e =
         let r = item.again m.from text s more fits al m.spelled e in
@@ -149,6 +150,7 @@ item_tested {X} a read Spells test fault item = record { takes = taking; again =
         let g = guard_ok (test u.0.0) u.0 (x, t) (fault s u.0) u.2 in
         let k = item.takes u.0.0 s u.0.1 fits al u.1 in
         subst (λ (w : X × Spot). Taken a (λ text. (test w.0 ≡ true) × Spells w.0 text) s w.1) g.1 (record { text = k.text; spelled = (g.0, k.spelled); front = k.front; aligned = k.aligned; fits = k.fits })
+
     reading : (x : X) (text : List Bool) (s : Spot) (more : List Bool) → IsBytes s.bytes → IsAligned a s → (test x ≡ true) × Spells x text → rest s ≡ text ++ more → (read s >>= λ x. cond (test x.0) (Ok x) (Err (fault s x))) ≡ given (x, moved s (length text))
     reading x text s more fits al m e = rw (item.again x text s more fits al m.1 e, m.0) refl
 
@@ -164,8 +166,10 @@ item_field n a = record { takes = taking; again = reading; whole = wholly }
     whole_taken : (b : Align) → b ≡ align.Bytes → taken n b % 8 ≡ 0
     whole_taken align.Bits e = absurd cc
     whole_taken align.Bytes e = omega arith
+
     wholly : (v : ℕ) (text : List Bool) → (text ≡ number n a v) × (v < 2 ^ taken n a) → a ≡ align.Bytes → length text % 8 ≡ 0
     wholly v text m e = let h = whole_taken a e in omega (arith, ap length m.0, length-number n v a)
+
     taking : (v : ℕ) (s t : Spot) → IsBytes s.bytes → IsAligned a s → field_at n a s ≡ given (v, t) → Taken a (λ text. (text ≡ number n a v) × (v < 2 ^ taken n a)) s t
     taking v s t fits al r =
         let k = number_spelled n v a s t fits al (field_ok (number_at n a s) s (v, t) r) in
@@ -176,6 +180,7 @@ item_field n a = record { takes = taking; again = reading; whole = wholly }
           aligned = λ e. (let h = whole_taken a e in let p : s.place % 8 ≡ 0 = al e in omega (arith, k.0.place, length-number n v a));
           fits = subst IsBytes (sym k.0.bytes) fits;
         }
+
     reading : (v : ℕ) (text : List Bool) (s : Spot) (more : List Bool) → IsBytes s.bytes → IsAligned a s → (text ≡ number n a v) × (v < 2 ^ taken n a) → rest s ≡ text ++ more → field_at n a s ≡ given (v, moved s (length text))
     reading v text s more fits al m e =
         let r = number_read n v a s more fits al m.1 (e ∙ ap (λ (x : List Bool). x ++ more) m.0) in
@@ -199,11 +204,13 @@ item_unsigned a = record { takes = taking; again = reading; whole = wholly }
           aligned = λ e. (let p : s.place % 8 ≡ 0 = al e in omega (arith, k.2.place, length-bits k.0));
           fits = subst IsBytes (sym k.2.bytes) fits;
         }
+
     reading : (v : ℕ) (text : List Bool) (s : Spot) (more : List Bool) → IsBytes s.bytes → IsAligned a s → SpellsUnsigned v text → rest s ≡ text ++ more → unsigned_at s ≡ given (v, moved s (length text))
     reading v text s more fits al m e =
         let r = unsigned_read v m.octets s more m.unsigned (e ∙ ap (λ (x : List Bool). x ++ more) m.bits) in
         let l : 8 * length m.octets ≡ length text = sym (ap length m.bits ∙ length-bits m.octets) in
         rw r (ap (λ (k : ℕ). given (v, moved s k)) l)
+
     wholly : (v : ℕ) (text : List Bool) → SpellsUnsigned v text → a ≡ align.Bytes → length text % 8 ≡ 0
     wholly v text m e = omega (arith, ap length m.bits, length-bits m.octets)
 
@@ -236,14 +243,17 @@ times_none {X} a read Spells = record { takes = taking; again = reading; whole =
           aligned = al;
           fits = fits;
         })
+
     none : (xs : List X) (text : List Bool) → Row Spells zero xs text → (xs ≡ []) × (text ≡ [])
     none [] text w = (refl, w.each)
     none (x ∷ xs) text w = let e : suc (length xs) ≡ 0 = w.count in absurd (omega arith)
+
     reading : (xs : List X) (text : List Bool) (s : Spot) (more : List Bool) → IsBytes s.bytes → IsAligned a s → Row Spells zero xs text → rest s ≡ text ++ more → times read zero s ≡ given (xs, moved s (length text))
     reading xs text s more fits al w e =
         let k = none xs text w in
         let p : s.place + 0 ≡ s.place = omega arith in
         rw (k.0, k.1) (ap (λ (place : ℕ). given ([], record { bytes = s.bytes; place = place })) (sym p))
+
     wholly : (xs : List X) (text : List Bool) → Row Spells zero xs text → a ≡ align.Bytes → length text % 8 ≡ 0
     wholly xs text w e = let k = none xs text w in rw k.1 refl
 
@@ -257,11 +267,13 @@ times_more {X} a read Spells n one others =
   where
     joined : X × List X → List X
     joined p = p.0 ∷ p.1
+
     to : (xs : List X) (text : List Bool) → Made joined (λ p. Then (Spells p.0) (Row Spells n p.1)) xs text → Row Spells (suc n) xs text
     to xs text m = subst (λ (ys : List X). Row Spells (suc n) ys text) m.is (record {
       count = omega (arith, m.spelled.behind.count);
       each = record { first = m.spelled.first; second = m.spelled.second; parts = m.spelled.parts; front = m.spelled.front; behind = m.spelled.behind.each };
     })
+
     from : (xs : List X) (text : List Bool) → Row Spells (suc n) xs text → Made joined (λ p. Then (Spells p.0) (Row Spells n p.1)) xs text
     from [] text w = let e : 0 ≡ suc n = w.count in absurd (omega arith)
     from (x ∷ xs) text w = record {

@@ -1,13 +1,13 @@
 -- No spelling is a proper prefix of another, since both are read from the same bits.
-use Rattle.std.proofs.Common.{◌≡◌, ℕ, zero, suc, ◌+◌, ◌-◌, ◌*◌, ◌%◌, ◌^◌, ◌<◌, ◌≤◌, Bool, false, List, [], ◌∷◌, ◌++◌, length, take, drop, get_or, replicate, refl, sym, ap, ◌∙◌, subst, append_assoc, inl, inr, arith}
+use Rattle.std.proofs.Common.{◌≡◌, ℕ, zero, suc, ◌+◌, ◌-◌, ◌*◌, ◌^◌, ◌<◌, ◌≤◌, Bool, false, List, [], ◌∷◌, ◌++◌, length, take, drop, replicate, refl, sym, ap, ◌∙◌, subst, append_assoc, inl, inr, arith}
 use Rattle.std.proofs.lemmas.Bool.{cases_lt}
 use Rattle.std.proofs.lemmas.List.{append-nil, length-append, length-take, length-drop, length-replicate, nil_from_length, take-append-drop}
 use Rattle.exi_bits.specs.declared.align.Align.{Align}
-use Rattle.exi_bits.specs.Bits.{Spot, IsAligned, IsBytes, bits, moved, number_bits, rest, value_of}
+use Rattle.exi_bits.specs.Bits.{Spot, IsBytes, bits, moved, number_bits, value_of}
 use Rattle.exi_bits.specs.Repeat.{Reader}
 use Rattle.exi_bits.proofs.BitLaws.{number_bits-value_of, value_of_below}
 use Rattle.exi_items.specs.Laws.{NoneIsPrefix, ReadIsSpelled, SpelledIsRead}
-use Rattle.exi_items.proofs.Items.{Item, given, ok_is}
+use Rattle.exi_items.proofs.Items.{Item, ok_is}
 
 -- bytes that begin with the bits
 pub record Packed (text : List Bool) : Type 0 where

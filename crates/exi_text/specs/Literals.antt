@@ -2,11 +2,11 @@
 -- point. Where a pattern leaves a set of N characters, each is a number of as many bits as tell N + 1 values
 -- apart: below N it is the place of the character in the sorted set, N says that the code point follows.
 -- A number above N, and a code point that is no character of XML, are faults.
-use Rattle.std.specs.Prelude.{◌≡◌, ◌==◌, ℕ, zero, suc, ◌+◌, Bool, true, ◌&&◌, Option, Some, None, Result, Ok, Err, nat_lt, if◌then◌else◌, List, [], ◌∷◌, ◌++◌, length, get_or}
+use Rattle.std.specs.Prelude.{◌≡◌, ◌==◌, ℕ, suc, ◌+◌, Bool, true, ◌&&◌, Option, Some, None, Result, Ok, nat_lt, if◌then◌else◌, List, [], ◌∷◌, ◌++◌, length, get_or}
 use Rattle.exi_bits.specs.declared.align.Align.{Align}
 use Rattle.exi_bits.specs.declared.fault.Fault.{Fault}
 use Rattle.exi_bits.specs.declared.fault.Kind.TheVariants as kind
-use Rattle.exi_bits.specs.Bits.{Spot, bits, number}
+use Rattle.exi_bits.specs.Bits.{bits, number}
 use Rattle.exi_bits.specs.Repeat.{Reader, times}
 use Rattle.exi_bits.specs.Unsigned.{◌>>=◌, fault_at, field_at, shortest, unsigned_at}
 use Rattle.exi_bits.specs.Widths.{width_for}

@@ -23,6 +23,7 @@
 //! once a call: a place is then one step to its character, and a character is found by binary search.
 #![tactic(auto)]
 
+pub mod laws;
 mod read;
 mod set;
 #[cfg(test)]

@@ -1,4 +1,4 @@
-use Rattle.std.proofs.Common.{◌≡◌, ◌++◌, ◌∷◌, [], ap, ◌∙◌, refl, option_copied}
+use Rattle.std.proofs.Common.{◌∙◌, refl, option_copied}
 use Rattle.std.proofs.lemmas.Result.{err_from_is_err_and}
 use Rattle.exi_bits.specs.Repeat.{times}
 use Rattle.exi_bits.proofs.Repeats.{times_starts, times_goes_on, times_fails, times_done}

@@ -1,8 +1,7 @@
-use Rattle.std.proofs.Common.{◌≡◌, chars, option_copied}
+use Rattle.std.proofs.Common.{option_copied}
 use Rattle.std.proofs.lemmas.Result.{err_from_is_err_and}
 use Rattle.std.proofs.lemmas.Str.{IsUtf8-past_char, chars_past_char}
 use Rattle.exi_names.proofs.Texts.{chars_of_empty}
-use Rattle.exi_text.specs.Literals.{chars_bits, char_bits}
 use Rattle.exi_items.proofs.Pieces.{goes_ends, goes_on, goes_stops}
 use Rattle.exi_text.proofs.Sets.{next_chars, no_chars}
 use Rattle.exi_text.proofs.write.put_chars.Goals as goal

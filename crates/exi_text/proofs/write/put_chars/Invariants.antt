@@ -1,4 +1,4 @@
-use Rattle.std.proofs.Common.{◌≡◌, IsUtf8, chars, option_copied}
+use Rattle.std.proofs.Common.{IsUtf8, chars, option_copied}
 use Rattle.std.specs.Str.Iter.{chars_rest}
 use Rattle.exi_bits.specs.Written.{IsWholeBytes}
 use Rattle.exi_text.specs.Literals.{chars_bits}
