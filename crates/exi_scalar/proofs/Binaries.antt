@@ -1,5 +1,5 @@
 -- A Binary: spelled and read.
-use Rattle.std.proofs.Common.{◌≡◌, ℕ, zero, suc, ◌+◌, ◌*◌, ◌^◌, ◌<◌, ◌≤◌, Bool, true, false, cond, List, [], ◌∷◌, ◌++◌, length, Result, Ok, Err, refl, sym, ap, ◌∙◌, subst, append_assoc, arith}
+use Rattle.std.proofs.Common.{◌≡◌, ℕ, zero, suc, ◌^◌, ◌<◌, Bool, List, [], ◌∷◌, ◌++◌, length, Result, Ok, Err, refl, sym, ap, ◌∙◌, subst, arith}
 use Rattle.exi_bits.specs.declared.align.Align.{Align}
 use Rattle.exi_bits.specs.declared.align.Align.TheVariants as align
 use Rattle.exi_bits.specs.declared.fault.Fault.{Fault}
@@ -8,8 +8,8 @@ use Rattle.exi_bits.specs.Repeat.{Reader, times}
 use Rattle.exi_bits.specs.Unsigned.{◌>>=◌, field_at, shortest, unsigned_at}
 use Rattle.exi_bits.proofs.UnsignedLaws.{shortest_spelled}
 use Rattle.exi_items.specs.Charges.{Charged, text_charge}
-use Rattle.exi_items.specs.Spellings.{Each, Made, SpellsUnsigned, Then}
-use Rattle.exi_items.proofs.Items.{Item, Row, bind_ok, given, ok_is, item_field, item_for, item_made, item_spelled, item_times, item_unsigned}
+use Rattle.exi_items.specs.Spellings.{Each, SpellsUnsigned, Then}
+use Rattle.exi_items.proofs.Items.{Item, Row, bind_ok, given, ok_is, item_field, item_for, item_times, item_unsigned}
 use Rattle.exi_items.proofs.NoPrefix.{item_no_prefix}
 use Rattle.exi_meter.specs.Metering.{Metering}
 use Rattle.exi_names.specs.Seen.{Value, text, boolean, integer, decimal, float, moment, binary, items, name}

@@ -1,12 +1,11 @@
 -- Bits, signs and what is made of them: spelled and read.
-use Rattle.std.proofs.Common.{◌≡◌, ℕ, zero, suc, ◌+◌, ◌-◌, ◌*◌, ◌%◌, ◌^◌, ◌<◌, ◌≤◌, Bool, true, false, cond, eqb, leb, ltb, ℤ, List, [], ◌∷◌, ◌++◌, length, Result, Ok, Err, refl, sym, ap, ◌∙◌, subst, append_assoc, arith}
-use Rattle.std.proofs.lemmas.Bool.{eqb-true, lt-ltb, ltb-true}
+use Rattle.std.proofs.Common.{◌≡◌, ℕ, zero, suc, ◌+◌, ◌-◌, ◌*◌, ◌%◌, ◌^◌, ◌<◌, ◌≤◌, Bool, true, false, cond, eqb, leb, ltb, ℤ, List, ◌++◌, Result, Ok, Err, refl, sym, ap, ◌∙◌, subst, append_assoc, arith}
+use Rattle.std.proofs.lemmas.Bool.{lt-ltb, ltb-true}
 use Rattle.exi_bits.specs.declared.align.Align.{Align}
 use Rattle.exi_bits.specs.declared.align.Align.TheVariants as align
 use Rattle.exi_bits.specs.declared.fault.Fault.{Fault}
 use Rattle.exi_bits.specs.declared.fault.Kind.TheVariants as kind
-use Rattle.exi_bits.specs.Bits.{Spot, Front, bits, IsAligned, IsBytes, moved, number, rest, taken}
-use Rattle.exi_bits.specs.Repeat.{Reader}
+use Rattle.exi_bits.specs.Bits.{Spot, bits, number, taken}
 use Rattle.exi_bits.specs.Unsigned.{◌>>=◌, place_at, shortest, unsigned_at}
 use Rattle.exi_bits.proofs.BitLaws.{pow_up}
 use Rattle.exi_bits.proofs.UnsignedLaws.{shortest_spelled}

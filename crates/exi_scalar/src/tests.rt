@@ -155,8 +155,10 @@ fn binaries_are_written_and_read_back(rt: HostRuntime) -> Result<(), Fail> {
         let mut input = BitIn::new(bytes);
         let mut meter = Meter::new(Limits::of_stream());
         let read = read_binary(alloc, &mut input, true, align, &mut meter);
-        let same =
-            matches!(read, Ok(Val::Bin { hex: true, octets }) if octets.as_slice() == &bytes[1..]);
+        let same = match &read {
+            Ok(Val::Bin { hex: true, octets }) => octets.as_slice() == &bytes[1..],
+            _ => false,
+        };
         assert!(rt; same);
         assert_eq!(rt; input.at(), 24);
         assert_eq!(rt; meter.used().text, 2);

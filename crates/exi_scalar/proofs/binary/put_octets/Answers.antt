@@ -1,6 +1,6 @@
-use Rattle.std.proofs.Common.{◌≡◌, Fits, w8, get_or, arith}
+use Rattle.std.proofs.Common.{Fits, w8, get_or, arith}
 use Rattle.std.proofs.lemmas.Result.{err_from_is_err_and}
-use Rattle.exi_items.proofs.Pieces.{goes_starts, goes_ends, goes_on, goes_waits}
+use Rattle.exi_items.proofs.Pieces.{goes_ends, goes_on, goes_waits}
 use Rattle.exi_scalar.proofs.Octets.{next_octet, no_octets}
 use Rattle.exi_scalar.proofs.binary.put_octets.Goals as goal
 

@@ -1,4 +1,4 @@
-use Rattle.std.proofs.Common.{◌≡◌, drop}
+use Rattle.std.proofs.Common.{drop}
 use Rattle.exi_bits.specs.Bits.{bits}
 use Rattle.exi_bits.specs.Written.{IsWholeBytes}
 use Rattle.exi_items.proofs.Pieces.{Goes}
