@@ -1,0 +1,67 @@
+//! The cases that write.
+
+use crate::fields::{align_of, set_of, text_of, zeros};
+use crate::show;
+use exi_bits::Align;
+use exi_text::{is_writable, write_chars};
+use std::alloc::{AllocError, Global};
+
+/// `wbit ALIGN WIDTH SKIP NUMBER`
+pub fn number(
+    alloc: Global,
+    align: &str,
+    width: &str,
+    skip: &str,
+    number: &str,
+) -> Result<Option<String>, AllocError> {
+    let (Some(align), Ok(width)) = (align_of(align), width.parse::<u32>()) else {
+        return Ok(None);
+    };
+    let (Ok(skip), Ok(number)) = (skip.parse::<u64>(), number.parse::<u64>()) else {
+        return Ok(None);
+    };
+    let Some(mut out) = zeros(alloc, align, skip)? else {
+        return Ok(None);
+    };
+    if width > 64 || u128::from(number) >= 1 << width {
+        return Ok(None);
+    }
+    out.put(number, width, align)?;
+    show::bits(alloc, &out)
+}
+
+/// `wuint SKIP NUMBER`
+pub fn unsigned(alloc: Global, skip: &str, number: &str) -> Result<Option<String>, AllocError> {
+    let (Ok(skip), Ok(number)) = (skip.parse::<u64>(), number.parse::<u128>()) else {
+        return Ok(None);
+    };
+    let Some(mut out) = zeros(alloc, Align::Bits, skip)? else {
+        return Ok(None);
+    };
+    out.unsigned(number)?;
+    show::bits(alloc, &out)
+}
+
+/// `wchars SET ALIGN SKIP TEXT`
+pub fn chars(
+    alloc: Global,
+    set: &str,
+    align: &str,
+    skip: &str,
+    text: &str,
+) -> Result<Option<String>, AllocError> {
+    let (Some(align), Ok(skip)) = (align_of(align), skip.parse::<u64>()) else {
+        return Ok(None);
+    };
+    let (Some(set), Some(text)) = (set_of(alloc, set)?, text_of(alloc, text)?) else {
+        return Ok(None);
+    };
+    let Some(mut out) = zeros(alloc, align, skip)? else {
+        return Ok(None);
+    };
+    if !is_writable(&text) {
+        return Ok(None);
+    }
+    write_chars(alloc, &mut out, &text, set.as_ref(), align)?;
+    show::bits(alloc, &out)
+}

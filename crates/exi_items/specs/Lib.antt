@@ -1,0 +1,4 @@
+pub mod Charges
+pub mod Fronts
+pub mod Laws
+pub mod Spellings

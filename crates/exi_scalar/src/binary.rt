@@ -1,0 +1,132 @@
+ghost use Rattle.std.specs.Prelude.{◌≡◌, ◌++◌, length, OnOk, OnErr, IfErr};
+ghost use Rattle.exi_bits.specs.Bits.{IsAligned, bits};
+ghost use Rattle.exi_bits.specs.Repeat.{times};
+ghost use Rattle.exi_bits.specs.Unsigned.{Stops, field_at, unsigned_at};
+ghost use Rattle.exi_bits.specs.Written.{IsWholeBytes};
+ghost use Rattle.exi_items.specs.Charges.{Charges, meter_after};
+ghost use Rattle.exi_items.specs.Fronts.{HoldsFront};
+ghost use Rattle.exi_names.specs.Seen.{seen};
+ghost use Rattle.exi_scalar.specs.Scalars.{IsBinary, after_count, binary_at, binary_bits};
+
+use exi_bits::{Align, BitIn, BitOut, Stop};
+use exi_items::charge_text;
+use exi_meter::Meter;
+use exi_names::{Octets, Val};
+use std::alloc::{AllocError, Global};
+
+/// So many octets. After an `Err` the place is anything.
+fn read_octets(
+    alloc: Global,
+    input: &mut BitIn<'_>,
+    count: u128,
+    align: Align,
+) -> Result<Octets, Stop>
+    requires aligned { IsAligned align input.old }
+    ensures read { Stops (λ o. o) result input.new (times (field_at 8 align) count input.old) }
+    ensures bytes { input.new.bytes ≡ input.old.bytes }
+    ensures aligned { IsAligned align input.new }
+{
+    let mut octets = Octets::new(alloc);
+    for _ in 0..count {
+        let octet = input.number(8, align)?;
+        octets.push(octet as u8)?;
+    }
+    Ok(octets)
+}
+
+/// Reads a Binary. After an `Err` the place is anything.
+#[tactic(auto, unfolding(crate::specs::Scalars::binary_at))]
+fn binary(
+    alloc: Global,
+    input: &mut BitIn<'_>,
+    hex: bool,
+    align: Align,
+    meter: &mut Meter,
+) -> Result<Val, Stop>
+    requires aligned { IsAligned align input.old }
+    ensures read { Charges seen result input.new meter.new (binary_at hex align (record { spot = input.old; meter = meter.old })) }
+    ensures meter { meter.new ≡ after_count meter.old (unsigned_at input.old) }
+    ensures bytes { input.new.bytes ≡ input.old.bytes }
+    ensures aligned { IsAligned align input.new }
+{
+    let bit = input.at();
+    let count = input.unsigned()?;
+    charge_text(meter, count, bit)?;
+    let octets = read_octets(alloc, input, count, align)?;
+    Ok(Val::Bin { hex, octets })
+}
+
+/// Reads a Binary (W3C EXI, section 7.1.1): the number of its octets as an Unsigned Integer, which is
+/// charged to the meter, and the octets. Under [`Align::Bytes`] the place has to be a whole byte.
+///
+/// # Errors
+///
+/// The place is then as before. Where memory ran out the meter is too; after a fault the charge stays.
+///
+/// - `Short` and `TooWide` at the number, where it is so.
+/// - `TextLimit` at the number, where so many octets would pass the limit; nothing is charged.
+/// - `Short` at the octet at which the bits end.
+/// - `Memory` where memory is refused.
+pub fn read_binary(
+    alloc: Global,
+    input: &mut BitIn<'_>,
+    hex: bool,
+    align: Align,
+    meter: &mut Meter,
+) -> Result<Val, Stop>
+    requires aligned { IsAligned align input.old }
+    ensures read { Charges seen result input.new meter.new (binary_at hex align (record { spot = input.old; meter = meter.old })) }
+    ensures place { OnErr result (input.new ≡ input.old) }
+    ensures meter { IfErr result (λ stop. meter.new ≡ meter_after stop meter.old (after_count meter.old (unsigned_at input.old))) }
+    ensures bytes { input.new.bytes ≡ input.old.bytes }
+    ensures aligned { IsAligned align input.new }
+{
+    let start = input.at();
+    let before = *meter;
+    match binary(alloc, input, hex, align, meter) {
+        Ok(value) => Ok(value),
+        Err(stop) => {
+            input.back(start);
+            if let Stop::Memory = stop {
+                *meter = before;
+            }
+            Err(stop)
+        }
+    }
+}
+
+/// Adds the octets, eight bits each.
+fn put_octets(out: &mut BitOut, octets: &[u8], align: Align) -> Result<(), AllocError>
+    requires aligned { IsWholeBytes align out.old }
+    ensures ok { OnOk result (out.new ≡ out.old ++ bits octets.now) }
+    ensures err { OnErr result (HoldsFront out.old (bits octets.now) out.new) }
+    ensures aligned { IsWholeBytes align out.new }
+{
+    for octet in octets {
+        out.put(u64::from(*octet), 8, align)?;
+    }
+    Ok(())
+}
+
+/// Writes a Binary, as [`read_binary`] reads it, with the shortest Unsigned Integer. The value has to be
+/// a binary. Under [`Align::Bytes`] there have to be whole bytes of bits.
+///
+/// # Errors
+///
+/// Where there is no memory. The bits then end with a front of the spelling, maybe none of it.
+pub fn write_binary(out: &mut BitOut, value: &Val, align: Align) -> Result<(), AllocError>
+    requires binary { IsBinary (seen value.now) }
+    requires aligned { IsWholeBytes align out.old }
+    ensures ok { OnOk result (out.new ≡ out.old ++ binary_bits (seen value.now)) }
+    ensures err { OnErr result (HoldsFront out.old (binary_bits (seen value.now)) out.new) }
+    ensures aligned { IsWholeBytes align out.new }
+{
+    match value {
+        Val::Bin { hex: _, octets } => {
+            let octets = octets.as_slice();
+            out.unsigned(octets.len() as u128)?;
+            put_octets(out, octets, align)
+        }
+        _ => unreachable!(),
+    }
+}

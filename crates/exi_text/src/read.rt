@@ -1,0 +1,164 @@
+ghost use Rattle.std.specs.Prelude.{◌≡◌, ◌%◌, IfErr, OnErr, option_copied};
+ghost use Rattle.exi_bits.specs.Bits.{IsAligned};
+ghost use Rattle.exi_bits.specs.Unsigned.{Reads, ReadsSome, Stops};
+ghost use Rattle.exi_bits.specs.Repeat.{times};
+ghost use Rattle.exi_items.specs.Charges.{Charges, after_text, meter_after};
+ghost use Rattle.exi_text.specs.Literals.{code_at, in_set_at, char_at, chars_at};
+
+use crate::set::letters_of;
+use exi_bits::{Align, BitIn, Fault, Kind, Stop, bits_for};
+use exi_items::charge_text;
+use exi_meter::Meter;
+use exi_names::{Alphabet, Txt, xml_char};
+use std::alloc::Global;
+
+/// A character by its code point, an Unsigned Integer.
+///
+/// # Errors
+///
+/// At the first bit of the code point: its own faults, and `BadChar` where it is no XML character.
+#[tactic(auto, unfolding(crate::specs::Literals::code_at))]
+fn code(input: &mut BitIn<'_>) -> Result<char, Fault>
+    ensures read { Reads (λ x. x) result input.old input.new (code_at input.old) }
+    ensures bytes { input.new.bytes ≡ input.old.bytes }
+    ensures phase { input.new.place % 8 ≡ input.old.place % 8 }
+{
+    let bit = input.at();
+    let code = input.unsigned()?;
+    match xml_char(code) {
+        Some(c) => Ok(c),
+        None => {
+            input.back(bit);
+            Err(Fault {
+                kind: Kind::BadChar,
+                bit,
+            })
+        }
+    }
+}
+
+/// A character by its place in the set, or by its code point behind the escape. After an `Err` the place
+/// is anything.
+#[tactic(auto, unfolding(crate::specs::Literals::in_set_at))]
+fn in_set(input: &mut BitIn<'_>, letters: &[char], align: Align) -> Result<char, Fault>
+    requires aligned { IsAligned align input.old }
+    ensures read { ReadsSome (λ x. x) result input.new (in_set_at letters.now align input.old) }
+    ensures bytes { input.new.bytes ≡ input.old.bytes }
+    ensures aligned { IsAligned align input.new }
+{
+    let bit = input.at();
+    let count = letters.len() as u64;
+    let place = input.number(bits_for(count + 1), align)?;
+    if place < count {
+        return Ok(letters[place as usize]);
+    }
+    if place == count {
+        return code(input);
+    }
+    Err(Fault {
+        kind: Kind::BadChar,
+        bit,
+    })
+}
+
+/// A character, in a set or not. After an `Err` the place is anything.
+fn character(input: &mut BitIn<'_>, letters: Option<&[char]>, align: Align) -> Result<char, Fault>
+    requires aligned { IsAligned align input.old }
+    ensures read { ReadsSome (λ x. x) result input.new (char_at (option_copied letters.entry) align input.old) }
+    ensures bytes { input.new.bytes ≡ input.old.bytes }
+    ensures aligned { IsAligned align input.new }
+{
+    match letters {
+        None => code(input),
+        Some(letters) => in_set(input, letters, align),
+    }
+}
+
+/// So many characters. After an `Err` the place is anything.
+fn characters(
+    alloc: Global,
+    input: &mut BitIn<'_>,
+    count: u128,
+    letters: Option<&[char]>,
+    align: Align,
+) -> Result<Txt, Stop>
+    requires aligned { IsAligned align input.old }
+    ensures read { Stops (λ t. t) result input.new (times (char_at (option_copied letters.entry) align) count input.old) }
+    ensures bytes { input.new.bytes ≡ input.old.bytes }
+    ensures aligned { IsAligned align input.new }
+{
+    let mut text = Txt::new(alloc);
+    for _ in 0..count {
+        let c = character(input, letters, align)?;
+        text.push(c)?;
+    }
+    Ok(text)
+}
+
+/// Charges the characters, and reads them. After an `Err` the place is anything.
+#[tactic(auto, unfolding(crate::specs::Literals::chars_at))]
+fn charged_chars(
+    alloc: Global,
+    input: &mut BitIn<'_>,
+    count: u128,
+    set: Option<&Alphabet>,
+    align: Align,
+    meter: &mut Meter,
+) -> Result<Txt, Stop>
+    requires aligned { IsAligned align input.old }
+    ensures read { Charges (λ t. t) result input.new meter.new (chars_at (option_copied set.entry) align count (record { spot = input.old; meter = meter.old })) }
+    ensures meter { meter.new ≡ after_text meter.old count }
+    ensures bytes { input.new.bytes ≡ input.old.bytes }
+    ensures aligned { IsAligned align input.new }
+{
+    charge_text(meter, count, input.at())?;
+    match set {
+        None => characters(alloc, input, count, None, align),
+        Some(set) => {
+            let letters = letters_of(alloc, set)?;
+            characters(alloc, input, count, Some(letters.as_slice()), align)
+        }
+    }
+}
+
+/// Reads the characters of a string whose length is `count`, with a set of characters or without
+/// (W3C EXI, sections 7.1.10 and 7.1.10.1). Their number is charged to the meter before the first.
+/// Under [`Align::Bytes`] the place has to be a whole byte.
+///
+/// # Errors
+///
+/// The place is then as before. Where memory ran out the meter is too; after a fault the charge stays.
+///
+/// - `TextLimit` at the first character where the characters would pass the limit; nothing is charged.
+/// - `Short` and `TooWide` at the number or the code point that is so.
+/// - `BadChar` at the first bit of a code point that is no XML character, or of a number above that of
+///   the set's characters.
+/// - `Memory` where memory is refused.
+pub fn read_chars(
+    alloc: Global,
+    input: &mut BitIn<'_>,
+    count: u128,
+    set: Option<&Alphabet>,
+    align: Align,
+    meter: &mut Meter,
+) -> Result<Txt, Stop>
+    requires aligned { IsAligned align input.old }
+    ensures read { Charges (λ t. t) result input.new meter.new (chars_at (option_copied set.entry) align count (record { spot = input.old; meter = meter.old })) }
+    ensures place { OnErr result (input.new ≡ input.old) }
+    ensures meter { IfErr result (λ stop. meter.new ≡ meter_after stop meter.old (after_text meter.old count)) }
+    ensures bytes { input.new.bytes ≡ input.old.bytes }
+    ensures aligned { IsAligned align input.new }
+{
+    let start = input.at();
+    let before = *meter;
+    match charged_chars(alloc, input, count, set, align, meter) {
+        Ok(text) => Ok(text),
+        Err(stop) => {
+            input.back(start);
+            if let Stop::Memory = stop {
+                *meter = before;
+            }
+            Err(stop)
+        }
+    }
+}
