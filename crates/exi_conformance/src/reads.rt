@@ -1,10 +1,13 @@
 //! The cases that read.
 
+ghost use Rattle.exi_bits.specs.Bits.{IsAligned};
+
 use crate::fields::{align_of, bytes_of, open, set_of};
 use crate::show;
-use exi_bits::{Align, Fault, Stop};
+use exi_bits::{Align, BitIn, Fault, Stop};
 use exi_meter::{Limits, Meter};
-use exi_names::Val;
+use exi_moment::read_moment;
+use exi_names::{MomentKind, Val};
 use exi_scalar::{read_binary, read_boolean, read_decimal, read_float, read_integer};
 use exi_text::read_chars;
 use std::alloc::{AllocError, Global};
@@ -62,6 +65,30 @@ fn stops(read: Result<Val, Fault>) -> Result<Val, Stop> {
     }
 }
 
+/// The kind of dates or times of that name.
+fn moment_kind(name: &str) -> Option<MomentKind> {
+    match name {
+        "gYear" => Some(MomentKind::GYear),
+        "gYearMonth" => Some(MomentKind::GYearMonth),
+        "date" => Some(MomentKind::Date),
+        "dateTime" => Some(MomentKind::DateTime),
+        "gMonth" => Some(MomentKind::GMonth),
+        "gMonthDay" => Some(MomentKind::GMonthDay),
+        "gDay" => Some(MomentKind::GDay),
+        "time" => Some(MomentKind::Time),
+        _ => None,
+    }
+}
+
+fn moment(input: &mut BitIn<'_>, kind: MomentKind, align: Align) -> Result<Val, Stop>
+    requires { IsAligned align input.old }
+{
+    match read_moment(input, kind, align) {
+        Ok(moment) => Ok(Val::Mom(moment)),
+        Err(fault) => Err(Stop::Fault(fault)),
+    }
+}
+
 /// `read DATATYPE ALIGN SKIP HEX`
 pub fn value(
     alloc: Global,
@@ -91,7 +118,10 @@ pub fn value(
         "float" => stops(read_float(&mut input, align)),
         "hex" => read_binary(alloc, &mut input, true, align, &mut meter),
         "base64" => read_binary(alloc, &mut input, false, align, &mut meter),
-        _ => return Ok(None),
+        _ => match moment_kind(kind) {
+            Some(kind) => moment(&mut input, kind, align),
+            None => return Ok(None),
+        },
     };
     match read {
         Ok(value) => show::value(alloc, &value, input.at()),

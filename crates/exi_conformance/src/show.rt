@@ -2,7 +2,7 @@
 
 use base64::engine::general_purpose::STANDARD;
 use exi_bits::{BitOut, Fault, Stop};
-use exi_names::Val;
+use exi_names::{Moment, MomentKind, Val};
 use std::alloc::{AllocError, Global};
 
 /// Bytes as hex digits, `-` where there are none.
@@ -76,6 +76,64 @@ fn float(alloc: Global, mantissa: i64, exponent: i16) -> Result<String, AllocErr
     )
 }
 
+/// The year, month and day of a kind, as far as it has them.
+fn date_text(alloc: Global, moment: &Moment) -> Result<String, AllocError> {
+    let sign = if moment.year < 0 { "-" } else { "" };
+    let year = moment.year.unsigned_abs();
+    let month = moment.month;
+    let day = moment.day;
+    match moment.kind {
+        MomentKind::GYear => format!(in alloc; "{sign}{year:04}"),
+        MomentKind::GYearMonth => format!(in alloc; "{sign}{year:04}-{month:02}"),
+        MomentKind::Date => format!(in alloc; "{sign}{year:04}-{month:02}-{day:02}"),
+        MomentKind::DateTime => format!(in alloc; "{sign}{year:04}-{month:02}-{day:02}T"),
+        MomentKind::GMonth => format!(in alloc; "--{month:02}"),
+        MomentKind::GMonthDay => format!(in alloc; "--{month:02}-{day:02}"),
+        MomentKind::GDay => format!(in alloc; "---{day:02}"),
+        MomentKind::Time => Ok(String::new(alloc)),
+    }
+}
+
+/// The time of day, with its fraction.
+fn time_text(alloc: Global, moment: &Moment) -> Result<String, AllocError> {
+    let hour = moment.hour;
+    let minute = moment.minute;
+    let second = moment.second;
+    match moment.fraction {
+        None => format!(in alloc; "{hour:02}:{minute:02}:{second:02}"),
+        Some(digits) => {
+            let fraction = reversed(alloc, digits)?;
+            format!(in alloc; "{hour:02}:{minute:02}:{second:02}.{fraction}")
+        }
+    }
+}
+
+/// The zone, `Z` where it is none.
+fn zone_text(alloc: Global, zone: i16) -> Result<String, AllocError> {
+    if zone == 0 {
+        return String::from_str(alloc, "Z");
+    }
+    let sign = if zone < 0 { "-" } else { "+" };
+    let minutes = zone.unsigned_abs();
+    let hour = minutes / 60;
+    let minute = minutes % 60;
+    format!(in alloc; "{sign}{hour:02}:{minute:02}")
+}
+
+/// A date or a time as XML Schema writes it.
+fn moment_text(alloc: Global, moment: &Moment) -> Result<String, AllocError> {
+    let date = date_text(alloc, moment)?;
+    let time = match moment.kind {
+        MomentKind::DateTime | MomentKind::Time => time_text(alloc, moment)?,
+        _ => String::new(alloc),
+    };
+    let zone = match moment.zone {
+        None => String::new(alloc),
+        Some(zone) => zone_text(alloc, zone)?,
+    };
+    format!(in alloc; "{date}{time}{zone}")
+}
+
 /// A value's kind and canonical text, and the place behind it.
 pub fn value(alloc: Global, value: &Val, bit: u64) -> Result<Option<String>, AllocError> {
     let text = match value {
@@ -106,6 +164,10 @@ pub fn value(alloc: Global, value: &Val, bit: u64) -> Result<Option<String>, All
             let word = if *hex { "hex" } else { "base64" };
             let shown = octets(alloc, *hex, bytes.as_slice())?;
             format!(in alloc; "{word} {shown} {bit}")?
+        }
+        Val::Mom(moment) => {
+            let shown = moment_text(alloc, moment)?;
+            format!(in alloc; "mom {shown} {bit}")?
         }
         _ => return Ok(None),
     };
