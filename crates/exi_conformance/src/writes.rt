@@ -23,7 +23,16 @@ pub fn number(
     let Some(mut out) = zeros(alloc, align, skip)? else {
         return Ok(None);
     };
-    if width > 64 || u128::from(number) >= 1 << width {
+    if width > 64 {
+        return Ok(None);
+    }
+    // In whole bytes a number is spelled alike for each width that takes these bytes, so also where it has
+    // more bits than its width.
+    let width = match align {
+        Align::Bits => width,
+        Align::Bytes => (width + 7) / 8 * 8,
+    };
+    if u128::from(number) >= 1 << width {
         return Ok(None);
     }
     out.put(number, width, align)?;
