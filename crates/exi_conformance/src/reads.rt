@@ -4,7 +4,7 @@ ghost use Rattle.exi_bits.specs.Bits.{IsAligned};
 
 use crate::fields::{align_of, bytes_of, open, set_of};
 use crate::show;
-use exi_bits::{Align, BitIn, Fault, Stop};
+use exi_bits::{Align, BitIn, Fault, Kind, Stop};
 use exi_meter::{Limits, Meter};
 use exi_moment::read_moment;
 use exi_names::{MomentKind, Val};
@@ -12,13 +12,25 @@ use exi_scalar::{read_binary, read_boolean, read_decimal, read_float, read_integ
 use exi_text::read_chars;
 use std::alloc::{AllocError, Global};
 
+/// Behind the last byte, where no reader starts, an item lacks bits.
+fn behind(alloc: Global, bytes: &[u8], skip: u64) -> Result<Option<String>, AllocError> {
+    if skip / 8 < bytes.len() as u64 {
+        return Ok(None);
+    }
+    let fault = Fault {
+        kind: Kind::Short,
+        bit: skip,
+    };
+    Ok(Some(show::fault(alloc, fault)?))
+}
+
 /// `uint SKIP HEX`
 pub fn unsigned(alloc: Global, skip: &str, hex: &str) -> Result<Option<String>, AllocError> {
     let (Ok(skip), Some(bytes)) = (skip.parse::<u64>(), bytes_of(alloc, hex)?) else {
         return Ok(None);
     };
     let Some(mut input) = open(bytes.as_slice(), Align::Bits, skip) else {
-        return Ok(None);
+        return behind(alloc, bytes.as_slice(), skip);
     };
     match input.unsigned() {
         Ok(value) => {
