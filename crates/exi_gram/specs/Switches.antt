@@ -1,0 +1,42 @@
+-- The options of a stream (W3C EXI 1.0, section 5.4) as what they switch on.
+use Rattle.std.specs.Prelude.{ℕ, Bool, ◌==◌, if◌then◌else◌}
+use Rattle.std.specs.Int.RustNames.{bit_and}
+use Rattle.exi_bits.specs.declared.align.Align.{Align}
+use Rattle.exi_bits.specs.declared.align.Align.TheVariants as align
+use Rattle.exi_gram.specs.declared.options.Options.{Options}
+
+abbrev is_on : ℕ → Options → Bool
+is_on flag o = bit_and o.flags.0 flag == flag
+
+-- only what the schema describes is in the stream
+abbrev pub strict : Options → Bool
+strict o = is_on 1 o
+
+-- the stream is a fragment, and not a document
+abbrev pub fragment : Options → Bool
+fragment o = is_on 2 o
+
+-- elements may be self-contained
+abbrev pub self_contained : Options → Bool
+self_contained o = is_on 4 o
+
+-- the stream is byte-aligned, and not bit-packed
+abbrev pub byte_aligned : Options → Bool
+byte_aligned o = is_on 8 o
+
+-- comments, processing instructions, DTDs with entity references, and prefixes are preserved
+abbrev pub comments : Options → Bool
+comments o = is_on 16 o
+
+abbrev pub processing_instructions : Options → Bool
+processing_instructions o = is_on 32 o
+
+abbrev pub dtd : Options → Bool
+dtd o = is_on 64 o
+
+abbrev pub prefixes : Options → Bool
+prefixes o = is_on 128 o
+
+-- how the numbers of the stream lie
+abbrev pub align_of : Options → Align
+align_of o = if byte_aligned o then align.Bytes else align.Bits

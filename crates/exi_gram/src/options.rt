@@ -1,0 +1,79 @@
+use bitflags::{Flag, Flags, bitflag_items};
+use exi_names::Txt;
+
+/// Which options of the stream are on (EXI 1.0, section 5.4).
+#[derive(Clone, Copy, PartialEq, Eq, Debug)]
+pub struct OptionFlags(u8);
+
+bitflag_items! {
+    impl OptionFlags: u8 {
+        const STRICT = 1;
+        const FRAGMENT = 2;
+        const SELF_CONTAINED = 4;
+        const BYTES = 8;
+        const COMMENTS = 16;
+        const PIS = 32;
+        const DTD = 64;
+        const PREFIXES = 128;
+    }
+}
+
+impl Flags for OptionFlags {
+    type Bits = u8;
+
+    ghost use Rattle.std.specs.Prelude.{⊤, [], ◌∷◌, codes};
+
+    ghost exact = { ⊤ };
+
+    ghost table = {
+        (codes "STRICT", 1)
+        ∷ (codes "FRAGMENT", 2)
+        ∷ (codes "SELF_CONTAINED", 4)
+        ∷ (codes "BYTES", 8)
+        ∷ (codes "COMMENTS", 16)
+        ∷ (codes "PIS", 32)
+        ∷ (codes "DTD", 64)
+        ∷ (codes "PREFIXES", 128)
+        ∷ []
+    };
+
+    ghost set_of = { λ f. f.0 };
+
+    fn flags<'a>() -> &'a [Flag<OptionFlags>] {
+        OptionFlags::FLAGS
+    }
+
+    fn bits(&self) -> u8 {
+        self.0
+    }
+
+    fn from_bits_retain(bits: u8) -> OptionFlags {
+        OptionFlags(bits)
+    }
+}
+
+/// What the header says of the schema (EXI 1.0, section 5.4, schemaId).
+#[derive(Debug, Drop)]
+pub enum SchemaWord {
+    /// Nothing.
+    Absent,
+    /// That there is none.
+    Nil,
+    /// Its name.
+    Id(Txt),
+}
+
+/// The options of a stream (EXI 1.0, section 5.4).
+#[derive(Debug, Drop)]
+pub struct Options {
+    /// Which are on.
+    pub flags: OptionFlags,
+    /// What is said of the schema.
+    pub schema: SchemaWord,
+    /// The block size; without effect where nothing is compressed.
+    pub block: u128,
+    /// The most characters of a value that the string tables take (valueMaxLength); unbounded where absent.
+    pub most: Option<u128>,
+    /// How many values the string tables hold (valuePartitionCapacity); unbounded where absent.
+    pub capacity: Option<u128>,
+}
