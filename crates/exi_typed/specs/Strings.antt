@@ -1,0 +1,154 @@
+-- How names and strings are read, as hits and misses in the string tables (W3C EXI 1.0, sections 7.1.7, 7.1.10 and
+-- 7.3). A text that stands in a partition is told by its place there, any other by its length and its characters,
+-- and is then added at the partition's end.
+--
+-- Each text charges its number of characters as soon as its length is known: one that is spelled out before its
+-- first character, one that is told by a place once the place is read (own). A text that is spelled out though it
+-- stands there already is added once more. Its second place raises the counts alone: whatever is read goes on as
+-- the least place of its text (own).
+--
+-- With bounded value partitions (valueMaxLength, valuePartitionCapacity: section 7.3.3) `values`, `name_values`,
+-- `live_at` and `with_value` of the string tables change, and a place that is not live is then BadPlace here.
+use Rattle.std.specs.Prelude.{ℕ, ◌+◌, ◌-◌, ◌==◌, Bool, true, false, List, [], length, Option, Some, None, unwrap_or, Result, Ok, Err, if◌then◌else◌}
+use Rattle.exi_bits.specs.declared.align.Align.{Align}
+use Rattle.exi_bits.specs.declared.fault.Fault.{Fault}
+use Rattle.exi_bits.specs.declared.fault.Kind.TheVariants as kind
+use Rattle.exi_bits.specs.Bits.{Spot}
+use Rattle.exi_bits.specs.Repeat.{Reader}
+use Rattle.exi_bits.specs.Unsigned.{◌>>=◌, fault_at, place_at, unsigned_at}
+use Rattle.exi_bits.specs.Widths.{width_for}
+use Rattle.exi_items.specs.Charges.{Charged, text_charge}
+use Rattle.exi_names.specs.declared.names.NameId.{NameId}
+use Rattle.exi_names.specs.declared.names.QName.{QName}
+use Rattle.exi_tables.specs.Partitions.{Partitions, least_place, live_at, locals, name_values, prefixes, uris, values, with_local, with_prefix, with_uri, with_value}
+use Rattle.exi_text.specs.Literals.{chars_at}
+use Rattle.exi_typed.specs.Courses.{Beside, Course, Courser, at_spot_of}
+
+-- ---- one text
+-- how a missed text is added
+abbrev pub Growth : Type 0
+Growth = Partitions → List ℕ → Partitions
+
+-- not at all
+abbrev pub no_growth : Growth
+no_growth p text = p
+
+-- a text that stands in the tables, charged
+unfoldable pub charged_at : List ℕ → Courser (List ℕ)
+charged_at text c = do
+  meter ← text_charge (length text) c.spot.place c.beside.meter
+  Ok (text, record { spot = c.spot; beside = record { meter = meter; tables = c.beside.tables } })
+
+-- the text that a place tells; BadPlace at the place's first bit where it tells none
+abbrev pub placed_at : Spot → Option (List ℕ) → Courser (List ℕ)
+placed_at s (Some text) c = charged_at text c
+placed_at s None c = fault_at kind.BadPlace s
+
+-- a hit: the place in the partition, in the fewest bits that tell its places apart
+unfoldable pub hit_at : Align → List (List ℕ) → Courser (List ℕ)
+hit_at a partition c = do
+  place ← place_at (width_for (length partition)) a (length partition) c.spot
+  placed_at c.spot (live_at partition place.0) (at_spot_of c place.1)
+
+-- a miss of so many characters
+unfoldable pub missed_at : Option (List ℕ) → Align → Growth → ℕ → Courser (List ℕ)
+missed_at set a grow count c = do
+  text ← chars_at set a count (record { spot = c.spot; meter = c.beside.meter })
+  Ok (text.0, record { spot = text.1.spot; beside = record { meter = text.1.meter; tables = grow c.beside.tables text.0 } })
+
+-- a literal: its length in characters, and its characters (7.1.10)
+unfoldable pub literal_at : Align → Growth → Courser (List ℕ)
+literal_at a grow c = do
+  count ← unsigned_at c.spot
+  missed_at None a grow count.0 (at_spot_of c count.1)
+
+-- a place or a literal, told apart by one number: 0 is a miss, and a literal follows; k is a hit at place k - 1
+unfoldable pub indexed_at : Align → List (List ℕ) → Growth → Courser (List ℕ)
+indexed_at a partition grow c = do
+  code ← place_at (width_for (length partition + 1)) a (length partition + 1) c.spot
+  if code.0 == 0 then literal_at a grow (at_spot_of c code.1) else placed_at c.spot (live_at partition (code.0 - 1)) (at_spot_of c code.1)
+
+-- ---- names
+-- a URI (7.3.2)
+abbrev pub uri_at : Align → Courser (List ℕ)
+uri_at a c = indexed_at a (uris c.beside.tables) with_uri c
+
+-- a local name under a URI: 0 is a hit, and the place follows; n is a miss of n - 1 characters (7.3.3)
+unfoldable pub local_at : Align → ℕ → Courser (List ℕ)
+local_at a uri c = do
+  code ← unsigned_at c.spot
+  if code.0 == 0 then hit_at a (locals c.beside.tables uri) (at_spot_of c code.1) else missed_at None a (λ p. with_local p uri) (code.0 - 1) (at_spot_of c code.1)
+
+abbrev pub told_prefix : Align → List (List ℕ) → Courser (Option (List ℕ))
+told_prefix a [] c = Ok (None, c)
+told_prefix a partition c = do
+  text ← hit_at a partition c
+  Ok (Some text.0, text.1)
+
+-- the prefix of a name under a URI, where prefixes are kept: a place among the URI's prefixes. Where it has
+-- none, nothing is coded and the name has no prefix (7.1.7)
+abbrev pub prefix_at : Bool → Align → ℕ → Courser (Option (List ℕ))
+prefix_at true a uri c = told_prefix a (prefixes c.beside.tables uri) c
+prefix_at false a uri c = Ok (None, c)
+
+-- the least place of a text that stands in the partition
+abbrev pub place_in : List (List ℕ) → List ℕ → ℕ
+place_in partition text = unwrap_or (least_place partition text) 0
+
+-- a name, and its places in the tables
+pub record Named : Type 0 where
+  pub id : NameId
+  pub name : QName
+
+abbrev named : ℕ → List ℕ → List ℕ → Option (List ℕ) → Partitions → Named
+named uri text local prefix p = record {
+  id = record { uri = uri; local = place_in (locals p uri) local };
+  name = record { uri = text; local = local; prefix = prefix };
+}
+
+-- the local name and the prefix of a name under a URI
+unfoldable pub name_under : Bool → Align → ℕ → List ℕ → Courser Named
+name_under keep a uri text c = do
+  local ← local_at a uri c
+  prefix ← prefix_at keep a uri local.1
+  Ok (named uri text local.0 prefix.0 prefix.1.beside.tables, prefix.1)
+
+-- a qualified name: its URI, its local name and, where prefixes are kept, its prefix (7.1.7)
+unfoldable pub name_at : Bool → Align → Courser Named
+name_at keep a c = do
+  uri ← uri_at a c
+  name_under keep a (place_in (uris uri.1.beside.tables) uri.0) uri.0 uri.1
+
+-- the texts of a name that the event code tells, charged as if they were coded, and its prefix
+unfoldable pub known_at : Bool → Align → NameId → Courser Named
+known_at keep a id c = do
+  uri ← placed_at c.spot (live_at (uris c.beside.tables) id.uri) c
+  local ← placed_at c.spot (live_at (locals uri.1.beside.tables id.uri) id.local) uri.1
+  prefix ← prefix_at keep a id.uri local.1
+  Ok (record { id = id; name = record { uri = uri.0; local = local.0; prefix = prefix.0 } }, prefix.1)
+
+-- a namespace declaration
+pub record Declaration : Type 0 where
+  pub uri : List ℕ
+  pub prefix : List ℕ
+  -- whether the prefix is that of the element itself
+  pub element : Bool
+
+abbrev is_one : ℕ → Bool
+is_one n = n == 1
+
+-- a URI, a prefix in that URI's partition, told as a URI is, and one bit (7.1.7, section 4)
+unfoldable pub declaration_at : Align → Courser Declaration
+declaration_at a c = do
+  uri ← uri_at a c
+  prefix ← indexed_at a (prefixes uri.1.beside.tables (place_in (uris uri.1.beside.tables) uri.0)) (λ p. with_prefix p (place_in (uris uri.1.beside.tables) uri.0)) uri.1
+  flag ← place_at 1 a 2 prefix.1.spot
+  Ok (record { uri = uri.0; prefix = prefix.0; element = is_one flag.0 }, at_spot_of prefix.1 flag.1)
+
+-- ---- values
+-- a string value under a name: 0 is a hit among the name's own values and 1 a hit among all, each with its place;
+-- n is a miss of n - 2 characters, with a set of characters or without (7.3.3, 7.1.10)
+unfoldable pub value_at : Option (List ℕ) → Align → NameId → Courser (List ℕ)
+value_at set a name c = do
+  code ← unsigned_at c.spot
+  if code.0 == 0 then hit_at a (name_values c.beside.tables name) (at_spot_of c code.1) else (if code.0 == 1 then hit_at a (values c.beside.tables) (at_spot_of c code.1) else missed_at set a (λ p. with_value p name) (code.0 - 2) (at_spot_of c code.1))
