@@ -17,12 +17,12 @@ use Rattle.exi_bits.specs.Bits.{Spot}
 use Rattle.exi_bits.specs.Repeat.{Reader}
 use Rattle.exi_bits.specs.Unsigned.{◌>>=◌, fault_at, place_at, unsigned_at}
 use Rattle.exi_bits.specs.Widths.{width_for}
-use Rattle.exi_items.specs.Charges.{Charged, text_charge}
+use Rattle.exi_items.specs.Charges.{after_text, text_charge}
 use Rattle.exi_names.specs.declared.names.NameId.{NameId}
 use Rattle.exi_names.specs.declared.names.QName.{QName}
 use Rattle.exi_tables.specs.Partitions.{Partitions, least_place, live_at, locals, name_values, prefixes, uris, values, with_local, with_prefix, with_uri, with_value}
 use Rattle.exi_text.specs.Literals.{chars_at}
-use Rattle.exi_typed.specs.Courses.{Beside, Course, Courser, at_spot_of}
+use Rattle.exi_typed.specs.Courses.{Beside, Course, Courser, at_spot_of, failing}
 
 -- ---- one text
 -- how a missed text is added
@@ -36,36 +36,36 @@ no_growth p text = p
 -- a text that stands in the tables, charged
 unfoldable pub charged_at : List ℕ → Courser (List ℕ)
 charged_at text c = do
-  meter ← text_charge (length text) c.spot.place c.beside.meter
+  meter ← failing c.beside.meter (text_charge (length text) c.spot.place c.beside.meter)
   Ok (text, record { spot = c.spot; beside = record { meter = meter; tables = c.beside.tables } })
 
 -- the text that a place tells; BadPlace at the place's first bit where it tells none
 abbrev pub placed_at : Spot → Option (List ℕ) → Courser (List ℕ)
 placed_at s (Some text) c = charged_at text c
-placed_at s None c = fault_at kind.BadPlace s
+placed_at s None c = failing c.beside.meter (fault_at kind.BadPlace s)
 
 -- a hit: the place in the partition, in the fewest bits that tell its places apart
 unfoldable pub hit_at : Align → List (List ℕ) → Courser (List ℕ)
 hit_at a partition c = do
-  place ← place_at (width_for (length partition)) a (length partition) c.spot
+  place ← failing c.beside.meter (place_at (width_for (length partition)) a (length partition) c.spot)
   placed_at c.spot (live_at partition place.0) (at_spot_of c place.1)
 
 -- a miss of so many characters
 unfoldable pub missed_at : Option (List ℕ) → Align → Growth → ℕ → Courser (List ℕ)
 missed_at set a grow count c = do
-  text ← chars_at set a count (record { spot = c.spot; meter = c.beside.meter })
+  text ← failing (after_text c.beside.meter count) (chars_at set a count (record { spot = c.spot; meter = c.beside.meter }))
   Ok (text.0, record { spot = text.1.spot; beside = record { meter = text.1.meter; tables = grow c.beside.tables text.0 } })
 
 -- a literal: its length in characters, and its characters (7.1.10)
 unfoldable pub literal_at : Align → Growth → Courser (List ℕ)
 literal_at a grow c = do
-  count ← unsigned_at c.spot
+  count ← failing c.beside.meter (unsigned_at c.spot)
   missed_at None a grow count.0 (at_spot_of c count.1)
 
 -- a place or a literal, told apart by one number: 0 is a miss, and a literal follows; k is a hit at place k - 1
 unfoldable pub indexed_at : Align → List (List ℕ) → Growth → Courser (List ℕ)
 indexed_at a partition grow c = do
-  code ← place_at (width_for (length partition + 1)) a (length partition + 1) c.spot
+  code ← failing c.beside.meter (place_at (width_for (length partition + 1)) a (length partition + 1) c.spot)
   if code.0 == 0 then literal_at a grow (at_spot_of c code.1) else placed_at c.spot (live_at partition (code.0 - 1)) (at_spot_of c code.1)
 
 -- ---- names
@@ -76,7 +76,7 @@ uri_at a c = indexed_at a (uris c.beside.tables) with_uri c
 -- a local name under a URI: 0 is a hit, and the place follows; n is a miss of n - 1 characters (7.3.3)
 unfoldable pub local_at : Align → ℕ → Courser (List ℕ)
 local_at a uri c = do
-  code ← unsigned_at c.spot
+  code ← failing c.beside.meter (unsigned_at c.spot)
   if code.0 == 0 then hit_at a (locals c.beside.tables uri) (at_spot_of c code.1) else missed_at None a (λ p. with_local p uri) (code.0 - 1) (at_spot_of c code.1)
 
 abbrev pub told_prefix : Align → List (List ℕ) → Courser (Option (List ℕ))
@@ -142,7 +142,7 @@ unfoldable pub declaration_at : Align → Courser Declaration
 declaration_at a c = do
   uri ← uri_at a c
   prefix ← indexed_at a (prefixes uri.1.beside.tables (place_in (uris uri.1.beside.tables) uri.0)) (λ p. with_prefix p (place_in (uris uri.1.beside.tables) uri.0)) uri.1
-  flag ← place_at 1 a 2 prefix.1.spot
+  flag ← failing prefix.1.beside.meter (place_at 1 a 2 prefix.1.spot)
   Ok (record { uri = uri.0; prefix = prefix.0; element = is_one flag.0 }, at_spot_of prefix.1 flag.1)
 
 -- ---- values
@@ -150,5 +150,5 @@ declaration_at a c = do
 -- n is a miss of n - 2 characters, with a set of characters or without (7.3.3, 7.1.10)
 unfoldable pub value_at : Option (List ℕ) → Align → NameId → Courser (List ℕ)
 value_at set a name c = do
-  code ← unsigned_at c.spot
+  code ← failing c.beside.meter (unsigned_at c.spot)
   if code.0 == 0 then hit_at a (name_values c.beside.tables name) (at_spot_of c code.1) else (if code.0 == 1 then hit_at a (values c.beside.tables) (at_spot_of c code.1) else missed_at set a (λ p. with_value p name) (code.0 - 2) (at_spot_of c code.1))
