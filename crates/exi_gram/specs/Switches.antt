@@ -1,14 +1,15 @@
 -- The options of a stream (W3C EXI 1.0, section 5.4) as what they switch on.
-use Rattle.std.specs.Prelude.{ℕ, Bool, ◌==◌, if◌then◌else◌}
+use Rattle.std.specs.Prelude.{ℕ, Bool, ◌==◌, None, if◌then◌else◌}
 use Rattle.std.specs.Int.RustNames.{bit_and}
 use Rattle.exi_bits.specs.declared.align.Align.{Align}
 use Rattle.exi_bits.specs.declared.align.Align.TheVariants as align
 use Rattle.exi_gram.specs.declared.options.Options.{Options}
+use Rattle.exi_gram.specs.declared.options.SchemaWord.TheVariants as schema
 
 abbrev is_on : ℕ → Options → Bool
 is_on flag o = bit_and o.flags.0 flag == flag
 
--- only what the schema describes is in the stream
+-- no productions are added for what the schema does not describe
 abbrev pub strict : Options → Bool
 strict o = is_on 1 o
 
@@ -24,19 +25,26 @@ self_contained o = is_on 4 o
 abbrev pub byte_aligned : Options → Bool
 byte_aligned o = is_on 8 o
 
--- comments, processing instructions, DTDs with entity references, and prefixes are preserved
+-- comments are preserved
 abbrev pub comments : Options → Bool
 comments o = is_on 16 o
 
+-- processing instructions are preserved
 abbrev pub processing_instructions : Options → Bool
 processing_instructions o = is_on 32 o
 
+-- document types and entity references are preserved
 abbrev pub dtd : Options → Bool
 dtd o = is_on 64 o
 
+-- prefixes and namespace declarations are preserved
 abbrev pub prefixes : Options → Bool
 prefixes o = is_on 128 o
 
 -- how the numbers of the stream lie
 abbrev pub align_of : Options → Align
 align_of o = if byte_aligned o then align.Bytes else align.Bits
+
+-- what holds where the header tells nothing else: bit-packed, nothing switched on, blocks of 1,000,000, no bounds
+abbrev pub default_options : Options
+default_options = record { flags = record { 0 = 0 }; schema = schema.Absent; block = 1_000_000; most = None; capacity = None }

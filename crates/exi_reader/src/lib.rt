@@ -1,0 +1,2 @@
+//! Sequential processing of EXI 1.0.
+#![tactic(auto)]
