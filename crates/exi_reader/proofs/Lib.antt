@@ -1,1 +1,4 @@
+mod Onward
+mod Sequences
+mod Steps
 mod Worked

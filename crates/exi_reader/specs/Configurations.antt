@@ -1,11 +1,13 @@
 -- Where the reading of a body stands between two events (W3C EXI 1.0, sections 6 and 8.4).
 --
 -- Today the streams are those without a schema. What comes later is added here as cases and fields:
--- - with a schema, an element's state is one of a grammar of the schema as well, `Element` says so, and whether that
---   grammar is the empty form that xsi:nil opened; `productions_of` then takes the productions from the schema;
--- - with self-contained elements (section 8.5.4.4), `aside` has what the enclosing bodies put aside, and `Outer` the
---   states of a fragment that stands for one element; the root of such a fragment is then a part of the end;
--- - with bounded value partitions (section 7.3.3) only the string tables change.
+-- - with a schema, `Setting` has its grammars; `Stage` gets the states of these, `Element` whether its grammar is the
+--   empty form that xsi:nil opened, and `Terminal` the productions with a datatype and a target of their own;
+--   `productions_of` then takes the productions from the schema;
+-- - with self-contained elements (sections 8.4.3 and 8.5.4.4), `Start` has the byte of a fragment, `Outer` the states
+--   of a fragment that stands for one element, `root` that element's name, and `aside` what the enclosing bodies put
+--   aside;
+-- - with bounded value partitions (section 7.3.3) the string tables change, and what a place in them tells.
 use Rattle.std.specs.Prelude.{ℕ, Bool, true, false, List, [], ◌∷◌, Option, Some, None, if◌then◌else◌}
 use Rattle.exi_bits.specs.Bits.{Spot}
 use Rattle.exi_builtin.specs.declared.learnable.Learnable.{Learnable}
@@ -18,9 +20,19 @@ use Rattle.exi_gram.specs.Codes.{Productions, single, group, mapped, pruned}
 use Rattle.exi_gram.specs.Switches.{comments, dtd, fragment, processing_instructions}
 use Rattle.exi_meter.specs.Metering.{Bounds, nothing_used}
 use Rattle.exi_names.specs.declared.names.NameId.{NameId}
+use Rattle.exi_names.specs.declared.names.QName.{QName}
 use Rattle.exi_names.specs.StartTables.{Names}
 use Rattle.exi_tables.specs.Partitions.{Partitions, first_partitions}
 use Rattle.exi_typed.specs.Courses.{Course}
+
+-- what a stream is read by: its options, and the first string tables
+pub record Setting : Type 0 where
+  pub options : Options
+  pub names : Names
+
+-- where reading begins
+pub data Start : Type 0 where
+  body : Start
 
 -- ---- what a production reads
 pub data Terminal : Type 0 where
@@ -65,11 +77,13 @@ pub data Stage : Type 0 where
   start_tag : Stage
   content : Stage
 
--- an open element: the least places of its name, the number of its grammar, and the grammar's state
-pub record Element : Type 0 where
-  pub name : NameId
-  pub grammar : ℕ
-  pub stage : Stage
+-- the state behind a production: attributes and namespace declarations stay, all else goes to ElementContent.
+-- EE leaves the element
+abbrev pub next_stage : Terminal → Stage → Stage
+next_stage any_attribute stage = stage
+next_stage (known_attribute name) stage = stage
+next_stage declaration stage = stage
+next_stage other stage = content
 
 -- the states of the document's and the fragment's grammar (8.4.1, 8.4.2), and that there is none after ED
 pub data Outer : Type 0 where
@@ -80,6 +94,20 @@ pub data Outer : Type 0 where
   fragment_content : Outer
   ended : Outer
 
+-- the state behind a production: SD goes to the content, a document's element to its end, ED leaves, all else stays
+abbrev pub next_outer : Terminal → Outer → Outer
+next_outer start_document document = document_content
+next_outer start_document fragment_start = fragment_content
+next_outer any_element document_content = document_end
+next_outer end_document outer = ended
+next_outer other outer = outer
+
+-- an open element: the least places of its name, the number of its grammar, and the grammar's state
+pub record Element : Type 0 where
+  pub name : NameId
+  pub grammar : ℕ
+  pub stage : Stage
+
 -- what an enclosing body puts aside while a self-contained fragment is read: the tables, what was learned, the
 -- open elements and the outer state
 pub record Body : Type 0 where
@@ -89,6 +117,7 @@ pub record Body : Type 0 where
   pub outer : Outer
 
 pub record Config : Type 0 where
+  pub start : Start
   -- the place in the bits, the meter and the string tables
   pub course : Course
   -- the open elements, the innermost first
@@ -96,8 +125,10 @@ pub record Config : Type 0 where
   pub outer : Outer
   -- what the built-in grammars have learned
   pub learned : Learning
-  -- the last event was an SE
+  -- the event given last is an SE
   pub after_start : Bool
+  -- the name of a fragment's first element, once it is read; of a body there is none
+  pub root : Option QName
   -- what enclosing bodies put aside; nothing while no fragment is read at SC
   pub aside : List Body
 
@@ -105,14 +136,19 @@ abbrev start_of : Bool → Outer
 start_of true = fragment_start
 start_of false = document
 
--- the first configuration of a body: the first tables, nothing learned, nothing used
-abbrev pub first_config : Options → Names → Bounds → Spot → Config
-first_config o names limits body = record {
-  course = record { spot = body; beside = record { meter = nothing_used limits; tables = first_partitions names } };
+abbrev pub first_outer : Setting → Start → Outer
+first_outer g body = start_of (fragment g.options)
+
+-- the first configuration: the first tables, nothing learned, nothing used
+abbrev pub first_config : Setting → Start → Bounds → Spot → Config
+first_config g start limits begin = record {
+  start = start;
+  course = record { spot = begin; beside = record { meter = nothing_used limits; tables = first_partitions g.names } };
   elements = [];
-  outer = start_of (fragment o);
+  outer = first_outer g start;
   learned = nothing_learned;
   after_start = false;
+  root = None;
   aside = [];
 }
 
@@ -136,7 +172,7 @@ is_left o instruction = processing_instructions o
 is_left o document_type = dtd o
 is_left o other = true
 
-abbrev room_at : ℕ → Stage → Room
+abbrev pub room_at : ℕ → Stage → Room
 room_at number start_tag = room.StartTag number
 room_at number content = room.Content number
 
@@ -154,10 +190,10 @@ outer_productions o l fragment_start = start_productions
 outer_productions o l fragment_content = built_in o l room.Fragment
 outer_productions o l ended = record { firsts = []; seconds = [] }
 
-abbrev productions_in : Options → Learning → Outer → List Element → Productions Terminal
+abbrev pub productions_in : Options → Learning → Outer → List Element → Productions Terminal
 productions_in o l outer [] = outer_productions o l outer
 productions_in o l outer (e ∷ es) = built_in o l (room_of e)
 
 -- the productions of the state: that of the innermost element, and without one that of the document or fragment
-abbrev pub productions_of : Options → Config → Productions Terminal
-productions_of o c = productions_in o c.learned c.outer c.elements
+abbrev pub productions_of : Setting → Config → Productions Terminal
+productions_of g c = productions_in g.options c.learned c.outer c.elements

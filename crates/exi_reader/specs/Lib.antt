@@ -1,3 +1,4 @@
 pub mod Configurations
+pub mod Laws
 pub mod OneEvent
 pub mod Runs

@@ -1,2 +1,22 @@
-//! Sequential processing of EXI 1.0.
+//! Sequential processing of EXI 1.0 (sections 6 and 8.4), for streams without a schema: what it is, and
+//! what holds of it.
+//!
+//! A body is a row of events. Each has a code that tells a production of the state in which reading is, and
+//! what that production reads: a name, a value, texts, or nothing. `80 40 98 70 37 80`, behind the header's
+//! byte, bit by bit:
+//!
+//! ```text
+//!        SE(*)                             CH                        EE  ED
+//!   SD   URI   length  "a"                 code  length  "x"         code
+//! +----+----+--------+--------+----------+----+--------+--------+----+----+
+//! |    | 01 |00000010|01100001|          | 11 |00000011|01111000|  0 |    |
+//! +----+----+--------+--------+----------+----+--------+--------+----+----+
+//! 8    8    10       18       26         26   28       36       44   45
+//! ```
+//!
+//! The definitions are in `specs/`: the configuration (place, meter, string tables, open elements, what was
+//! learned), one event as a function from a configuration to an event and the next configuration or to the
+//! first fault, and the run. [`laws`] has what is proved of them.
 #![tactic(auto)]
+
+pub mod laws;

@@ -1,0 +1,49 @@
+//! What holds of sequential processing. Each law is a function that does nothing: what it ensures is
+//! the law.
+
+ghost use Rattle.exi_reader.specs.Laws.{AFaultEnds, ARunIsThere, ASequenceIsThere, FewTurns, IsFrontOfRun, NeverBack, OneRun, OneSequence, OneStepOrOneFault};
+
+/// A configuration that has not ended has exactly one step or exactly one fault.
+pub fn one_step_or_one_fault()
+    ensures law { OneStepOrOneFault }
+{}
+
+/// A step stays in the same bytes and never goes backwards.
+pub fn never_back()
+    ensures law { NeverBack }
+{}
+
+/// Each configuration has a run.
+pub fn a_run_is_there()
+    ensures law { ARunIsThere }
+{}
+
+/// A configuration has one run at most.
+pub fn one_run()
+    ensures law { OneRun }
+{}
+
+/// What was given so far is the front of what the run gives.
+pub fn front_of_run()
+    ensures law { IsFrontOfRun }
+{}
+
+/// A fault ends the run: the events are those before it.
+pub fn a_fault_ends()
+    ensures law { AFaultEnds }
+{}
+
+/// A body has a list of events, an end and a number of turns.
+pub fn a_sequence_is_there()
+    ensures law { ASequenceIsThere }
+{}
+
+/// A body has one list of events, one end and one number of turns at most.
+pub fn one_sequence()
+    ensures law { OneSequence }
+{}
+
+/// Reading a body takes at most one turn more than its limit of events.
+pub fn few_turns()
+    ensures law { FewTurns }
+{}
