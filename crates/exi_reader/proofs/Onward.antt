@@ -1,13 +1,12 @@
 -- What is read goes on in the same bits, never backwards, against the same limits, and counts no event.
-use Rattle.std.proofs.Common.{◌≡◌, ℕ, zero, suc, ◌+◌, ◌-◌, ◌*◌, ◌≤◌, Bool, true, false, cond, eqb, ltb, List, [], ◌∷◌, length, Option, Some, None, Result, Ok, Err, get_or, refl, sym, ap, ◌∙◌, subst, arith}
+use Rattle.std.proofs.Common.{◌≡◌, ℕ, zero, suc, ◌+◌, ◌-◌, ◌≤◌, Bool, true, false, cond, eqb, ltb, List, [], ◌∷◌, length, Option, Some, None, Result, Ok, Err, get_or, refl, sym, ap, ◌∙◌, subst, arith}
 use Rattle.std.specs.Prelude.{slice_get}
 use Rattle.exi_bits.specs.declared.align.Align.{Align}
 use Rattle.exi_bits.specs.declared.fault.Fault.{Fault}
-use Rattle.exi_bits.specs.declared.fault.Kind.{Kind}
 use Rattle.exi_bits.specs.declared.fault.Kind.TheVariants as kind
 use Rattle.exi_bits.specs.Bits.{Spot, moved, number_at, value_at as number_value, left, taken}
 use Rattle.exi_bits.specs.Repeat.{Reader, times}
-use Rattle.exi_bits.specs.Unsigned.{◌>>=◌, at_spot, fault_at, field_at, needed, place_at, unsigned_at}
+use Rattle.exi_bits.specs.Unsigned.{◌>>=◌, at_spot, field_at, needed, place_at, unsigned_at}
 use Rattle.exi_bits.specs.Widths.{width_for}
 use Rattle.exi_bits.proofs.UnsignedLaws.{unsigned_spelled}
 use Rattle.exi_gram.specs.Codes.{Productions, Second, code_at, first_told, first_values, group, member_at, part_at, second_at, second_told, single, told}
@@ -17,8 +16,8 @@ use Rattle.exi_names.specs.declared.names.NameId.{NameId}
 use Rattle.exi_names.specs.Characters.{is_xml_char}
 use Rattle.exi_tables.specs.Partitions.{live_at, locals, name_values, prefixes, uris, values, with_local, with_prefix, with_uri, with_value}
 use Rattle.exi_text.specs.Literals.{char_at, chars_at, code_at as char_code_at, in_set_at, width_in}
-use Rattle.exi_typed.specs.Courses.{Beside, Course, Courser, Failure, at_spot_of, failing}
-use Rattle.exi_typed.specs.Strings.{Declaration, Growth, Named, charged_at, declaration_at, hit_at, indexed_at, known_at, literal_at, local_at, missed_at, name_at, name_under, no_growth, place_in, placed_at, prefix_at, told_prefix, uri_at, value_at}
+use Rattle.exi_typed.specs.Courses.{Course, Courser, at_spot_of, failing}
+use Rattle.exi_typed.specs.Strings.{Declaration, Growth, Named, charged_at, declaration_at, hit_at, indexed_at, known_at, literal_at, local_at, missed_at, name_at, name_under, place_in, placed_at, prefix_at, told_prefix, uri_at, value_at}
 
 -- ---- results
 abbrev pub good : {A E : Type 0} → A → Result A E

@@ -1,13 +1,13 @@
 -- Each configuration has one run, which a fault ends, and it is not longer than the limit of events allows.
 use Rattle.std.proofs.Common.{◌≡◌, ◌⊎◌, ◌<◌, ◌≤◌, ℕ, zero, suc, ◌+◌, Bool, true, false, cond, List, [], ◌∷◌, ◌++◌, length, Option, Some, None, Result, Ok, Err, inl, inr, refl, sym, ap, ◌∙◌, subst, arith}
-use Rattle.std.proofs.lemmas.List.{append-nil, length-append}
+use Rattle.std.proofs.lemmas.List.{length-append}
 use Rattle.exi_meter.specs.Metering.{Bounds}
 use Rattle.exi_names.specs.Events.{Happening}
 use Rattle.exi_typed.specs.Courses.{Failure}
 use Rattle.exi_reader.specs.Configurations.{Config, Setting, first_config}
 use Rattle.exi_reader.specs.Laws.{AFaultEnds, ARunIsThere, ASequenceIsThere, FewTurns, HasFault, HasStep, IsFrontOfRun, NeverBack, OneRun, OneSequence, OneStepOrOneFault}
 use Rattle.exi_reader.specs.OneEvent.{Given, one}
-use Rattle.exi_reader.specs.Runs.{End, IsRun, Leads, Turn, closed_end, ends, events_of, failed_end, given_turn, goes, has_ended, turn, turned_by}
+use Rattle.exi_reader.specs.Runs.{End, IsRun, Leads, Turn, closed_end, ends, events_of, failed_end, goes, has_ended, turn, turned_by}
 use Rattle.exi_reader.proofs.Onward.{good, good_is}
 use Rattle.exi_reader.proofs.Steps.{Steps, step_is}
 

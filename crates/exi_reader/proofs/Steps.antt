@@ -1,5 +1,5 @@
 -- One event goes on in the same bits, never backwards, against the same limits, and is counted.
-use Rattle.std.proofs.Common.{◌≡◌, ℕ, ◌+◌, ◌≤◌, ◌<◌, Bool, true, false, cond, leb, List, [], ◌∷◌, Option, Some, None, Result, Ok, Err, refl, sym, ap, ◌∙◌, subst, arith}
+use Rattle.std.proofs.Common.{◌≡◌, ℕ, ◌+◌, ◌≤◌, Bool, true, false, cond, List, Option, Some, None, Result, Ok, Err, refl, sym, ap, ◌∙◌, subst, arith}
 use Rattle.std.proofs.lemmas.Bool.{leb-true}
 use Rattle.exi_bits.specs.declared.align.Align.{Align}
 use Rattle.exi_bits.specs.declared.fault.Kind.{Kind}
@@ -19,10 +19,10 @@ use Rattle.exi_names.specs.Seen.{Value}
 use Rattle.exi_names.specs.Seen as value
 use Rattle.exi_typed.specs.Courses.{Course, Courser, Failure, at_spot_of, failing}
 use Rattle.exi_typed.specs.NameValues.{name_value_at, with_meter}
-use Rattle.exi_typed.specs.Strings.{Declaration, Named, declaration_at, known_at, literal_at, name_at, no_growth, value_at}
+use Rattle.exi_typed.specs.Strings.{Named, declaration_at, known_at, name_at, no_growth, value_at}
 use Rattle.exi_reader.specs.Configurations.{Config, Setting, Terminal, any_attribute, any_element, characters, comment, declaration, document_type, end_document, end_element, entity, instruction, known_attribute, known_element, productions_of, self_contained, start_document}
 use Rattle.exi_reader.specs.OneEvent.{Given, any_attribute_at, any_element_at, at_event, attribute_value_at, characters_at, charged_if, closed, comment_at, declaration_event_at, document_type_at, entity_at, event_charge, event_of, instruction_at, is_start, known_attribute_at, known_element_at, learns, level_charge, moves, name_of, one, opened, string_at, text_at, type_at, went}
-use Rattle.exi_reader.proofs.Onward.{Ahead, GoesOnward, Onward, ahead_same, ahead_then, bind_is, charge_is, code_ahead, declaration_onward, failing_is, given_onward, good, good_is, known_onward, literal_onward, name_onward, onward_either, onward_made, onward_same, onward_then, value_onward}
+use Rattle.exi_reader.proofs.Onward.{Ahead, GoesOnward, Onward, ahead_same, ahead_then, bind_is, charge_is, code_ahead, declaration_onward, failing_is, good, good_is, known_onward, literal_onward, name_onward, onward_either, onward_made, onward_same, onward_then, value_onward}
 
 -- ---- charges
 abbrev metered : Course → Metering → Course

@@ -8,7 +8,7 @@
 --   of a fragment that stands for one element, `root` that element's name, and `aside` what the enclosing bodies put
 --   aside;
 -- - with bounded value partitions (section 7.3.3) the string tables change, and what a place in them tells.
-use Rattle.std.specs.Prelude.{ℕ, Bool, true, false, List, [], ◌∷◌, Option, Some, None, if◌then◌else◌}
+use Rattle.std.specs.Prelude.{ℕ, Bool, true, false, List, [], ◌∷◌, Option, None}
 use Rattle.exi_bits.specs.Bits.{Spot}
 use Rattle.exi_builtin.specs.declared.learnable.Learnable.{Learnable}
 use Rattle.exi_builtin.specs.declared.learnable.Learnable.TheVariants as learnable
