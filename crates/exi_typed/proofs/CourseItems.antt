@@ -273,7 +273,7 @@ pub record IsTold (o : Option (List ℕ)) (x : List ℕ) (w v : Beside) (text : 
   pub bits : text ≡ []
   pub pays : Pays (length x) w v
 
-some_is : (x y : List ℕ) → Some x ≡ Some y → x ≡ y
+pub some_is : (x y : List ℕ) → Some x ≡ Some y → x ≡ y
 some_is x y e = cc
 
 module _ (a : Align) (x : List ℕ) where

@@ -1,1 +1,4 @@
 pub mod CourseItems
+pub mod Texts
+pub mod NameItems
+pub mod Agree
