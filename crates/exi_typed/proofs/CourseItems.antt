@@ -1,5 +1,5 @@
 -- What is spelled and what is read, for items that go through the meter and the string tables.
-use Rattle.std.proofs.Common.{◌≡◌, ℕ, ◌+◌, ◌*◌, ◌%◌, Bool, true, false, cond, List, [], ◌++◌, length, drop, Option, Some, None, Result, Ok, Err, refl, sym, ap, ◌∙◌, subst, append_assoc, arith}
+use Rattle.std.proofs.Common.{◌≡◌, ℕ, ◌+◌, ◌%◌, Bool, true, false, cond, List, [], ◌++◌, length, drop, Option, Some, None, Result, Ok, Err, refl, sym, ap, ◌∙◌, subst, append_assoc, arith}
 use Rattle.std.proofs.lemmas.List.{drop-drop, drop_at, length-append}
 use Rattle.exi_bits.specs.declared.align.Align.{Align}
 use Rattle.exi_bits.specs.declared.align.Align.TheVariants as align
@@ -15,7 +15,7 @@ use Rattle.exi_items.proofs.NoPrefix.{item_no_prefix}
 use Rattle.exi_meter.specs.Metering.{Metering, text_fits, with_text}
 use Rattle.exi_tables.specs.Partitions.{Partitions}
 use Rattle.exi_text.specs.Literals.{char_at, chars_at}
-use Rattle.exi_text.specs.Spelled.{SpellsChar, SpellsChars}
+use Rattle.exi_text.specs.Spelled.{SpellsChar}
 use Rattle.exi_text.proofs.Letters.{chars_read, item_char}
 use Rattle.exi_typed.specs.Courses.{Beside, Course, Courser, Failure, at_spot_of, failing}
 use Rattle.exi_typed.specs.Laws.{Agrees, Spelling}

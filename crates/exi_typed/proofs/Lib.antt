@@ -2,3 +2,4 @@ pub mod CourseItems
 pub mod Texts
 pub mod NameItems
 pub mod Agree
+pub mod Worked

@@ -1,19 +1,19 @@
 -- Names and namespace declarations: spelled and read.
-use Rattle.std.proofs.Common.{◌≡◌, ℕ, zero, suc, ◌+◌, ◌<◌, Bool, true, false, cond, eqb, ltb, List, [], ◌∷◌, ◌++◌, length, Option, Some, None, refl, sym, ap, ◌∙◌, subst, arith}
+use Rattle.std.proofs.Common.{◌≡◌, ℕ, zero, suc, ◌<◌, Bool, true, false, cond, eqb, List, [], ◌∷◌, ◌++◌, Option, Some, None, refl, sym, ap, ◌∙◌, subst, arith}
 use Rattle.std.proofs.lemmas.Bool.{ltb-true}
 use Rattle.std.proofs.lemmas.List.{append-nil}
 use Rattle.std.proofs.lemmas.Option.{slice_get_within}
 use Rattle.exi_bits.specs.declared.align.Align.{Align}
-use Rattle.exi_bits.specs.Bits.{number, taken}
+use Rattle.exi_bits.specs.Bits.{number}
 use Rattle.exi_bits.specs.Unsigned.{◌>>=◌, place_at}
 use Rattle.exi_bits.specs.Widths.{width_from}
 use Rattle.exi_items.proofs.Items.{item_place}
 use Rattle.exi_names.specs.declared.names.NameId.{NameId}
 use Rattle.exi_names.specs.declared.names.QName.{QName}
-use Rattle.exi_tables.specs.Partitions.{Partitions, live_at, locals, prefixes, uris, with_prefix}
-use Rattle.exi_typed.specs.Courses.{Beside, Course, Courser, at_spot_of, failing}
+use Rattle.exi_tables.specs.Partitions.{live_at, locals, prefixes, uris, with_prefix}
+use Rattle.exi_typed.specs.Courses.{Beside, Course, at_spot_of, failing}
 use Rattle.exi_typed.specs.Laws.{Spelling}
-use Rattle.exi_typed.specs.Spelled.{Follows, IsHit, IsNothing, IsPaid, Pays, SpellsDeclaration, SpellsFlag, SpellsKnown, SpellsLocal, SpellsName, SpellsNameUnder, SpellsNewPrefix, SpellsPrefix, SpellsUri}
+use Rattle.exi_typed.specs.Spelled.{IsHit, IsNothing, SpellsDeclaration, SpellsFlag, SpellsKnown, SpellsLocal, SpellsName, SpellsNameUnder, SpellsNewPrefix, SpellsPrefix, SpellsUri}
 use Rattle.exi_typed.specs.Strings.{Declaration, Named, declaration_at, hit_at, indexed_at, known_at, local_at, name_at, name_under, place_in, placed_at, prefix_at, told_prefix, uri_at}
 use Rattle.exi_typed.proofs.CourseItems.{Behind, Chained, CourseItem, IsPure, IsTold, MadeBeside, at_start, behind, chained, in_words, made, placed, pure, some_is, told}
 use Rattle.exi_typed.proofs.Texts.{Below, below_fits, indexed_in, item_hit, item_local, item_uri}

@@ -1,5 +1,5 @@
 -- Texts by their places and texts that are spelled out: spelled and read.
-use Rattle.std.proofs.Common.{◌≡◌, ℕ, zero, suc, ◌+◌, ◌-◌, ◌^◌, ◌<◌, ◌≤◌, ◌⊎◌, inl, inr, Bool, true, false, cond, eqb, ltb, List, [], ◌++◌, length, Option, Some, None, refl, sym, ap, ◌∙◌, subst, arith}
+use Rattle.std.proofs.Common.{◌≡◌, ℕ, zero, suc, ◌+◌, ◌-◌, ◌^◌, ◌<◌, ◌≤◌, inl, inr, Bool, true, false, cond, eqb, ltb, List, [], ◌++◌, length, Option, None, refl, sym, ap, ◌∙◌, subst, arith}
 use Rattle.std.proofs.lemmas.Bool.{eqb-true, lt-ltb, ne_eqb}
 use Rattle.std.proofs.lemmas.List.{append-nil}
 use Rattle.std.proofs.lemmas.Option.{slice_get_within}
@@ -9,14 +9,14 @@ use Rattle.exi_bits.specs.Bits.{number, taken}
 use Rattle.exi_bits.specs.Unsigned.{◌>>=◌, place_at, unsigned_at}
 use Rattle.exi_bits.specs.Widths.{width_for}
 use Rattle.exi_bits.proofs.BitLaws.{pow_up}
-use Rattle.exi_items.specs.Spellings.{SpellsUnsigned, Then}
+use Rattle.exi_items.specs.Spellings.{SpellsUnsigned}
 use Rattle.exi_items.proofs.Items.{item_place, item_unsigned}
 use Rattle.exi_names.specs.declared.names.NameId.{NameId}
 use Rattle.exi_tables.specs.Partitions.{live_at, locals, name_values, uris, values, with_local, with_uri, with_value}
 use Rattle.exi_text.proofs.Sets.{width_covers}
-use Rattle.exi_typed.specs.Courses.{Beside, Course, Courser, at_spot_of, failing}
+use Rattle.exi_typed.specs.Courses.{Beside, at_spot_of, failing}
 use Rattle.exi_typed.specs.Laws.{Spelling}
-use Rattle.exi_typed.specs.Spelled.{IsHit, IsIndexed, IsMissed, SpellsIndexed, SpellsLiteral, SpellsLocal, SpellsUri, SpellsValue}
+use Rattle.exi_typed.specs.Spelled.{IsHit, SpellsIndexed, SpellsLiteral, SpellsLocal, SpellsUri, SpellsValue}
 use Rattle.exi_typed.specs.Strings.{Growth, hit_at, indexed_at, literal_at, local_at, missed_at, placed_at, uri_at, value_at}
 use Rattle.exi_typed.proofs.CourseItems.{Behind, Chosen, CourseItem, IsTold, MissedOf, at_start, behind, chosen, in_words, missed, placed}
 
