@@ -267,6 +267,38 @@ charge_gives : (units bit : ℕ) (m : Metering) → text_fits m units ≡ true �
 unfolding text_charge
 charge_gives units bit m e = rw e refl
 
+-- so many units are charged, and nothing is coded for them
+pub record PaysFirst {X : Type 0} (units : ℕ) (Spells : Spelling X) (x : X) (w v : Beside) (text : List Bool) : Type 0 where
+  pub between : Beside
+  pub pays : Pays units w between
+  pub spelled : Spells x between v text
+
+pub paying : {X : Type 0} (a : Align) (units : ℕ) (read : Courser X) (Spells : Spelling X) → CourseItem a read Spells
+    → CourseItem {X = X} a (λ c. failing c.beside.meter (text_charge units c.spot.place c.beside.meter) >>= λ meter. read (course c.spot (beside meter c.beside.tables))) (PaysFirst units Spells)
+paying {X} a units read Spells item = record { takes = taking; again = reading; whole = λ x w v text h. item.whole x h.between v text h.spelled }
+  where
+    taking : (x : X) (c d : Course) → IsBytes c.spot.bytes → IsAligned a c.spot → (failing c.beside.meter (text_charge units c.spot.place c.beside.meter) >>= λ meter. read (course c.spot (beside meter c.beside.tables))) ≡ told (x, d) → Went a (PaysFirst units Spells x) c d
+    taking x c d fits al r =
+        let u = bind_told (failing c.beside.meter (text_charge units c.spot.place c.beside.meter)) (λ (m : Metering). read (course c.spot (beside m c.beside.tables))) (x, d) r in
+        let g = charge_is units c.spot.place c.beside.meter u.0 (not_failing c.beside.meter (text_charge units c.spot.place c.beside.meter) u.0 u.1) in
+        let k = item.takes x (course c.spot (beside u.0 c.beside.tables)) d fits al u.2 in
+        record {
+          text = k.text;
+          spelled = record {
+            between = beside u.0 c.beside.tables;
+            pays = record { fits = g.0; after = ap (λ (m : Metering). beside m c.beside.tables) (sym g.1) };
+            spelled = k.spelled;
+          };
+          front = k.front;
+          aligned = k.aligned;
+          fits = k.fits;
+        }
+
+    reading : (x : X) (s : Spot) (w v : Beside) (text more : List Bool) → IsBytes s.bytes → IsAligned a s → PaysFirst units Spells x w v text → rest s ≡ text ++ more → (failing w.meter (text_charge units s.place w.meter) >>= λ meter. read (course s (beside meter w.tables))) ≡ told (x, course (moved s (length text)) v)
+    reading x s w v text more fits al h e =
+        let r = charge_gives units s.place w.meter h.pays.fits in
+        rw r (subst (λ (b : Beside). read (course s b) ≡ told {X = X × Course} (x, course (moved s (length text)) v)) h.pays.after (item.again x s h.between v text more fits al h.spelled e))
+
 -- a text that a place tells
 pub record IsTold (o : Option (List ℕ)) (x : List ℕ) (w v : Beside) (text : List Bool) : Type 0 where
   pub stands : o ≡ Some x
@@ -276,36 +308,19 @@ pub record IsTold (o : Option (List ℕ)) (x : List ℕ) (w v : Beside) (text : 
 pub some_is : (x y : List ℕ) → Some x ≡ Some y → x ≡ y
 some_is x y e = cc
 
-module _ (a : Align) (x : List ℕ) where
-  charged_takes : (y : List ℕ) (c d : Course) → IsBytes c.spot.bytes → IsAligned a c.spot → charged_at x c ≡ told (y, d) → Went a (IsTold (Some x) y) c d
-  unfolding charged_at
-  charged_takes y c d fits al r =
-      let u = bind_told (failing c.beside.meter (text_charge (length x) c.spot.place c.beside.meter)) (λ (m : Metering). told {X = List ℕ × Course} (x, course c.spot (beside m c.beside.tables))) (y, d) r in
-      let g = charge_is (length x) c.spot.place c.beside.meter u.0 (not_failing c.beside.meter (text_charge (length x) c.spot.place c.beside.meter) u.0 u.1) in
-      let e : (x, course c.spot (beside u.0 c.beside.tables)) ≡ (y, d) = told_is (x, course c.spot (beside u.0 c.beside.tables)) (y, d) u.2 in
-      let after : beside u.0 c.beside.tables ≡ beside (with_text c.beside.meter (length x)) c.beside.tables = ap (λ (m : Metering). beside m c.beside.tables) (sym g.1) in
-      subst (λ (z : List ℕ × Course). Went a (IsTold (Some x) z.0) c z.1) e (record {
-        text = [];
-        spelled = record { stands = refl; bits = refl; pays = record { fits = g.0; after = after } };
-        front = front_none c.spot;
-        aligned = al;
-        fits = fits;
-      })
+charged_item : (a : Align) (x : List ℕ) → CourseItem {X = List ℕ} a (charged_at x) (IsTold (Some x))
+unfolding charged_at
+charged_item a x = in_words a (charged_at x) (PaysFirst (length x) (IsPure x)) (IsTold (Some x)) to from (paying a (length x) (λ c. Ok (x, c)) (IsPure x) (pure a x))
+  where
+    to : (y : List ℕ) (w v : Beside) (text : List Bool) → PaysFirst (length x) (IsPure x) y w v text → IsTold (Some x) y w v text
+    to y w v text z =
+        let paid : Pays (length x) w v = subst (λ (b : Beside). Pays (length x) w b) (sym z.spelled.nothing.after) z.pays in
+        record { stands = ap (λ (t : List ℕ). Some t) z.spelled.is; bits = z.spelled.nothing.bits; pays = subst (λ (t : List ℕ). Pays (length t) w v) z.spelled.is paid }
 
-  charged_again : (s : Spot) (w v : Beside) (text : List Bool) → text ≡ [] → Pays (length x) w v → charged_at x (course s w) ≡ told (x, course (moved s (length text)) v)
-  unfolding charged_at
-  charged_again s w v text e pays =
-      let r : text_charge (length x) s.place w.meter ≡ fine (with_text w.meter (length x)) = charge_gives (length x) s.place w.meter pays.fits in
-      rw r (ap (λ (t : Spot). told {X = List ℕ × Course} (x, course t (beside (with_text w.meter (length x)) w.tables))) (not_moved s text e) ∙ ap (λ (u : Beside). told {X = List ℕ × Course} (x, course (moved s (length text)) u)) (sym pays.after))
-
-  charged_item : CourseItem {X = List ℕ} a (charged_at x) (IsTold (Some x))
-  charged_item = record { takes = charged_takes; again = reading; whole = λ y w v text h. no_bits a text h.bits }
-    where
-      reading : (y : List ℕ) (s : Spot) (w v : Beside) (text more : List Bool) → IsBytes s.bytes → IsAligned a s → IsTold (Some x) y w v text → rest s ≡ text ++ more → charged_at x (course s w) ≡ told (y, course (moved s (length text)) v)
-      reading y s w v text more fits al h e =
-          let same : x ≡ y = some_is x y h.stands in
-          let paid : Pays (length x) w v = subst (λ (z : List ℕ). Pays (length z) w v) (sym same) h.pays in
-          subst (λ (z : List ℕ). charged_at x (course s w) ≡ told (z, course (moved s (length text)) v)) same (charged_again s w v text h.bits paid)
+    from : (y : List ℕ) (w v : Beside) (text : List Bool) → IsTold (Some x) y w v text → PaysFirst (length x) (IsPure x) y w v text
+    from y w v text h =
+        let same : x ≡ y = some_is x y h.stands in
+        record { between = v; pays = subst (λ (t : List ℕ). Pays (length t) w v) (sym same) h.pays; spelled = record { is = same; nothing = record { bits = h.bits; after = refl } } }
 
 pub placed : (a : Align) (s : Spot) (o : Option (List ℕ)) → CourseItem {X = List ℕ} a (placed_at s o) (IsTold o)
 placed a s (Some x) = charged_item a x

@@ -13,9 +13,10 @@ use Rattle.exi_names.specs.declared.names.QName.{QName}
 use Rattle.exi_tables.specs.Partitions.{live_at, locals, prefixes, uris, with_prefix}
 use Rattle.exi_typed.specs.Courses.{Beside, Course, at_spot_of, failing}
 use Rattle.exi_typed.specs.Laws.{Spelling}
+use Rattle.exi_typed.specs.NameValues.{SpellsNameValue, name_value_at}
 use Rattle.exi_typed.specs.Spelled.{IsHit, IsNothing, SpellsDeclaration, SpellsFlag, SpellsKnown, SpellsLocal, SpellsName, SpellsNameUnder, SpellsNewPrefix, SpellsPrefix, SpellsUri}
 use Rattle.exi_typed.specs.Strings.{Declaration, Named, declaration_at, hit_at, indexed_at, known_at, local_at, name_at, name_under, place_in, placed_at, prefix_at, told_prefix, uri_at}
-use Rattle.exi_typed.proofs.CourseItems.{Behind, Chained, CourseItem, IsPure, IsTold, MadeBeside, at_start, behind, chained, in_words, made, placed, pure, some_is, told}
+use Rattle.exi_typed.proofs.CourseItems.{Behind, Chained, CourseItem, IsPure, IsTold, MadeBeside, PaysFirst, at_start, behind, chained, in_words, made, paying, placed, pure, some_is, told}
 use Rattle.exi_typed.proofs.Texts.{Below, below_fits, indexed_in, item_hit, item_local, item_uri}
 
 -- ---- a prefix
@@ -222,6 +223,19 @@ module _ (keep : Bool) (a : Align) (id : NameId) where
       LocalTold (λ local. MadeBeside (known_as uri local) (SpellsPrefix keep a id.uri))
       (at_start a (λ s. placed_at b.spot (live_at (locals s.beside.tables id.uri) id.local)) (λ w. IsTold (live_at (locals w.tables id.uri) id.local)) (λ s. placed a b.spot (live_at (locals s.beside.tables id.uri) id.local)))
       (λ local. made a (prefix_at keep a id.uri) (known_as uri local) (SpellsPrefix keep a id.uri) (item_prefix keep a id.uri)))))
+
+-- ---- a value that is a name
+pub item_name_value : (keep : Bool) (a : Align) → CourseItem {X = Named} a (name_value_at keep a) (SpellsNameValue keep a)
+unfolding name_value_at
+item_name_value keep a = in_words a (name_value_at keep a) (PaysFirst 1 (SpellsName keep a)) (SpellsNameValue keep a) to from (paying a 1 (name_at keep a) (SpellsName keep a) (item_name keep a))
+  where
+    to : (n : Named) (w v : Beside) (text : List Bool) → PaysFirst 1 (SpellsName keep a) n w v text → SpellsNameValue keep a n w v text
+    to n w v text z = record { between = z.between; first = []; second = text; parts = refl; front = record { bits = refl; pays = z.pays }; behind = z.spelled }
+
+    from : (n : Named) (w v : Beside) (text : List Bool) → SpellsNameValue keep a n w v text → PaysFirst 1 (SpellsName keep a) n w v text
+    from n w v text h =
+        let parts : text ≡ h.second = h.parts ∙ ap (λ (t : List Bool). t ++ h.second) h.front.bits in
+        record { between = h.between; pays = h.front.pays; spelled = subst (λ (t : List Bool). SpellsName keep a n h.between v t) (sym parts) h.behind }
 
 -- ---- a namespace declaration
 module _ (a : Align) where

@@ -5,6 +5,7 @@
 //! so, and the tables and the meter go on as the spelling says. What is spelled so is read, whatever
 //! follows. No spelling is a proper prefix of another, and each spells one value.
 
+ghost use Rattle.exi_typed.specs.NameValues.{NameValuesAgree};
 ghost use Rattle.exi_typed.specs.Laws.{DeclarationsAgree, KnownNamesAgree, LiteralsAgree, LocalsAgree, NamesAgree, UrisAgree, ValuesAgree};
 
 /// A literal is its length in characters and its characters.
@@ -32,6 +33,11 @@ pub fn names_agree()
 /// A name that the event code tells has bits for its prefix alone, and its texts are charged all the same.
 pub fn known_names_agree()
     ensures known { KnownNamesAgree }
+{}
+
+/// A value that is a name is spelled as a qualified name, and charges one unit beside its texts.
+pub fn name_values_agree()
+    ensures name_values { NameValuesAgree }
 {}
 
 /// A namespace declaration is a URI, a prefix in the partition of that URI, and one bit.
