@@ -1,0 +1,5 @@
+pub mod CourseItems
+pub mod Texts
+pub mod NameItems
+pub mod Agree
+pub mod Worked

@@ -1,5 +1,5 @@
 -- What the reading of names and strings goes through: bits, a meter and the string tables.
-use Rattle.std.specs.Prelude.{ℕ, List, Result, Ok, Err}
+use Rattle.std.specs.Prelude.{Result, Ok, Err}
 use Rattle.exi_bits.specs.Bits.{Spot}
 use Rattle.exi_bits.specs.declared.fault.Fault.{Fault}
 use Rattle.exi_meter.specs.Metering.{Metering}

@@ -9,12 +9,10 @@
 --
 -- With bounded value partitions (valueMaxLength, valuePartitionCapacity: section 7.3.3) `values`, `name_values`,
 -- `live_at` and `with_value` of the string tables change, and a place that is not live is then BadPlace here.
-use Rattle.std.specs.Prelude.{ℕ, ◌+◌, ◌-◌, ◌==◌, Bool, true, false, List, [], length, Option, Some, None, unwrap_or, Result, Ok, Err, if◌then◌else◌}
+use Rattle.std.specs.Prelude.{ℕ, ◌+◌, ◌-◌, ◌==◌, Bool, true, false, List, [], length, Option, Some, None, unwrap_or, Ok, if◌then◌else◌}
 use Rattle.exi_bits.specs.declared.align.Align.{Align}
-use Rattle.exi_bits.specs.declared.fault.Fault.{Fault}
 use Rattle.exi_bits.specs.declared.fault.Kind.TheVariants as kind
 use Rattle.exi_bits.specs.Bits.{Spot}
-use Rattle.exi_bits.specs.Repeat.{Reader}
 use Rattle.exi_bits.specs.Unsigned.{◌>>=◌, fault_at, place_at, unsigned_at}
 use Rattle.exi_bits.specs.Widths.{width_for}
 use Rattle.exi_items.specs.Charges.{after_text, text_charge}
@@ -22,7 +20,7 @@ use Rattle.exi_names.specs.declared.names.NameId.{NameId}
 use Rattle.exi_names.specs.declared.names.QName.{QName}
 use Rattle.exi_tables.specs.Partitions.{Partitions, least_place, live_at, locals, name_values, prefixes, uris, values, with_local, with_prefix, with_uri, with_value}
 use Rattle.exi_text.specs.Literals.{chars_at}
-use Rattle.exi_typed.specs.Courses.{Beside, Course, Courser, at_spot_of, failing}
+use Rattle.exi_typed.specs.Courses.{Courser, at_spot_of, failing}
 
 -- ---- one text
 -- how a missed text is added
