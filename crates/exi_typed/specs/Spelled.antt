@@ -13,7 +13,7 @@ use Rattle.exi_names.specs.declared.names.NameId.{NameId}
 use Rattle.exi_tables.specs.Partitions.{live_at, locals, name_values, prefixes, uris, values, with_local, with_prefix, with_uri, with_value}
 use Rattle.exi_text.specs.Spelled.{SpellsChars}
 use Rattle.exi_typed.specs.Courses.{Beside}
-use Rattle.exi_typed.specs.Strings.{Declaration, Growth, Named, place_in}
+use Rattle.exi_typed.specs.Strings.{Declaration, Growth, Named, Partition, count_of, place_in}
 
 -- the meter takes a text of so many characters
 pub record Pays (units : ℕ) (w v : Beside) : Type 0 where
@@ -31,10 +31,10 @@ pub record Follows (First Second : Beside → Beside → List Bool → Type 0) (
 
 -- ---- one text
 -- a text by a place that has it
-pub record IsHit (a : Align) (partition : List (List ℕ)) (x : List ℕ) (w v : Beside) (text : List Bool) : Type 0 where
+pub record IsHit (a : Align) (partition : Partition) (x : List ℕ) (w v : Beside) (text : List Bool) : Type 0 where
   pub place : ℕ
   pub stands : live_at partition place ≡ Some x
-  pub bits : text ≡ number (width_for (length partition)) a place
+  pub bits : text ≡ number (width_for (count_of partition)) a place
   pub pays : Pays (length x) w v
 
 -- the characters of a text behind its length; the text is added
@@ -48,15 +48,15 @@ abbrev pub SpellsLiteral : Align → Growth → List ℕ → Beside → Beside �
 SpellsLiteral a grow x w v text = Then (SpellsUnsigned (length x)) (IsMissed None a grow x w v) text
 
 -- a text by a number one above a place that has it
-pub record IsIndexed (a : Align) (partition : List (List ℕ)) (x : List ℕ) (w v : Beside) (text : List Bool) : Type 0 where
+pub record IsIndexed (a : Align) (partition : Partition) (x : List ℕ) (w v : Beside) (text : List Bool) : Type 0 where
   pub place : ℕ
   pub stands : live_at partition place ≡ Some x
-  pub bits : text ≡ number (width_for (length partition + 1)) a (place + 1)
+  pub bits : text ≡ number (width_for (count_of partition + 1)) a (place + 1)
   pub pays : Pays (length x) w v
 
 -- the number 0 and a literal, or a number above 0
-abbrev pub SpellsIndexed : Align → List (List ℕ) → Growth → List ℕ → Beside → Beside → List Bool → Type 0
-SpellsIndexed a partition grow x w v text = Then (λ code. code ≡ number (width_for (length partition + 1)) a 0) (SpellsLiteral a grow x w v) text ⊎ IsIndexed a partition x w v text
+abbrev pub SpellsIndexed : Align → Partition → Growth → List ℕ → Beside → Beside → List Bool → Type 0
+SpellsIndexed a partition grow x w v text = Then (λ code. code ≡ number (width_for (count_of partition + 1)) a 0) (SpellsLiteral a grow x w v) text ⊎ IsIndexed a partition x w v text
 
 -- ---- names
 abbrev pub SpellsUri : Align → List ℕ → Beside → Beside → List Bool → Type 0

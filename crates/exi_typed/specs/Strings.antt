@@ -7,8 +7,11 @@
 -- stands there already is added once more. Its second place raises the counts alone: whatever is read goes on as
 -- the least place of its text (own).
 --
--- With bounded value partitions (valueMaxLength, valuePartitionCapacity: section 7.3.3) `values`, `name_values`,
--- `live_at` and `with_value` of the string tables change, and a place that is not live is then BadPlace here.
+-- Where the limit of text is passed, the fault's bit is where the text was charged: the first character, or behind
+-- the place (own). A reader of events puts the event's bit in its place.
+--
+-- With bounded value partitions (valueMaxLength, valuePartitionCapacity: section 7.3.3) a `Partition` will also have
+-- places that are no longer live: they count, and tell no text. The growth of values changes, and nothing else.
 use Rattle.std.specs.Prelude.{ℕ, ◌+◌, ◌-◌, ◌==◌, Bool, true, false, List, [], length, Option, Some, None, unwrap_or, Ok, if◌then◌else◌}
 use Rattle.exi_bits.specs.declared.align.Align.{Align}
 use Rattle.exi_bits.specs.declared.fault.Kind.TheVariants as kind
@@ -23,6 +26,14 @@ use Rattle.exi_text.specs.Literals.{chars_at}
 use Rattle.exi_typed.specs.Courses.{Courser, at_spot_of, failing}
 
 -- ---- one text
+-- the texts of a partition of the string tables, by their places
+abbrev pub Partition : Type 0
+Partition = List (List ℕ)
+
+-- how many places were given
+abbrev pub count_of : Partition → ℕ
+count_of partition = length partition
+
 -- how a missed text is added
 abbrev pub Growth : Type 0
 Growth = Partitions → List ℕ → Partitions
@@ -43,9 +54,9 @@ placed_at s (Some text) c = charged_at text c
 placed_at s None c = failing c.beside.meter (fault_at kind.BadPlace s)
 
 -- a hit: the place in the partition, in the fewest bits that tell its places apart
-unfoldable pub hit_at : Align → List (List ℕ) → Courser (List ℕ)
+unfoldable pub hit_at : Align → Partition → Courser (List ℕ)
 hit_at a partition c = do
-  place ← failing c.beside.meter (place_at (width_for (length partition)) a (length partition) c.spot)
+  place ← failing c.beside.meter (place_at (width_for (count_of partition)) a (count_of partition) c.spot)
   placed_at c.spot (live_at partition place.0) (at_spot_of c place.1)
 
 -- a miss of so many characters
@@ -61,9 +72,9 @@ literal_at a grow c = do
   missed_at None a grow count.0 (at_spot_of c count.1)
 
 -- a place or a literal, told apart by one number: 0 is a miss, and a literal follows; k is a hit at place k - 1
-unfoldable pub indexed_at : Align → List (List ℕ) → Growth → Courser (List ℕ)
+unfoldable pub indexed_at : Align → Partition → Growth → Courser (List ℕ)
 indexed_at a partition grow c = do
-  code ← failing c.beside.meter (place_at (width_for (length partition + 1)) a (length partition + 1) c.spot)
+  code ← failing c.beside.meter (place_at (width_for (count_of partition + 1)) a (count_of partition + 1) c.spot)
   if code.0 == 0 then literal_at a grow (at_spot_of c code.1) else placed_at c.spot (live_at partition (code.0 - 1)) (at_spot_of c code.1)
 
 -- ---- names
@@ -77,7 +88,7 @@ local_at a uri c = do
   code ← failing c.beside.meter (unsigned_at c.spot)
   if code.0 == 0 then hit_at a (locals c.beside.tables uri) (at_spot_of c code.1) else missed_at None a (λ p. with_local p uri) (code.0 - 1) (at_spot_of c code.1)
 
-abbrev pub told_prefix : Align → List (List ℕ) → Courser (Option (List ℕ))
+abbrev pub told_prefix : Align → Partition → Courser (Option (List ℕ))
 told_prefix a [] c = Ok (None, c)
 told_prefix a partition c = do
   text ← hit_at a partition c
@@ -90,7 +101,7 @@ prefix_at true a uri c = told_prefix a (prefixes c.beside.tables uri) c
 prefix_at false a uri c = Ok (None, c)
 
 -- the least place of a text that stands in the partition
-abbrev pub place_in : List (List ℕ) → List ℕ → ℕ
+abbrev pub place_in : Partition → List ℕ → ℕ
 place_in partition text = unwrap_or (least_place partition text) 0
 
 -- a name, and its places in the tables
