@@ -2,3 +2,4 @@ pub mod Configurations
 pub mod Laws
 pub mod OneEvent
 pub mod Runs
+pub mod Sound

@@ -1,0 +1,62 @@
+-- What holds of each configuration that reading reaches, so that no definition of one event meets a case that is
+-- there only to make it whole: a place without a text, a grammar without a number, characters without an element.
+use Rattle.std.specs.Prelude.{◌≡◌, ◌≢◌, ◌⊎◌, ℕ, true, List, [], length, Option, Some, All, Ok}
+use Rattle.exi_bits.specs.Bits.{Spot}
+use Rattle.exi_builtin.specs.declared.learnable.Learnable.{Learnable}
+use Rattle.exi_builtin.specs.declared.learnable.Learnable.TheVariants as learnable
+use Rattle.exi_builtin.specs.Learning.{Grammar, Learning}
+use Rattle.exi_meter.specs.Metering.{Bounds}
+use Rattle.exi_names.specs.declared.names.NameId.{NameId}
+use Rattle.exi_names.specs.Events.{Happening}
+use Rattle.exi_names.specs.StartTables.{IsStart}
+use Rattle.std.specs.Prelude.{slice_get}
+use Rattle.exi_tables.specs.Growth.{IsLeast}
+use Rattle.exi_tables.specs.Partitions.{Partitions, locals, uris}
+use Rattle.exi_reader.specs.Configurations.{Config, Element, Setting, Start, document_end, first_config, fragment_content}
+use Rattle.exi_reader.specs.OneEvent.{one}
+
+-- the places of a name stand, and they are the least places of its texts
+pub record IsLeastName (p : Partitions) (name : NameId) : Type 0 where
+  pub uri : List ℕ
+  pub local : List ℕ
+  pub least_uri : IsLeast (uris p) uri name.uri
+  pub least_local : IsLeast (locals p name.uri) local name.local
+
+-- what was learned speaks of such names
+abbrev pub IsOfNames : Partitions → Learnable → Type 0
+IsOfNames p (learnable.Known name attribute) = IsLeastName p name
+IsOfNames p other = Unit {0}
+
+pub record IsSoundGrammar (p : Partitions) (g : Grammar) : Type 0 where
+  pub name : IsLeastName p g.name
+  pub start_tag : All (IsOfNames p) g.start_tag
+  pub content : All (IsOfNames p) g.content
+
+pub record IsSoundLearning (p : Partitions) (l : Learning) : Type 0 where
+  pub grammars : All (IsSoundGrammar p) l.grammars
+  pub fragment : All (IsOfNames p) l.fragment
+
+-- an open element has such a name, and the grammar of that name
+pub record IsSoundElement (p : Partitions) (l : Learning) (e : Element) : Type 0 where
+  pub name : IsLeastName p e.name
+  pub grammar : Grammar
+  pub stands : slice_get l.grammars e.grammar ≡ Some grammar
+  pub same : grammar.name ≡ e.name
+
+pub record IsSound (c : Config) : Type 0 where
+  pub learned : IsSoundLearning c.course.beside.tables c.learned
+  pub elements : All (IsSoundElement c.course.beside.tables c.learned) c.elements
+  -- as many levels are entered as elements are open
+  pub level : c.course.beside.meter.level ≡ length c.elements
+  -- an element is open only where the document's element or a fragment's content is read
+  pub outside : c.elements ≢ [] → (c.outer ≡ document_end) ⊎ (c.outer ≡ fragment_content)
+  -- an SE was given last only where an element is open
+  pub after_start : c.after_start ≡ true → c.elements ≢ []
+
+-- the first configuration is sound
+abbrev pub FirstIsSound : Type 0
+FirstIsSound = (g : Setting) (start : Start) (limits : Bounds) (begin : Spot) → IsStart g.names → IsSound (first_config g start limits begin)
+
+-- and a step leads from one that is sound to one that is
+abbrev pub StepsKeepSound : Type 0
+StepsKeepSound = (g : Setting) (c next : Config) (e : Option Happening) → IsSound c → one g c ≡ Ok (e, next) → IsSound next
