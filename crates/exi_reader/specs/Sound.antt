@@ -1,6 +1,6 @@
 -- What holds of each configuration that reading reaches, so that no definition of one event meets a case that is
 -- there only to make it whole: a place without a text, a grammar without a number, characters without an element.
-use Rattle.std.specs.Prelude.{◌≡◌, ◌≢◌, ◌⊎◌, ℕ, true, List, [], length, Option, Some, All, Ok}
+use Rattle.std.specs.Prelude.{◌≡◌, ◌≢◌, ◌⊎◌, true, false, List, [], length, Option, Some, All, Ok}
 use Rattle.exi_bits.specs.Bits.{Spot}
 use Rattle.exi_builtin.specs.declared.learnable.Learnable.{Learnable}
 use Rattle.exi_builtin.specs.declared.learnable.Learnable.TheVariants as learnable
@@ -27,6 +27,11 @@ abbrev pub IsOfNames : Partitions → Learnable → Type 0
 IsOfNames p (learnable.Known name attribute) = IsLeastName p name
 IsOfNames p other = Unit {0}
 
+-- a fragment's content has learned elements alone
+abbrev pub IsElementOfName : Partitions → Learnable → Type 0
+IsElementOfName p (learnable.Known name false) = IsLeastName p name
+IsElementOfName p other = ⊥
+
 pub record IsSoundGrammar (p : Partitions) (g : Grammar) : Type 0 where
   pub name : IsLeastName p g.name
   pub start_tag : All (IsOfNames p) g.start_tag
@@ -34,7 +39,7 @@ pub record IsSoundGrammar (p : Partitions) (g : Grammar) : Type 0 where
 
 pub record IsSoundLearning (p : Partitions) (l : Learning) : Type 0 where
   pub grammars : All (IsSoundGrammar p) l.grammars
-  pub fragment : All (IsOfNames p) l.fragment
+  pub fragment : All (IsElementOfName p) l.fragment
 
 -- an open element has such a name, and the grammar of that name
 pub record IsSoundElement (p : Partitions) (l : Learning) (e : Element) : Type 0 where
