@@ -1,6 +1,6 @@
 -- What holds of each configuration that reading reaches, so that no definition of one event meets a case that is
 -- there only to make it whole: a place without a text, a grammar without a number, characters without an element.
-use Rattle.std.specs.Prelude.{◌≡◌, ◌≢◌, ◌⊎◌, true, false, List, [], length, Option, Some, All, Ok}
+use Rattle.std.specs.Prelude.{◌≡◌, ◌≢◌, ◌⊎◌, ℕ, true, false, List, [], length, Some, All, Ok, slice_get}
 use Rattle.exi_bits.specs.Bits.{Spot}
 use Rattle.exi_builtin.specs.declared.learnable.Learnable.{Learnable}
 use Rattle.exi_builtin.specs.declared.learnable.Learnable.TheVariants as learnable
@@ -9,7 +9,6 @@ use Rattle.exi_meter.specs.Metering.{Bounds}
 use Rattle.exi_names.specs.declared.names.NameId.{NameId}
 use Rattle.exi_names.specs.Events.{Happening}
 use Rattle.exi_names.specs.StartTables.{IsStart}
-use Rattle.std.specs.Prelude.{slice_get}
 use Rattle.exi_tables.specs.Growth.{IsLeast}
 use Rattle.exi_tables.specs.Partitions.{Partitions, locals, uris}
 use Rattle.exi_reader.specs.Configurations.{Config, Element, Setting, Start, document_end, first_config, fragment_content}
