@@ -1,6 +1,6 @@
 -- What holds of each configuration that reading reaches, so that no definition of one event meets a case that is
 -- there only to make it whole: a place without a text, a grammar without a number, characters without an element.
-use Rattle.std.specs.Prelude.{◌≡◌, ◌≢◌, ◌⊎◌, ℕ, true, false, List, [], length, Some, All, Ok, slice_get}
+use Rattle.std.specs.Prelude.{◌≡◌, ◌≢◌, ◌⊎◌, ℕ, true, false, List, [], length, Option, Some, All, Ok, slice_get}
 use Rattle.exi_bits.specs.Bits.{Spot}
 use Rattle.exi_builtin.specs.declared.learnable.Learnable.{Learnable}
 use Rattle.exi_builtin.specs.declared.learnable.Learnable.TheVariants as learnable
