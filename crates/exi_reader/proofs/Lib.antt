@@ -1,4 +1,6 @@
+mod Keeping
 mod Onward
 mod Sequences
+mod Standing
 mod Steps
 mod Worked
