@@ -1,4 +1,5 @@
 mod Keeping
+mod Learns
 mod Onward
 mod Sequences
 mod Standing
