@@ -1,5 +1,6 @@
 mod Keeping
 mod Learns
+mod Offered
 mod Onward
 mod Sequences
 mod Standing
