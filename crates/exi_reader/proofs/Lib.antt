@@ -1,5 +1,6 @@
 mod Keeping
 mod Learns
+mod Moves
 mod Offered
 mod Onward
 mod Sequences
