@@ -4,6 +4,7 @@ mod Moves
 mod Offered
 mod Onward
 mod Sequences
+mod Soundness
 mod Standing
 mod Steps
 mod Worked
