@@ -1,10 +1,14 @@
+mod Afters
+mod Contents
 mod Keeping
 mod Learns
 mod Moves
 mod Offered
 mod Onward
+mod Reached
 mod Sequences
 mod Soundness
 mod Standing
 mod Steps
+mod Terminals
 mod Worked

@@ -13,6 +13,7 @@ use Rattle.exi_tables.specs.Growth.{IsLeast}
 use Rattle.exi_tables.specs.Partitions.{Partitions, locals, uris}
 use Rattle.exi_reader.specs.Configurations.{Config, Element, Setting, Start, document_end, first_config, fragment_content}
 use Rattle.exi_reader.specs.OneEvent.{one}
+use Rattle.exi_reader.specs.Runs.{Leads}
 
 -- the places of a name stand, and they are the least places of its texts
 pub record IsLeastName (p : Partitions) (name : NameId) : Type 0 where
@@ -64,3 +65,7 @@ FirstIsSound = (g : Setting) (start : Start) (limits : Bounds) (begin : Spot) �
 -- and a step leads from one that is sound to one that is
 abbrev pub StepsKeepSound : Type 0
 StepsKeepSound = (g : Setting) (c next : Config) (e : Option Happening) → IsSound c → one g c ≡ Ok (e, next) → IsSound next
+
+-- so each configuration that turns lead to from the first is sound
+abbrev pub ReachedAreSound : Type 0
+ReachedAreSound = (g : Setting) (start : Start) (limits : Bounds) (begin : Spot) (turns : List (Option Happening)) (reached : Config) → IsStart g.names → Leads g (first_config g start limits begin) turns reached → IsSound reached

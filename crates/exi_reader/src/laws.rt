@@ -2,6 +2,7 @@
 //! the law.
 
 ghost use Rattle.exi_reader.specs.Laws.{AFaultEnds, ARunIsThere, ASequenceIsThere, FewTurns, IsFrontOfRun, NeverBack, OneRun, OneSequence, OneStepOrOneFault};
+ghost use Rattle.exi_reader.specs.Sound.{FirstIsSound, ReachedAreSound, StepsKeepSound};
 
 /// A configuration that has not ended has exactly one step or exactly one fault.
 pub fn one_step_or_one_fault()
@@ -46,4 +47,20 @@ pub fn one_sequence()
 /// Reading a body takes at most one turn more than its limit of events.
 pub fn few_turns()
     ensures law { FewTurns }
+{}
+
+/// The first configuration is sound: no element is open, and nothing is learned.
+pub fn first_is_sound()
+    ensures law { FirstIsSound }
+{}
+
+/// A step leads from a sound configuration to a sound one: names go on as the least places of their
+/// texts, an open element has the grammar of its name, and each has its level.
+pub fn steps_keep_sound()
+    ensures law { StepsKeepSound }
+{}
+
+/// Each configuration that turns lead to from the first is sound.
+pub fn reached_are_sound()
+    ensures law { ReachedAreSound }
 {}

@@ -1,0 +1,76 @@
+-- What the values and texts of events keep, and what their charges make of the meter.
+use Rattle.std.proofs.Common.{◌≡◌, ◌≢◌, ℕ, ◌+◌, ◌-◌, Bool, true, false, cond, List, [], ◌∷◌, length, Option, Some, None, Result, Ok, Err, refl, sym, ap, ◌∙◌, subst, arith}
+use Rattle.std.proofs.lemmas.List.Elements.{All-nil}
+use Rattle.exi_bits.specs.Bits.{Spot}
+use Rattle.exi_bits.specs.Unsigned.{◌>>=◌}
+use Rattle.exi_bits.specs.declared.fault.Kind.{Kind}
+use Rattle.exi_bits.specs.declared.fault.Kind.TheVariants as kind
+use Rattle.exi_builtin.specs.declared.learnable.Learned.{Learned}
+use Rattle.exi_builtin.specs.declared.learnable.Learned.TheVariants as used
+use Rattle.exi_builtin.specs.Learning.{grammar_number, is_type, nothing_learned}
+use Rattle.exi_gram.specs.Codes.{code_at}
+use Rattle.exi_gram.specs.Switches.{align_of, prefixes, strict}
+use Rattle.exi_items.specs.Charges.{text_charge}
+use Rattle.exi_meter.specs.Metering.{Metering, event_fits, level_fits, with_event, with_level, with_text}
+use Rattle.exi_names.specs.declared.names.NameId.{NameId}
+use Rattle.exi_names.specs.Events.{Happening}
+use Rattle.exi_names.specs.Events as happening
+use Rattle.exi_names.specs.Seen.{Value}
+use Rattle.exi_names.specs.Seen as value
+use Rattle.exi_tables.specs.Growth.{KeepsAll}
+use Rattle.exi_tables.specs.Partitions.{Partitions, first_partitions}
+use Rattle.exi_typed.specs.Courses.{Course, Courser, Failure, at_spot_of, failing}
+use Rattle.exi_typed.specs.NameValues.{name_value_at, with_meter}
+use Rattle.exi_typed.specs.Strings.{Declaration, Named, declaration_at, known_at, name_at, no_growth, value_at}
+use Rattle.exi_reader.specs.Configurations.{Config, Element, Setting, Terminal, any_attribute, any_element, characters, comment, declaration, document_type, end_document, end_element, entity, first_config, instruction, known_attribute, known_element, productions_of, self_contained, start_document, start_tag}
+use Rattle.exi_reader.specs.OneEvent.{Given, any_attribute_at, any_element_at, at_event, attribute_value_at, characters_at, charged_if, closed, comment_at, declaration_event_at, document_type_at, enclosing, entity_at, event_charge, event_of, instruction_at, is_start, known_attribute_at, known_element_at, learns, level_charge, moved_outer, moves, name_of, one, opened, string_at, text_at, type_at, went}
+use Rattle.exi_reader.specs.Runs.{Leads, closed_end, ends, goes, has_ended, turned_by}
+use Rattle.exi_reader.specs.Sound.{FirstIsSound, IsElementOfName, IsLeastName, IsSound, IsSoundElement, IsSoundGrammar, ReachedAreSound, StepsKeepSound}
+use Rattle.exi_reader.proofs.Keeping.{Keeps, Kept, all_same, declaration_kept, kept_either, kept_made, kept_same, kept_then, known_kept, literal_kept, name_kept, value_kept}
+use Rattle.exi_reader.proofs.Moves.{Inside, IsWhereOpen, MayLearn, any_opens, cons_is_some, inside_closed, inside_learns, inside_moves, inside_opened, inside_went, known_opens, known_stands, may_attribute, may_characters, may_element, may_end, moved_count}
+use Rattle.exi_reader.proofs.Offered.{Offers, code_is, offered}
+use Rattle.exi_reader.proofs.Onward.{bind_is, charge_is, failing_is, good, good_is}
+use Rattle.exi_reader.proofs.Standing.{name_is_least, name_on}
+
+-- ---- charges
+abbrev pub metered : Course → Metering → Course
+metered c m = record c { beside = record c.beside { meter = m } }
+
+pub charged_is : (b : Bool) (k : Kind) (bit : ℕ) (c d : Course) (m : Metering) → charged_if b k bit c m ≡ good d → metered c m ≡ d
+charged_is true k bit c d m e = good_is (metered c m) d e
+charged_is false k bit c d m e = absurd cc
+
+-- ---- values
+name_value_kept : (keep : Bool) (g : Setting) → Keeps (name_value_at keep (align_of g.options))
+unfolding name_value_at
+name_value_kept keep g c d x e =
+    let b = bind_is (failing c.beside.meter (text_charge 1 c.spot.place c.beside.meter)) (λ (m : Metering). name_at keep (align_of g.options) (with_meter c m)) (x, d) e in
+    let k = charge_is 1 c.spot.place c.beside.meter b.0 (failing_is c.beside.meter (text_charge 1 c.spot.place c.beside.meter) b.0 b.1) in
+    let charged : Kept c (with_meter c (with_text c.beside.meter 1)) = record { tables = all_same c.beside.tables; level = refl } in
+    kept_then c (with_meter c b.0) d (subst (λ (m : Metering). Kept c (with_meter c m)) k charged) (name_kept keep (align_of g.options) (with_meter c b.0) d x b.2)
+
+no_type : Course → Named × Course → Result (Value × Course) Failure
+no_type c name = Err (record { fault = record { kind = kind.BadType; bit = c.spot.place }; meter = name.1.beside.meter })
+
+the_type : Named × Course → Result (Value × Course) Failure
+the_type name = good (value.name name.0.name, name.1)
+
+type_kept : (g : Setting) → Keeps (type_at g)
+unfolding type_at no_type the_type
+type_kept g c d x e =
+    let b = bind_is (name_value_at (prefixes g.options) (align_of g.options) c) (λ (name : Named × Course). cond (strict g.options) (no_type c name) (the_type name)) (x, d) e in
+    kept_then c b.0.1 d (name_value_kept (prefixes g.options) g c b.0.1 b.0.0 b.1) (by_strict (strict g.options) b.0 b.2)
+  where
+    by_strict : (b : Bool) (name : Named × Course) → cond b (no_type c name) (the_type name) ≡ good (x, d) → Kept name.1 d
+    by_strict true name h = absurd cc
+    by_strict false name h = subst (λ (z : Course). Kept name.1 z) (ap (λ (z : Value × Course). z.1) (good_is (value.name name.0.name, name.1) (x, d) h)) (kept_same name.1)
+
+pub string_kept : (g : Setting) (name : NameId) → Keeps (string_at g name)
+unfolding string_at
+string_kept g name = kept_made (value_at None (align_of g.options) name) (λ text c. value.text text) (value_kept None (align_of g.options) name)
+
+pub attribute_kept : (g : Setting) (name : NameId) → Keeps (attribute_value_at g name)
+attribute_kept g name = kept_either (is_type name) (type_at g) (string_at g name) (type_kept g) (string_kept g name)
+
+pub text_kept : (g : Setting) → Keeps (text_at g)
+text_kept g = literal_kept (align_of g.options) no_growth (λ p text. all_same p)
