@@ -1,5 +1,5 @@
 -- What the built-in grammars learn speaks of names that stand, and each grammar keeps its number and its name.
-use Rattle.std.proofs.Common.{◌≡◌, ℕ, zero, suc, ◌<◌, Bool, true, false, cond, List, [], ◌∷◌, ◌++◌, length, Option, Some, None, get_or, refl, sym, ap, ◌∙◌, subst}
+use Rattle.std.proofs.Common.{◌≡◌, ℕ, zero, suc, Bool, true, false, cond, List, [], ◌∷◌, ◌++◌, length, Option, Some, None, get_or, refl, ap, ◌∙◌}
 use Rattle.std.specs.Prelude.{◌&&◌, ◌==◌, All, slice_get, unwrap_or}
 use Rattle.std.proofs.lemmas.Bool.{eqb-true}
 use Rattle.std.proofs.lemmas.List.Elements.{All-cons, All-head, All-nil, All-push, All-tail, All-weaker}
@@ -8,7 +8,6 @@ use Rattle.std.proofs.lemmas.Option.{none-some, same_Some, slice_get-get_or}
 use Rattle.exi_builtin.specs.declared.learnable.Learnable.{Learnable}
 use Rattle.exi_builtin.specs.declared.learnable.Learnable.TheVariants as learnable
 use Rattle.exi_builtin.specs.declared.learnable.Learned.{Learned}
-use Rattle.exi_builtin.specs.declared.learnable.Learned.TheVariants as used
 use Rattle.exi_builtin.specs.declared.learnable.Room.{Room}
 use Rattle.exi_builtin.specs.declared.learnable.Room.TheVariants as room
 use Rattle.exi_builtin.specs.Learning.{Grammar, Learning, added_by, after_use, changed_at, grammar_number, grammar_place, is_new, new_grammar, same_name, with_grammar}

@@ -1,7 +1,7 @@
 -- What the changes of a configuration keep: going on, learning, the next state, an element opened and closed.
-use Rattle.std.proofs.Common.{◌≡◌, ◌≢◌, ◌⊎◌, ℕ, List, [], ◌∷◌, length, Option, Some, None, inl, inr, refl, sym, ap, ◌∙◌, subst}
+use Rattle.std.proofs.Common.{◌≡◌, ◌≢◌, ◌⊎◌, ℕ, List, [], ◌∷◌, length, inl, inr, refl, ap}
 use Rattle.std.specs.Prelude.{All}
-use Rattle.std.proofs.lemmas.List.Elements.{All-cons, All-head, All-nil, All-tail, All-weaker}
+use Rattle.std.proofs.lemmas.List.Elements.{All-cons, All-head, All-tail, All-weaker}
 use Rattle.exi_builtin.specs.declared.learnable.Learned.{Learned}
 use Rattle.exi_builtin.specs.declared.learnable.Learned.TheVariants as used
 use Rattle.exi_builtin.specs.declared.learnable.Room.TheVariants as room

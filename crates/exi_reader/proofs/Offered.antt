@@ -1,14 +1,12 @@
 -- What a code can tell in a sound configuration: which terminals are offered in each state, and of which names.
-use Rattle.std.proofs.Common.{◌≡◌, ◌⊎◌, ℕ, Bool, true, false, cond, List, [], ◌∷◌, ◌++◌, length, map, filter, Option, Some, None, Ok, Err, inl, inr, refl, ap, ◌∙◌, subst}
+use Rattle.std.proofs.Common.{◌≡◌, ◌⊎◌, ℕ, Bool, true, false, cond, List, [], ◌∷◌, ◌++◌, length, filter, Option, Some, None, inl, inr, refl, ap, subst}
 use Rattle.std.specs.Prelude.{All, slice_get}
 use Rattle.std.proofs.lemmas.List.Elements.{All-append, All-cons, All-filter, All-from_recursion, All-head, All-map, All-nil, All-tail, All-weaker}
 use Rattle.std.proofs.lemmas.Option.{get_or_from_slice_get, slice_get_within}
 use Rattle.exi_bits.specs.declared.align.Align.{Align}
 use Rattle.exi_bits.specs.Bits.{Spot}
-use Rattle.exi_bits.specs.Unsigned.{◌>>=◌}
 use Rattle.exi_builtin.specs.declared.learnable.Learnable.{Learnable}
 use Rattle.exi_builtin.specs.declared.learnable.Learnable.TheVariants as learnable
-use Rattle.exi_builtin.specs.declared.learnable.Room.{Room}
 use Rattle.exi_builtin.specs.declared.learnable.Room.TheVariants as room
 use Rattle.exi_builtin.specs.BuiltIn.{element_content, is_kept, left_of, start_tag_content}
 use Rattle.exi_builtin.specs.BuiltIn as built
@@ -16,7 +14,7 @@ use Rattle.exi_builtin.specs.Learning.{Grammar, Learning, behind_learned, produc
 use Rattle.exi_gram.specs.declared.options.Options.{Options}
 use Rattle.exi_gram.specs.Codes.{Productions, Second, code_at, first_told, first_values, group, kept_second, kept_seconds, mapped, mapped_second, member_at, part_at, pruned, second_at, second_told, single, told}
 use Rattle.exi_tables.specs.Partitions.{Partitions}
-use Rattle.exi_reader.specs.Configurations.{Config, Element, Outer, Setting, Stage, Terminal, any_element, built_in, comment, content, document, document_content, document_content_productions, document_end, document_end_productions, document_type, end_document, ended, fragment_content, fragment_start, instruction, is_left, known_attribute, known_element, outer_productions, productions_in, productions_of, room_at, start_document, start_productions, start_tag, terminal_of}
+use Rattle.exi_reader.specs.Configurations.{Element, Outer, Stage, Terminal, any_element, built_in, comment, content, document, document_content, document_content_productions, document_end, document_end_productions, document_type, end_document, ended, fragment_content, fragment_start, instruction, is_left, known_attribute, known_element, outer_productions, productions_in, room_at, start_document, start_productions, start_tag, terminal_of}
 use Rattle.exi_reader.specs.Sound.{IsElementOfName, IsLeastName, IsOfNames, IsSoundGrammar, IsSoundLearning}
 use Rattle.exi_reader.proofs.Onward.{bind_is, good, good_is}
 

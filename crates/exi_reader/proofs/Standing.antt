@@ -1,5 +1,5 @@
 -- A name that is read stands in the string tables, and goes on as its least places.
-use Rattle.std.proofs.Common.{◌≡◌, ◌⊎◌, ◌<◌, ℕ, ◌+◌, ◌-◌, Bool, true, false, cond, eqb, List, [], ◌∷◌, ◌++◌, length, Option, Some, None, Ok, Err, get_or, inl, inr, refl, sym, ap, ◌∙◌, subst, arith}
+use Rattle.std.proofs.Common.{◌≡◌, ◌⊎◌, ◌<◌, ℕ, ◌+◌, ◌-◌, Bool, true, false, cond, eqb, List, [], ◌∷◌, ◌++◌, length, Option, Some, None, get_or, inl, inr, refl, sym, ap, ◌∙◌, subst, arith}
 use Rattle.std.specs.Prelude.{slice_get, unwrap_or}
 use Rattle.std.proofs.lemmas.Option.{slice_get_within, slice_get-get_or}
 use Rattle.exi_bits.specs.declared.align.Align.{Align}
@@ -14,11 +14,11 @@ use Rattle.exi_tables.specs.Partitions.{Partitions, and_local, least_place, live
 use Rattle.exi_tables.proofs.Growing.{changed_within}
 use Rattle.exi_tables.proofs.Least.{least_found, least_none}
 use Rattle.std.proofs.lemmas.List.{map-append}
-use Rattle.exi_typed.specs.Courses.{Course, Courser, at_spot_of, failing}
+use Rattle.exi_typed.specs.Courses.{Course, at_spot_of, failing}
 use Rattle.exi_typed.specs.Strings.{Growth, Named, charged_at, hit_at, indexed_at, literal_at, local_at, missed_at, name_at, name_under, place_in, placed_at, prefix_at, uri_at}
 use Rattle.exi_reader.specs.Sound.{IsLeastName}
-use Rattle.exi_reader.proofs.Keeping.{Kept, all_same, hit_kept, kept_then, local_kept, missed_is, placed_kept, prefix_kept, spot_kept, under, under_kept, uri_kept}
-use Rattle.exi_reader.proofs.Onward.{bind_is, failing_is, good, good_is}
+use Rattle.exi_reader.proofs.Keeping.{Kept, hit_kept, kept_then, local_kept, missed_is, prefix_kept, under, uri_kept}
+use Rattle.exi_reader.proofs.Onward.{bind_is, good, good_is}
 
 -- ---- a text stands in a partition
 abbrev pub Stands : List (List ℕ) → List ℕ → Type 0
