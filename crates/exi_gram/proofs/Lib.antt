@@ -1,0 +1,3 @@
+pub mod CodeItems
+pub mod CodeLaws
+pub mod CodeLists

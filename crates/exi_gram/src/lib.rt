@@ -1,6 +1,7 @@
 //! Grammars, event codes and options of EXI 1.0.
 #![tactic(auto)]
 
+pub mod laws;
 mod options;
 mod part;
 
