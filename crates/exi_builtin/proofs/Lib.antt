@@ -1,2 +1,4 @@
 pub mod Layouts
 pub mod Shapes
+pub mod Numbering
+pub mod Naming

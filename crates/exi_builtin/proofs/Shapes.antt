@@ -11,6 +11,7 @@ use Rattle.exi_builtin.specs.declared.learnable.Room.TheVariants as room
 use Rattle.exi_builtin.specs.BuiltIn.{is_kept, left_of, written}
 use Rattle.exi_builtin.specs.Layout.{laid_out, laid_seconds}
 use Rattle.exi_builtin.specs.Learning.{behind_learned}
+use Rattle.exi_builtin.proofs.Layouts.{kept_laid}
 
 -- no option switches off what has a code of one part
 pub firsts_kept : (o : Options) (r : Room) → filter (is_kept o) (written r).firsts ≡ (written r).firsts
@@ -38,3 +39,8 @@ pub first_tells : (a b : Align) (p : Productions Learnable) (firsts : List Learn
 unfolding code_at
 first_tells a b p firsts seconds count first s t found is align same read at =
     let here : part_at (length firsts + longer seconds) a s ≡ Ok (first, t) = rw (← align, ← same) read in rw (is, here, at) refl
+
+pub kept_shape : (o : Options) (r : Room) (learned firsts singles members : List Learnable) → laid_out firsts singles members ≡ written r →
+    behind_learned learned (left_of o (written r)) ≡ shape (learned ++ filter (is_kept o) firsts) (laid_seconds (filter (is_kept o) singles) (filter (is_kept o) members))
+kept_shape o r learned firsts singles members laid =
+    ap (λ p. behind_learned learned (left_of o p)) (sym laid) ∙ ap (λ ss. shape (learned ++ filter (is_kept o) firsts) ss) (kept_laid (is_kept o) singles members)

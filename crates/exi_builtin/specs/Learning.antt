@@ -72,7 +72,8 @@ changed_at [] place change = []
 changed_at (g ∷ gs) zero change = change g ∷ gs
 changed_at (g ∷ gs) (suc place) change = g ∷ changed_at gs place change
 
-abbrev in_front : Learning → Room → Learnable → Learning
+-- a production in front of those of a state
+abbrev pub in_front : Learning → Room → Learnable → Learning
 in_front l (room.StartTag number) x = record l { grammars = changed_at l.grammars number (λ g. record g { start_tag = x ∷ g.start_tag }) }
 in_front l (room.Content number) x = record l { grammars = changed_at l.grammars number (λ g. record g { content = x ∷ g.content }) }
 in_front l room.Fragment x = record l { fragment = x ∷ l.fragment }

@@ -5,3 +5,4 @@ pub mod Numbers
 pub mod Marks
 pub mod Kept
 pub mod Layout
+pub mod CodeParts

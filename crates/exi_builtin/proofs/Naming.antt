@@ -1,0 +1,43 @@
+-- A name's grammar is found by the number that is kept for the name; and a grammar is changed at its place.
+use Rattle.std.proofs.Common.{◌≡◌, ℕ, zero, suc, ◌<◌, ◌+◌, Bool, true, false, cond, List, [], ◌∷◌, ◌++◌, length, set, get_or, refl, ap, sym, ◌∙◌, arith, inl, inr, Option, Some, None, Result, Ok, Err}
+use Rattle.std.specs.Prelude.{position, OnOk, ◌&&◌, nat_eq}
+use Rattle.std.specs.List.{position_from}
+use Rattle.std.proofs.lemmas.Bool.{cases_Bool, eqb-true}
+use Rattle.std.proofs.lemmas.Iterator.Adapters.{position_from-zero}
+use Rattle.exi_names.specs.declared.names.NameId.{NameId}
+use Rattle.exi_builtin.specs.declared.element_grammar.ElementGrammar.{ElementGrammar}
+use Rattle.exi_builtin.specs.Learning.{changed_at, new_grammar}
+use Rattle.exi_builtin.specs.Numbers.{number_at}
+use Rattle.exi_builtin.specs.Uses.{same_name}
+
+pub on_ok : {T E P Q : Type 0} (r : Result T E) → OnOk r P → (P → Q) → OnOk r Q
+on_ok (Ok x) p follows = follows p
+on_ok (Err e) p follows = tt
+
+-- the grammar at a place, changed
+pub set-changed_at : (change : ElementGrammar → ElementGrammar) (gs : List ElementGrammar) (i : ℕ) (g : ElementGrammar) → i < length gs → g ≡ get_or gs i g → set gs i (change g) ≡ changed_at gs i change
+set-changed_at change [] i g h e = absurd (omega (arith, h))
+set-changed_at change (x ∷ xs) zero g h e = ap (λ y. change y ∷ xs) e
+set-changed_at change (x ∷ xs) (suc i) g h e =
+    let within : i < length xs = omega (arith, h) in ap (λ ys. x ∷ ys) (set-changed_at change xs i g within e)
+
+-- ---- one more grammar
+from_new : {X : Type 0} (p : X → Bool) (i : ℕ) (xs : List X) (x : X) → position_from p i xs ≡ None → p x ≡ true → position_from p i (xs ++ x ∷ []) ≡ Some (i + length xs)
+from_new p i [] x none passes = let same : i + 0 ≡ i = omega arith in rw (passes, same) refl
+from_new p i (y ∷ ys) x none passes = elim (cases_Bool (p y)) [
+  | inl yes_is ↦ let wrong : Some i ≡ None = rw yes_is at none in absurd (cc)
+  | inr no_is ↦
+      let rest : position_from p (i + 1) ys ≡ None = rw no_is at none in
+      let same : i + 1 + length ys ≡ i + length (y ∷ ys) = omega arith in
+      rw no_is (rw same at (from_new p (i + 1) ys x rest passes))
+]
+
+from_other : {X : Type 0} (p : X → Bool) (i : ℕ) (xs : List X) (x : X) → p x ≡ false → position_from p i (xs ++ x ∷ []) ≡ position_from p i xs
+from_other p i [] x past = rw past refl
+from_other p i (y ∷ ys) x past = ap (λ o. cond (p y) (Some i) o) (from_other p (i + 1) ys x past)
+
+pub position_new : {X : Type 0} (p : X → Bool) (xs : List X) (x : X) → position p xs ≡ None → p x ≡ true → position p (xs ++ x ∷ []) ≡ Some (length xs)
+position_new p xs x none passes = ?
+
+pub position_other : {X : Type 0} (p : X → Bool) (xs : List X) (x : X) → p x ≡ false → position p (xs ++ x ∷ []) ≡ position p xs
+position_other p xs x past = ?
