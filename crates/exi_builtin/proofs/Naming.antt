@@ -2,7 +2,7 @@
 use Rattle.std.proofs.Common.{◌≡◌, ℕ, zero, suc, ◌<◌, ◌+◌, Bool, true, false, cond, List, [], ◌∷◌, ◌++◌, length, set, get_or, refl, ap, sym, ◌∙◌, arith, inl, inr, Option, Some, None, Result, Ok, Err}
 use Rattle.std.specs.Prelude.{position, OnOk, ◌&&◌, nat_eq}
 use Rattle.std.specs.List.{position_from}
-use Rattle.std.proofs.lemmas.Bool.{cases_Bool, eqb-true}
+use Rattle.std.proofs.lemmas.Bool.{cases_Bool, eq-eqb, eqb-false, eqb-true, ne_eqb}
 use Rattle.std.proofs.lemmas.Iterator.Adapters.{position_from-zero}
 use Rattle.exi_names.specs.declared.names.NameId.{NameId}
 use Rattle.exi_builtin.specs.declared.element_grammar.ElementGrammar.{ElementGrammar}
@@ -37,7 +37,49 @@ from_other p i [] x past = rw past refl
 from_other p i (y ∷ ys) x past = ap (λ o. cond (p y) (Some i) o) (from_other p (i + 1) ys x past)
 
 pub position_new : {X : Type 0} (p : X → Bool) (xs : List X) (x : X) → position p xs ≡ None → p x ≡ true → position p (xs ++ x ∷ []) ≡ Some (length xs)
-position_new p xs x none passes = ?
+position_new p xs x none passes =
+    let absent : position_from p 0 xs ≡ None = sym (position_from-zero p xs) ∙ none in
+    let same : 0 + length xs ≡ length xs = omega arith in
+    position_from-zero p (xs ++ x ∷ []) ∙ rw same at (from_new p 0 xs x absent passes)
 
 pub position_other : {X : Type 0} (p : X → Bool) (xs : List X) (x : X) → p x ≡ false → position p (xs ++ x ∷ []) ≡ position p xs
-position_other p xs x past = ?
+position_other p xs x past = position_from-zero p (xs ++ x ∷ []) ∙ from_other p 0 xs x past ∙ sym (position_from-zero p xs)
+
+-- ---- names
+both : (a b : Bool) → (a && b) ≡ true → (a ≡ true) × (b ≡ true)
+both true b h = (refl, h)
+both false b h = absurd (cc)
+
+same_is : (a b : NameId) → same_name a b ≡ true → a ≡ b
+same_is a b h =
+    let parts = both (nat_eq a.uri b.uri) (nat_eq a.local b.local) h in
+    let uri : a.uri ≡ b.uri = eqb-true a.uri b.uri parts.0 in
+    let local : a.local ≡ b.local = eqb-true a.local b.local parts.1 in
+    ap (λ u. record { uri = u; local = a.local }) uri ∙ ap (λ l. record { uri = b.uri; local = l }) local
+
+eqb_swapped : (a b : ℕ) → nat_eq a b ≡ nat_eq b a
+eqb_swapped a b = elim (cases_Bool (nat_eq a b)) [
+  | inl yes_is ↦ yes_is ∙ sym (eq-eqb b a (sym (eqb-true a b yes_is)))
+  | inr no_is ↦ no_is ∙ sym (ne_eqb b a (λ e. eqb-false a b no_is (sym e)))
+]
+
+same_swapped : (a b : NameId) → same_name a b ≡ same_name b a
+same_swapped a b = rw (eqb_swapped a.uri b.uri, eqb_swapped a.local b.local) refl
+
+-- the numbers are right with one more grammar
+pub numbers_push : (gs : List ElementGrammar) (name other : NameId) (old new : Option ℕ) (number : ℕ) → number ≡ length gs →
+    position (λ (g : ElementGrammar). same_name g.name name) gs ≡ None → old ≡ position (λ (g : ElementGrammar). same_name g.name other) gs →
+    new ≡ cond (same_name other name) (Some number) old →
+    new ≡ position (λ (g : ElementGrammar). same_name g.name other) (gs ++ new_grammar name ∷ [])
+numbers_push gs name other old new number at absent kept set = elim (cases_Bool (same_name other name)) [
+  | inl yes_is ↦
+      let is : other ≡ name = same_is other name yes_is in
+      let here : same_name name other ≡ true = same_swapped name other ∙ yes_is in
+      let none : position (λ (g : ElementGrammar). same_name g.name other) gs ≡ None = rw is absent in
+      let found : new ≡ Some number = rw yes_is at set in
+      found ∙ ap Some at ∙ sym (position_new (λ (g : ElementGrammar). same_name g.name other) gs (new_grammar name) none here)
+  | inr no_is ↦
+      let here : same_name name other ≡ false = same_swapped name other ∙ no_is in
+      let found : new ≡ old = rw no_is at set in
+      found ∙ kept ∙ sym (position_other (λ (g : ElementGrammar). same_name g.name other) gs (new_grammar name) here)
+]
