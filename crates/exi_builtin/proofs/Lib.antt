@@ -2,3 +2,4 @@ pub mod Layouts
 pub mod Shapes
 pub mod Numbering
 pub mod Naming
+pub mod LearningLaws

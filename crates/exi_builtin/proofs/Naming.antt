@@ -63,6 +63,9 @@ eqb_swapped a b = elim (cases_Bool (nat_eq a b)) [
   | inr no_is ↦ no_is ∙ sym (ne_eqb b a (λ e. eqb-false a b no_is (sym e)))
 ]
 
+pub same_itself : (a : NameId) → same_name a a ≡ true
+same_itself a = rw (eq-eqb a.uri a.uri refl, eq-eqb a.local a.local refl) refl
+
 same_swapped : (a b : NameId) → same_name a b ≡ same_name b a
 same_swapped a b = rw (eqb_swapped a.uri b.uri, eqb_swapped a.local b.local) refl
 

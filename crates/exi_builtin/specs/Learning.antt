@@ -10,7 +10,7 @@ use Rattle.exi_builtin.specs.declared.learnable.Learned.{Learned}
 use Rattle.exi_builtin.specs.declared.learnable.Room.{Room}
 use Rattle.exi_builtin.specs.declared.learnable.Room.TheVariants as room
 use Rattle.exi_builtin.specs.BuiltIn.{left_of, written}
-use Rattle.exi_builtin.specs.Uses.{added_by, same_name, stands_already}
+pub use Rattle.exi_builtin.specs.Uses.{added_by, is_type, same_name, stands_already}
 
 -- what one body or fragment has learned: the grammars of its elements, in the order in which they were made, each
 -- with its element's name and what its two states learned, the latest first; and what FragmentContent learned, the

@@ -3,6 +3,7 @@
 
 mod code_list;
 mod element_grammar;
+pub mod laws;
 mod learnable;
 mod learned_list;
 mod name_numbers;
