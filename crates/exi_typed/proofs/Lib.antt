@@ -3,3 +3,4 @@ pub mod Texts
 pub mod NameItems
 pub mod Agree
 pub mod Worked
+pub mod Goings
