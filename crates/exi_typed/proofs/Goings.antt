@@ -1,5 +1,5 @@
 -- Reading goes onward: in the same bytes, with the text charged, and over tables that keep each place.
-use Rattle.std.proofs.Common.{◌≡◌, ℕ, zero, suc, ◌+◌, ◌-◌, ◌≤◌, Bool, true, false, cond, eqb, leb, ltb, List, [], ◌∷◌, length, get_or, Option, Some, None, Result, Ok, Err, refl, sym, ap, ◌∙◌, subst, arith}
+use Rattle.std.proofs.Common.{◌≡◌, ℕ, zero, suc, ◌+◌, ◌-◌, ◌≤◌, Bool, true, false, cond, eqb, ltb, List, [], ◌∷◌, length, get_or, Option, Some, None, Result, Err, refl, ap, ◌∙◌, subst, arith}
 use Rattle.std.proofs.lemmas.Bool.{leb-true}
 use Rattle.exi_bits.specs.declared.align.Align.{Align}
 use Rattle.exi_bits.specs.declared.fault.Fault.{Fault}
@@ -11,14 +11,14 @@ use Rattle.exi_bits.specs.Widths.{width_for}
 use Rattle.exi_bits.proofs.Spelled.{guard_some}
 use Rattle.exi_bits.proofs.UnsignedLaws.{unsigned_spelled}
 use Rattle.exi_items.specs.Charges.{Charged, after_text, text_charge}
-use Rattle.exi_meter.specs.Metering.{Metering, text_fits, with_text}
+use Rattle.exi_meter.specs.Metering.{Metering, with_text}
 use Rattle.exi_names.specs.Characters.{is_xml_char}
 use Rattle.exi_names.specs.declared.names.NameId.{NameId}
 use Rattle.exi_tables.specs.Growth.{KeepsAll}
 use Rattle.exi_tables.specs.Partitions.{Partitions, live_at, locals, name_values, prefixes, uris, values, with_local, with_prefix, with_uri, with_value}
 use Rattle.exi_tables.proofs.Growing.{keeps_local, keeps_prefix, keeps_same, keeps_uri, keeps_value}
 use Rattle.exi_text.specs.Literals.{char_at, chars_at, code_at, in_set_at, width_in}
-use Rattle.exi_typed.specs.Courses.{Beside, Course, Courser, Failure, at_spot_of, failing}
+use Rattle.exi_typed.specs.Courses.{Course, Courser, at_spot_of, failing}
 use Rattle.exi_typed.specs.NameValues.{name_value_at}
 use Rattle.exi_typed.specs.Onward.{GoesOnward, Onward}
 use Rattle.exi_typed.specs.Strings.{Declaration, Growth, Named, charged_at, declaration_at, hit_at, indexed_at, known_at, literal_at, local_at, missed_at, name_at, name_under, place_in, placed_at, prefix_at, told_prefix, uri_at, value_at}
@@ -210,7 +210,7 @@ indexed_goes : (a : Align) (partition : List (List ℕ)) (grow : Growth) → Kee
 unfolding indexed_at
 indexed_goes a partition grow keeps x c d r =
     behind_goes (place_at (width_for (length partition + 1)) a (length partition + 1)) (λ code e. cond (eqb code 0) (literal_at a grow e) (placed_at c.spot (live_at partition (code - 1)) e)) (place_goes (width_for (length partition + 1)) a (length partition + 1))
-        (λ code. chosen_goes (eqb code 0) (literal_at a grow) (placed_at c.spot (live_at partition (code - 1))) (literal_goes a grow keeps) (placed_goes c.spot (live_at partition (code - 1)))) x c d r
+    (λ code. chosen_goes (eqb code 0) (literal_at a grow) (placed_at c.spot (live_at partition (code - 1))) (literal_goes a grow keeps) (placed_goes c.spot (live_at partition (code - 1)))) x c d r
 
 pub uri_goes : (a : Align) → GoesOnward {X = List ℕ} (uri_at a)
 uri_goes a x c d r = indexed_goes a (uris c.beside.tables) with_uri keeps_uri x c d r
@@ -256,13 +256,13 @@ module _ (keep : Bool) (a : Align) where
   unfolding known_at
   known_goes id x b d r =
       chained_goes (λ c. placed_at b.spot (live_at (uris c.beside.tables) id.uri) c)
-          (λ uri c. placed_at b.spot (live_at (locals c.beside.tables id.uri) id.local) c >>= λ local. prefix_at keep a id.uri local.1 >>= λ prefix. told {X = Named × Course} (named_of id uri local.0 prefix.0, prefix.1))
-          (λ y c. placed_goes b.spot (live_at (uris c.beside.tables) id.uri) y c)
-          (λ uri. chained_goes (λ c. placed_at b.spot (live_at (locals c.beside.tables id.uri) id.local) c)
-          (λ local c. prefix_at keep a id.uri c >>= λ prefix. told {X = Named × Course} (named_of id uri local prefix.0, prefix.1))
-          (λ y c. placed_goes b.spot (live_at (locals c.beside.tables id.uri) id.local) y c)
-          (λ local. chained_goes (prefix_at keep a id.uri) (λ prefix c. told {X = Named × Course} (named_of id uri local prefix, c)) (prefix_goes keep a id.uri) (λ prefix. told_goes (λ c. named_of id uri local prefix))))
-          x b d r
+      (λ uri c. placed_at b.spot (live_at (locals c.beside.tables id.uri) id.local) c >>= λ local. prefix_at keep a id.uri local.1 >>= λ prefix. told {X = Named × Course} (named_of id uri local.0 prefix.0, prefix.1))
+      (λ y c. placed_goes b.spot (live_at (uris c.beside.tables) id.uri) y c)
+      (λ uri. chained_goes (λ c. placed_at b.spot (live_at (locals c.beside.tables id.uri) id.local) c)
+      (λ local c. prefix_at keep a id.uri c >>= λ prefix. told {X = Named × Course} (named_of id uri local prefix.0, prefix.1))
+      (λ y c. placed_goes b.spot (live_at (locals c.beside.tables id.uri) id.local) y c)
+      (λ local. chained_goes (prefix_at keep a id.uri) (λ prefix c. told {X = Named × Course} (named_of id uri local prefix, c)) (prefix_goes keep a id.uri) (λ prefix. told_goes (λ c. named_of id uri local prefix))))
+      x b d r
 
   pub name_value_goes : GoesOnward {X = Named} (name_value_at keep a)
   unfolding name_value_at

@@ -4,3 +4,4 @@ pub mod NameItems
 pub mod Agree
 pub mod Worked
 pub mod Goings
+pub mod Standing
