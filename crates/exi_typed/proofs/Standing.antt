@@ -1,23 +1,23 @@
 -- A name that was read stands in the tables.
-use Rattle.std.proofs.Common.{◌≡◌, ℕ, ◌+◌, ◌-◌, ◌<◌, ◌⊎◌, inl, inr, Bool, true, false, cond, eqb, List, [], ◌∷◌, ◌++◌, length, Option, Some, None, refl, sym, ap, ◌∙◌, subst}
+use Rattle.std.proofs.Common.{◌≡◌, ℕ, ◌+◌, ◌-◌, ◌<◌, ◌⊎◌, inl, inr, Bool, true, false, cond, eqb, List, [], ◌∷◌, ◌++◌, get_or, length, Option, Some, None, refl, sym, ap, ◌∙◌, subst, arith}
 use Rattle.std.specs.Prelude.{unwrap_or}
 use Rattle.std.proofs.lemmas.List.{map-append}
-use Rattle.std.proofs.lemmas.Option.{slice_get_within}
+use Rattle.std.proofs.lemmas.Option.{slice_get-get_or, slice_get_within}
 use Rattle.exi_bits.specs.declared.align.Align.{Align}
 use Rattle.exi_bits.specs.Bits.{Spot}
 use Rattle.exi_bits.specs.Unsigned.{◌>>=◌, place_at, unsigned_at}
 use Rattle.exi_bits.specs.Widths.{width_for}
 use Rattle.exi_items.specs.Charges.{Charged, after_text, text_charge}
 use Rattle.exi_meter.specs.Metering.{Metering}
-use Rattle.exi_tables.specs.Growth.{IsLeast}
+use Rattle.exi_tables.specs.Growth.{IsLeast, KeepsPlaces}
 use Rattle.exi_tables.specs.Partitions.{Partitions, and_local, least_place, live_at, locals, locals_in, prefixes, uris, with_local, with_uri}
 use Rattle.exi_tables.proofs.Growing.{changed_within, uris_changed}
 use Rattle.exi_tables.proofs.Least.{least_found, least_none}
 use Rattle.exi_text.specs.Literals.{chars_at}
 use Rattle.exi_typed.specs.Courses.{Course, at_spot_of, failing}
-use Rattle.exi_typed.specs.Onward.{NamesStand, Stands}
+use Rattle.exi_typed.specs.Onward.{NamesGoOnStanding, NamesStand, Stands}
 use Rattle.exi_typed.specs.Strings.{Growth, Named, charged_at, hit_at, indexed_at, literal_at, local_at, missed_at, name_at, name_under, place_in, placed_at, prefix_at, told_prefix, uri_at}
-use Rattle.exi_typed.proofs.CourseItems.{beside, bind_told, charged, course, told, told_is}
+use Rattle.exi_typed.proofs.CourseItems.{beside, bind_told, charged, course, some_is, told, told_is}
 
 -- ---- places
 -- some place has the text
@@ -146,3 +146,21 @@ unfolding name_at
 names_stand keep a n c d r =
     let u = bind_told (uri_at a c) (λ (uri : List ℕ × Course). name_under keep a (place_in (uris uri.1.beside.tables) uri.0) uri.0 uri.1) (n, d) r in
     under_stands keep a (place_in (uris u.0.1.beside.tables) u.0.0) u.0.0 n u.0.1 d (least_stands (uris u.0.1.beside.tables) u.0.0 (uri_stands a u.0.0 c u.0.1 u.1)) u.2
+
+-- ---- growth
+-- a least place stays the least, since each lesser place keeps another text
+pub keeps_least : (old new : List (List ℕ)) (text : List ℕ) (place : ℕ) → KeepsPlaces old new → IsLeast old text place → IsLeast new text place
+keeps_least old new text place keeps least = record { found = keeps place text least.found; least = λ lesser below is. least.least lesser below (stood lesser below is) }
+  where
+    stood : (lesser : ℕ) → lesser < place → live_at new lesser ≡ Some text → live_at old lesser ≡ Some text
+    stood lesser below is =
+        let within : place < length old = slice_get_within old place text least.found in
+        let there : live_at old lesser ≡ Some (get_or old lesser []) = slice_get-get_or old lesser [] (omega arith) in
+        let same : get_or old lesser [] ≡ text = some_is (get_or old lesser []) text (sym (keeps lesser (get_or old lesser []) there) ∙ is) in
+        there ∙ ap (λ (t : List ℕ). Some t) same
+
+pub names_go_on : NamesGoOnStanding
+names_go_on n c d onward stands = record {
+  uri = keeps_least (uris c.beside.tables) (uris d.beside.tables) n.name.uri n.id.uri onward.keeps.each_uri stands.uri;
+  local = keeps_least (locals c.beside.tables n.id.uri) (locals d.beside.tables n.id.uri) n.name.local n.id.local (onward.keeps.each_local n.id.uri) stands.local;
+}

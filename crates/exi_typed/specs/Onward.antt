@@ -29,3 +29,7 @@ pub record Stands (p : Partitions) (n : Named) : Type 0 where
 
 abbrev pub NamesStand : Type 0
 NamesStand = (keep : Bool) (a : Align) (n : Named) (c d : Course) → name_at keep a c ≡ Ok (n, d) → Stands d.beside.tables n
+
+-- and it still does where reading has gone on
+abbrev pub NamesGoOnStanding : Type 0
+NamesGoOnStanding = (n : Named) (c d : Course) → Onward c d → Stands c.beside.tables n → Stands d.beside.tables n

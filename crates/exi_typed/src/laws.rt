@@ -1,15 +1,17 @@
 //! What is spelled and what is read are the same. Each law is a function that does nothing: what it
 //! ensures is the law.
 //!
-//! A law of the form `.. agree` says three things, under the same string tables and the same meter. What is read is spelled
-//! so, and the tables and the meter go on as the spelling says. What is spelled so is read, whatever
-//! follows. No spelling is a proper prefix of another, and each spells one value.
+//! A law whose name ends in `agree` says three things, under the same string tables and the same meter. What
+//! is read is spelled so, and the tables and the meter go on as the spelling says. What is spelled so is
+//! read, whatever follows. No spelling is a proper prefix of another, and each spells one value.
+//!
+//! The others say what each reading keeps, and where a name stands in the tables once it is read.
 
 ghost use Rattle.std.specs.Prelude.{Bool, List, Option, ℕ};
 ghost use Rattle.exi_bits.specs.declared.align.Align.{Align};
 ghost use Rattle.exi_names.specs.declared.names.NameId.{NameId};
 ghost use Rattle.exi_typed.specs.NameValues.{NameValuesAgree, name_value_at};
-ghost use Rattle.exi_typed.specs.Onward.{GoesOnward, NamesStand};
+ghost use Rattle.exi_typed.specs.Onward.{GoesOnward, NamesGoOnStanding, NamesStand};
 ghost use Rattle.exi_typed.specs.Strings.{declaration_at, known_at, local_at, name_at, uri_at, value_at};
 ghost use Rattle.exi_typed.specs.Laws.{DeclarationsAgree, KnownNamesAgree, LiteralsAgree, LocalsAgree, NamesAgree, UrisAgree, ValuesAgree};
 
@@ -69,7 +71,8 @@ pub fn reading_goes_onward()
 {}
 
 /// The URI and the local name of a name that was read stand in the tables, and it goes on as the least places
-/// that have them.
+/// that have them. They are still the least where reading has gone on.
 pub fn names_stand()
     ensures stand { NamesStand }
+    ensures kept { NamesGoOnStanding }
 {}
