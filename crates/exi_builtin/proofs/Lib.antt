@@ -1,0 +1,5 @@
+pub mod Layouts
+pub mod Shapes
+pub mod Numbering
+pub mod Naming
+pub mod LearningLaws

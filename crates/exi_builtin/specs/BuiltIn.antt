@@ -6,6 +6,8 @@ use Rattle.exi_gram.specs.Codes.{Productions, single, group, pruned}
 use Rattle.exi_gram.specs.Switches.{comments, dtd, prefixes, processing_instructions, self_contained}
 use Rattle.exi_builtin.specs.declared.learnable.Learnable.{Learnable}
 use Rattle.exi_builtin.specs.declared.learnable.Learnable.TheVariants as learnable
+use Rattle.exi_builtin.specs.declared.learnable.Room.{Room}
+use Rattle.exi_builtin.specs.declared.learnable.Room.TheVariants as room
 
 -- StartTagContent (8.4.3): EE 0.0, AT(*) 0.1, NS 0.2, SC 0.3, SE(*) 0.4, CH 0.5, ER 0.6, CM 0.7.0, PI 0.7.1
 abbrev pub start_tag_content : Productions Learnable
@@ -41,6 +43,12 @@ fragment_content = record {
   firsts = learnable.SeAny ∷ learnable.Ed ∷ [];
   seconds = single learnable.Cm ∷ single learnable.Pi ∷ [];
 }
+
+-- the state as it is written
+abbrev pub written : Room → Productions Learnable
+written (room.StartTag number) = start_tag_content
+written (room.Content number) = element_content
+written room.Fragment = fragment_content
 
 -- what the options leave: CM by comments, PI by pis, ER by dtd, NS by prefixes, SC by selfContained (8.3)
 abbrev pub is_kept : Options → Learnable → Bool

@@ -1,27 +1,22 @@
 -- How built-in grammars learn from what is used (W3C EXI 1.0, sections 8.4.2 and 8.4.3). A production that is
 -- learned gets the code 0 of one part, and the first parts of all others rise by one.
-use Rattle.std.specs.Prelude.{◌≡◌, ℕ, zero, suc, ◌+◌, ◌==◌, ◌&&◌, ◌||◌, Bool, true, false, Option, Some, None, List, [], ◌∷◌, ◌++◌, length, map, position, slice_get, unwrap_or, if◌then◌else◌}
+use Rattle.std.specs.Prelude.{ℕ, zero, suc, ◌<◌, Bool, true, false, Option, Some, None, List, [], ◌∷◌, ◌++◌, length, position, slice_get, unwrap_or, if◌then◌else◌}
 use Rattle.exi_names.specs.declared.names.NameId.{NameId}
 use Rattle.exi_gram.specs.declared.options.Options.{Options}
 use Rattle.exi_gram.specs.Codes.{Productions}
+use Rattle.exi_builtin.specs.declared.element_grammar.ElementGrammar.{ElementGrammar}
 use Rattle.exi_builtin.specs.declared.learnable.Learnable.{Learnable}
-use Rattle.exi_builtin.specs.declared.learnable.Learnable.TheVariants as learnable
 use Rattle.exi_builtin.specs.declared.learnable.Learned.{Learned}
-use Rattle.exi_builtin.specs.declared.learnable.Learned.TheVariants as learned
 use Rattle.exi_builtin.specs.declared.learnable.Room.{Room}
 use Rattle.exi_builtin.specs.declared.learnable.Room.TheVariants as room
-use Rattle.exi_builtin.specs.BuiltIn.{element_content, fragment_content, left_of, start_tag_content}
+use Rattle.exi_builtin.specs.BuiltIn.{left_of, written}
+pub use Rattle.exi_builtin.specs.Uses.{added_by, is_type, same_name, stands_already}
 
--- what the two states of an element's grammar have learned, the latest first
-pub record Grammar : Type 0 where
-  pub name : NameId
-  pub start_tag : List Learnable
-  pub content : List Learnable
-
--- what one body or fragment has learned: the grammars of its elements, in the order in which they were made, and
--- what FragmentContent learned, the latest first
+-- what one body or fragment has learned: the grammars of its elements, in the order in which they were made, each
+-- with its element's name and what its two states learned, the latest first; and what FragmentContent learned, the
+-- latest first
 pub record Learning : Type 0 where
-  pub grammars : List Grammar
+  pub grammars : List ElementGrammar
   pub fragment : List Learnable
 
 -- nothing
@@ -29,14 +24,11 @@ abbrev pub nothing_learned : Learning
 nothing_learned = record { grammars = []; fragment = [] }
 
 -- ---- the grammar of a name
-abbrev pub same_name : NameId → NameId → Bool
-same_name a b = (a.uri == b.uri) && (a.local == b.local)
-
 -- the place of a name's grammar, where there is one
 abbrev pub grammar_place : Learning → NameId → Option ℕ
-grammar_place l name = position (λ (g : Grammar). same_name g.name name) l.grammars
+grammar_place l name = position (λ (g : ElementGrammar). same_name g.name name) l.grammars
 
-abbrev pub new_grammar : NameId → Grammar
+abbrev pub new_grammar : NameId → ElementGrammar
 new_grammar name = record { name = name; start_tag = []; content = [] }
 
 -- its place, made at the end where it is new
@@ -51,11 +43,11 @@ abbrev pub with_grammar : Learning → NameId → Learning
 with_grammar l name = with_grammar_unless l name (grammar_place l name)
 
 -- ---- the productions of a state
-abbrev start_tag_of : Option Grammar → List Learnable
+abbrev start_tag_of : Option ElementGrammar → List Learnable
 start_tag_of None = []
 start_tag_of (Some g) = g.start_tag
 
-abbrev content_of : Option Grammar → List Learnable
+abbrev content_of : Option ElementGrammar → List Learnable
 content_of None = []
 content_of (Some g) = g.content
 
@@ -64,12 +56,6 @@ abbrev pub learned_in : Learning → Room → List Learnable
 learned_in l (room.StartTag number) = start_tag_of (slice_get l.grammars number)
 learned_in l (room.Content number) = content_of (slice_get l.grammars number)
 learned_in l room.Fragment = l.fragment
-
--- the state as it is written
-abbrev pub written : Room → Productions Learnable
-written (room.StartTag number) = start_tag_content
-written (room.Content number) = element_content
-written room.Fragment = fragment_content
 
 -- what was learned stands in front
 abbrev pub behind_learned : List Learnable → Productions Learnable → Productions Learnable
@@ -80,48 +66,14 @@ abbrev pub productions : Options → Learning → Room → Productions Learnable
 productions o l r = behind_learned (learned_in l r) (left_of o (written r))
 
 -- ---- learning
--- the name of xsi:type: the URI and the local name at these places of the first string tables (appendix D)
-abbrev pub is_type : NameId → Bool
-is_type name = same_name name (record { uri = 2; local = 1 })
-
--- the production that a use adds
-abbrev pub added_by : Learned → Learnable
-added_by (learned.Se name) = learnable.Known name false
-added_by (learned.At name) = learnable.Known name true
-added_by learned.Ch = learnable.Ch true
-added_by learned.Ee = learnable.Ee true
-
-abbrev is_characters : Learnable → Bool
-is_characters (learnable.Ch one_part) = one_part
-is_characters other = false
-
-abbrev is_end : Learnable → Bool
-is_end (learnable.Ee one_part) = one_part
-is_end other = false
-
-abbrev is_known_type : Learnable → Bool
-is_known_type (learnable.Known name attribute) = attribute && is_type name
-is_known_type other = false
-
-abbrev any_of : (Learnable → Bool) → List Learnable → Bool
-any_of test [] = false
-any_of test (x ∷ xs) = test x || any_of test xs
-
--- CH, EE and AT(xsi:type) are added once only: not where the state has a production of one part for them.
--- Any other attribute, and every element, is added at each use
-abbrev pub stands_already : Learned → List Learnable → Bool
-stands_already (learned.Se name) firsts = false
-stands_already (learned.At name) firsts = is_type name && any_of is_known_type firsts
-stands_already learned.Ch firsts = any_of is_characters firsts
-stands_already learned.Ee firsts = any_of is_end firsts
-
 -- the grammar at a place changed
-abbrev pub changed_at : List Grammar → ℕ → (Grammar → Grammar) → List Grammar
+abbrev pub changed_at : List ElementGrammar → ℕ → (ElementGrammar → ElementGrammar) → List ElementGrammar
 changed_at [] place change = []
 changed_at (g ∷ gs) zero change = change g ∷ gs
 changed_at (g ∷ gs) (suc place) change = g ∷ changed_at gs place change
 
-abbrev in_front : Learning → Room → Learnable → Learning
+-- a production in front of those of a state
+abbrev pub in_front : Learning → Room → Learnable → Learning
 in_front l (room.StartTag number) x = record l { grammars = changed_at l.grammars number (λ g. record g { start_tag = x ∷ g.start_tag }) }
 in_front l (room.Content number) x = record l { grammars = changed_at l.grammars number (λ g. record g { content = x ∷ g.content }) }
 in_front l room.Fragment x = record l { fragment = x ∷ l.fragment }
@@ -136,6 +88,6 @@ after_use l r used = if is_new l r used then in_front l r (added_by used) else l
 
 -- the state is one of a grammar that was made
 abbrev pub IsRoom : Learning → Room → Type 0
-IsRoom l (room.StartTag number) = (g : Grammar) × (slice_get l.grammars number ≡ Some g)
-IsRoom l (room.Content number) = (g : Grammar) × (slice_get l.grammars number ≡ Some g)
+IsRoom l (room.StartTag number) = number < length l.grammars
+IsRoom l (room.Content number) = number < length l.grammars
 IsRoom l room.Fragment = Unit {0}

@@ -25,8 +25,7 @@ impl Flags for OptionFlags {
 
     ghost exact = { ⊤ };
 
-    ghost table = {
-        (codes "STRICT", 1)
+    ghost table = { (codes "STRICT", 1)
         ∷ (codes "FRAGMENT", 2)
         ∷ (codes "SELF_CONTAINED", 4)
         ∷ (codes "BYTES", 8)
@@ -34,8 +33,7 @@ impl Flags for OptionFlags {
         ∷ (codes "PIS", 32)
         ∷ (codes "DTD", 64)
         ∷ (codes "PREFIXES", 128)
-        ∷ []
-    };
+        ∷ [] };
 
     ghost set_of = { λ f. f.0 };
 

@@ -41,23 +41,23 @@ fine p = Ok p
 pub told_is : {X : Type 0} (p q : X) → told p ≡ told q → p ≡ q
 told_is p q e = cc
 
-fine_is : {X : Type 0} (p q : X) → fine p ≡ fine q → p ≡ q
+pub fine_is : {X : Type 0} (p q : X) → fine p ≡ fine q → p ≡ q
 fine_is p q e = cc
 
 pub bind_told : {X Y : Type 0} (r : Result X Failure) (f : X → Result Y Failure) (q : Y) → (r >>= f) ≡ told q → (p : X) × (r ≡ told p) × (f p ≡ told q)
 bind_told (Ok p) f q e = (p, refl, e)
 bind_told (Err x) f q e = absurd cc
 
-bind_fine : {X Y : Type 0} (r : Result X Fault) (f : X → Result Y Fault) (q : Y) → (r >>= f) ≡ fine q → (p : X) × (r ≡ fine p) × (f p ≡ fine q)
+pub bind_fine : {X Y : Type 0} (r : Result X Fault) (f : X → Result Y Fault) (q : Y) → (r >>= f) ≡ fine q → (p : X) × (r ≡ fine p) × (f p ≡ fine q)
 bind_fine (Ok p) f q e = (p, refl, e)
 bind_fine (Err x) f q e = absurd cc
 
 -- of bits alone, where the meter goes along
-not_failing : {X : Type 0} (m : Metering) (r : Result X Fault) (q : X) → failing m r ≡ told q → r ≡ fine q
+pub not_failing : {X : Type 0} (m : Metering) (r : Result X Fault) (q : X) → failing m r ≡ told q → r ≡ fine q
 not_failing {X} m (Ok p) q e = ap (λ (x : X). fine x) (told_is p q e)
 not_failing m (Err f) q e = absurd cc
 
-guard_fine : {X : Type 0} (b : Bool) (p q : X) (f : Fault) → cond b (fine p) (Err f) ≡ fine q → (b ≡ true) × (p ≡ q)
+pub guard_fine : {X : Type 0} (b : Bool) (p q : X) (f : Fault) → cond b (fine p) (Err f) ≡ fine q → (b ≡ true) × (p ≡ q)
 guard_fine true p q f e = (refl, fine_is p q e)
 guard_fine false p q f e = absurd cc
 
@@ -259,7 +259,7 @@ made {X} {Y} a read f Spells item = record { takes = taking; again = reading; wh
         rw r (ap (λ (z : Y). told {X = Y × Course} (z, course (moved s (length text)) v)) m.is)
 
 -- ---- charges
-charge_is : (units bit : ℕ) (m n : Metering) → text_charge units bit m ≡ fine n → (text_fits m units ≡ true) × (with_text m units ≡ n)
+pub charge_is : (units bit : ℕ) (m n : Metering) → text_charge units bit m ≡ fine n → (text_fits m units ≡ true) × (with_text m units ≡ n)
 unfolding text_charge
 charge_is units bit m n e = guard_fine (text_fits m units) (with_text m units) n (record { kind = kind.TextLimit; bit = bit }) e
 

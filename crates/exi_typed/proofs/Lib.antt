@@ -3,3 +3,5 @@ pub mod Texts
 pub mod NameItems
 pub mod Agree
 pub mod Worked
+pub mod Goings
+pub mod Standing

@@ -1,11 +1,18 @@
 //! What is spelled and what is read are the same. Each law is a function that does nothing: what it
 //! ensures is the law.
 //!
-//! Each law says three things, under the same string tables and the same meter. What is read is spelled
-//! so, and the tables and the meter go on as the spelling says. What is spelled so is read, whatever
-//! follows. No spelling is a proper prefix of another, and each spells one value.
+//! A law whose name ends in `agree` says three things, under the same string tables and the same meter. What
+//! is read is spelled so, and the tables and the meter go on as the spelling says. What is spelled so is
+//! read, whatever follows. No spelling is a proper prefix of another, and each spells one value.
+//!
+//! The others say what each reading keeps, and where a name stands in the tables once it is read.
 
-ghost use Rattle.exi_typed.specs.NameValues.{NameValuesAgree};
+ghost use Rattle.std.specs.Prelude.{Bool, List, Option, ℕ};
+ghost use Rattle.exi_bits.specs.declared.align.Align.{Align};
+ghost use Rattle.exi_names.specs.declared.names.NameId.{NameId};
+ghost use Rattle.exi_typed.specs.NameValues.{NameValuesAgree, name_value_at};
+ghost use Rattle.exi_typed.specs.Onward.{GoesOnward, NamesGoOnStanding, NamesStand};
+ghost use Rattle.exi_typed.specs.Strings.{declaration_at, known_at, local_at, name_at, uri_at, value_at};
 ghost use Rattle.exi_typed.specs.Laws.{DeclarationsAgree, KnownNamesAgree, LiteralsAgree, LocalsAgree, NamesAgree, UrisAgree, ValuesAgree};
 
 /// A literal is its length in characters and its characters.
@@ -49,4 +56,23 @@ pub fn declarations_agree()
 /// behind their number and two. What is spelled out is added, except the empty text.
 pub fn values_agree()
     ensures values { ValuesAgree }
+{}
+
+/// Reading goes onward in the same bytes. It charges text and nothing else, within its limit, and each place
+/// of the string tables keeps its text.
+pub fn reading_goes_onward()
+    ensures uris { (a : Align) → GoesOnward (uri_at a) }
+    ensures locals { (a : Align) (uri : ℕ) → GoesOnward (local_at a uri) }
+    ensures names { (keep : Bool) (a : Align) → GoesOnward (name_at keep a) }
+    ensures known { (keep : Bool) (a : Align) (id : NameId) → GoesOnward (known_at keep a id) }
+    ensures name_values { (keep : Bool) (a : Align) → GoesOnward (name_value_at keep a) }
+    ensures declarations { (a : Align) → GoesOnward (declaration_at a) }
+    ensures values { (set : Option (List ℕ)) (a : Align) (name : NameId) → GoesOnward (value_at set a name) }
+{}
+
+/// The URI and the local name of a name that was read stand in the tables, and it goes on as the least places
+/// that have them. They are still the least where reading has gone on.
+pub fn names_stand()
+    ensures stand { NamesStand }
+    ensures kept { NamesGoOnStanding }
 {}

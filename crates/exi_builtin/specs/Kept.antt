@@ -1,0 +1,11 @@
+-- What is kept beside the productions, so that no list has to be walked.
+use Rattle.std.specs.Prelude.{◌≡◌, ℕ, ◌≤◌, ◌^◌, Bool, Option, None, List, [], length, position, slice_index_or}
+use Rattle.exi_names.specs.declared.names.NameId.{NameId}
+use Rattle.exi_builtin.specs.declared.element_grammar.ElementGrammar.{ElementGrammar}
+use Rattle.exi_builtin.specs.Numbers.{number_at}
+use Rattle.exi_builtin.specs.Uses.{same_name}
+
+-- the numbers kept are the places of the names' grammars, and there are not too many
+pub record IsNumbered (grammars : List ElementGrammar) (rows : List (List (Option ℕ))) : Type 0 where
+  pub numbers : (name : NameId) → number_at rows name ≡ position (λ (g : ElementGrammar). same_name g.name name) grammars
+  pub few : length grammars ≤ 2 ^ 31

@@ -1,0 +1,197 @@
+ghost use Rattle.std.specs.Prelude.{◌≡◌, ◌<◌, ◌^◌, ◌∷◌, ◌++◌, [], None, length, map, IfOk, OnOk, OnErr};
+ghost use Rattle.exi_bits.specs.Bits.{IsAligned};
+ghost use Rattle.exi_bits.specs.Unsigned.{Reads};
+ghost use Rattle.exi_gram.specs.Codes.{code_at, coded};
+ghost use Rattle.exi_gram.specs.Switches.{align_of};
+ghost use Rattle.exi_builtin.specs.CodeParts.{coded_of};
+ghost use Rattle.exi_builtin.specs.Learning.{
+  IsRoom,
+  after_use,
+  grammar_number,
+  grammar_place,
+  in_front,
+  is_new,
+  learned_in,
+  new_grammar,
+  nothing_learned,
+  productions,
+  with_grammar,
+};
+
+use crate::code_list::{CodeList, codes_behind};
+use crate::element_grammar::ElementGrammar;
+use crate::learnable::{Learnable, Learned, Room};
+use crate::learned_list::LearnedList;
+use crate::name_numbers::NameNumbers;
+use crate::reading::read_behind;
+use crate::uses::{added_by, stands_written};
+use exi_bits::{BitIn, Fault};
+use exi_gram::Options;
+use exi_names::NameId;
+use std::alloc::{AllocError, Global};
+use std::marker::Model;
+
+/// What the built-in grammars learned in one body or one self-contained fragment (EXI 1.0, sections
+/// 8.4.2 and 8.4.3).
+///
+/// A contract sees it as a `Learning`. No call walks the learned productions, but [`Overlay::codes`]; a call
+/// that answers an error leaves it as it was.
+#[derive(Drop)]
+pub struct Overlay {
+    alloc: Global,
+    numbers: NameNumbers,
+    grammars: Vec<ElementGrammar>,
+    fragment: LearnedList,
+}
+
+impl Model for Overlay {
+    ghost use Rattle.exi_builtin.specs.Learning.{Learning};
+    ghost use Rattle.exi_builtin.specs.Kept.{IsNumbered};
+
+    ghost Value = { Learning };
+
+    ghost view = { λ o. record { grammars = o.grammars.items; fragment = o.fragment } };
+
+    ghost invariant = { λ o. IsNumbered o.grammars.items o.numbers };
+}
+
+impl Overlay {
+    /// Nothing learned.
+    pub fn new(alloc: Global) -> Overlay
+        ensures { result ≡ nothing_learned }
+    {
+        Overlay {
+            alloc,
+            numbers: NameNumbers::new(alloc),
+            grammars: Vec::new(alloc),
+            fragment: LearnedList::new(alloc),
+        }
+    }
+
+    /// The number of the grammar of a name's elements, which is made where the name is new (EXI 1.0,
+    /// section 8.4.3). There have to be fewer than 2^31 grammars.
+    ///
+    /// # Errors
+    ///
+    /// `AllocError` where memory is refused; nothing is then changed.
+    pub fn grammar(&mut self, name: NameId) -> Result<u32, AllocError>
+        requires { length self.old.grammars < 2 ^ 31 }
+        ensures number { IfOk result (λ number. number ≡ grammar_number self.old name) }
+        ensures made { OnOk result (self.new ≡ with_grammar self.old name) }
+        ensures within { IfOk result (λ number. number < length self.new.grammars) }
+        ensures err { OnErr result (self.new ≡ self.old) }
+    {
+        match self.numbers.of(name) {
+            Some(number) => Ok(number),
+            None => self.make(name),
+        }
+    }
+
+    /// Makes the grammar of a new name and gives its number.
+    fn make(&mut self, name: NameId) -> Result<u32, AllocError>
+        requires room { length self.old.grammars < 2 ^ 31 }
+        requires absent { grammar_place self.old name ≡ None }
+        ensures number { IfOk result (λ number. number ≡ length self.old.grammars) }
+        ensures made { OnOk result (self.new ≡ record self.old {
+            grammars = self.old.grammars ++ new_grammar name ∷ [] }) }
+        ensures err { OnErr result (self.new ≡ self.old) }
+    {
+        let number = self.grammars.len() as u32;
+        self.grammars.reserve(1)?;
+        self.numbers.set(self.alloc, name, number)?;
+        self.grammars
+            .push_reserved(ElementGrammar::new(self.alloc, name));
+        Ok(number)
+    }
+
+    /// What a state learned.
+    fn learned(&self, room: Room) -> &LearnedList
+        requires { IsRoom self.now room }
+        ensures { result.now ≡ learned_in self.now room }
+    {
+        match room {
+            Room::StartTag(number) => &self.grammars[number as usize].start_tag,
+            Room::Content(number) => &self.grammars[number as usize].content,
+            Room::Fragment => &self.fragment,
+        }
+    }
+
+    /// The productions of a state that the options leave, with their codes (EXI 1.0, sections 6.2 and 8.3).
+    /// The number of the state has to be one that [`Overlay::grammar`] gave.
+    ///
+    /// # Errors
+    ///
+    /// `AllocError` where memory is refused.
+    pub fn codes(&self, room: Room, options: &Options) -> Result<CodeList, AllocError>
+        requires { IsRoom self.now room }
+        ensures { IfOk result (λ list. map coded_of list
+            ≡ coded (productions options.now self.now room)) }
+    {
+        codes_behind(self.alloc, self.learned(room), room, options)
+    }
+
+    /// Reads a code of a state (EXI 1.0, section 6.2) and gives its production. The number of the state has
+    /// to be one that [`Overlay::grammar`] gave. Takes no memory.
+    ///
+    /// # Errors
+    ///
+    /// At the first bit of a part of the code: `Short` where the bits end, `NoCode` where no production has
+    /// the part. The place is then unchanged.
+    pub fn read_code(
+        &self,
+        input: &mut BitIn<'_>,
+        room: Room,
+        options: &Options,
+    ) -> Result<Learnable, Fault>
+        requires room { IsRoom self.now room }
+        requires aligned { IsAligned (align_of options.now) input.old }
+        ensures read { Reads (λ x. x) result input.old input.new
+            (code_at (align_of options.now) (productions options.now self.now room) input.old) }
+        ensures bytes { input.new.bytes ≡ input.old.bytes }
+        ensures aligned { IsAligned (align_of options.now) input.new }
+    {
+        let bit = input.at();
+        match read_behind(input, self.learned(room), room, options) {
+            Ok(production) => Ok(production),
+            Err(fault) => {
+                input.back(bit);
+                Err(fault)
+            }
+        }
+    }
+
+    /// Learns from a use in a state, and tells whether a production was added: false where the use is of CH,
+    /// EE or AT(xsi:type) and the state has a production of one part for it. The number of the state has to
+    /// be one that [`Overlay::grammar`] gave, and fewer than 2^31 productions may have been learned there.
+    ///
+    /// # Errors
+    ///
+    /// `AllocError` where memory is refused; nothing is then changed.
+    pub fn learn(&mut self, room: Room, used: Learned) -> Result<bool, AllocError>
+        requires room { IsRoom self.old room }
+        requires few { length (learned_in self.old room) < 2 ^ 31 }
+        ensures added { IfOk result (λ added. added ≡ is_new self.old room used) }
+        ensures learned { OnOk result (self.new ≡ after_use self.old room used) }
+        ensures err { OnErr result (self.new ≡ self.old) }
+    {
+        if stands_written(room, used) || self.learned(room).stands(used) {
+            return Ok(false);
+        }
+        self.add(room, added_by(used))?;
+        Ok(true)
+    }
+
+    /// Adds a production in front of those of a state.
+    fn add(&mut self, room: Room, production: Learnable) -> Result<(), AllocError>
+        requires room { IsRoom self.old room }
+        requires few { length (learned_in self.old room) < 2 ^ 31 }
+        ensures ok { OnOk result (self.new ≡ in_front self.old room production) }
+        ensures err { OnErr result (self.new ≡ self.old) }
+    {
+        match room {
+            Room::StartTag(number) => self.grammars[number as usize].start_tag.push(production),
+            Room::Content(number) => self.grammars[number as usize].content.push(production),
+            Room::Fragment => self.fragment.push(production),
+        }
+    }
+}

@@ -1,0 +1,162 @@
+ghost use Rattle.std.specs.Prelude.{◌≡◌, ◌≤◌, ◌+◌, ◌++◌, filter, if◌then◌else◌, length, slice_get};
+ghost use Rattle.std.specs.List.{list_any};
+ghost use Rattle.exi_bits.specs.Bits.{IsAligned};
+ghost use Rattle.exi_bits.specs.Unsigned.{ReadsSome};
+ghost use Rattle.exi_gram.specs.Codes.{code_at, kept_seconds, longer, member_at, second_at};
+ghost use Rattle.exi_gram.specs.Switches.{align_of};
+ghost use Rattle.exi_builtin.specs.BuiltIn.{is_kept, left_of, written};
+ghost use Rattle.exi_builtin.specs.Layout.{laid_seconds};
+ghost use Rattle.exi_builtin.specs.Learning.{behind_learned};
+
+use crate::learnable::{Learnable, Room};
+use crate::learned_list::LearnedList;
+use crate::written::{Written, align_of, as_written, is_kept};
+use exi_bits::{BitIn, Fault};
+use exi_gram::{Options, read_part};
+
+/// How many of the productions the options leave.
+fn kept_count(options: &Options, list: &[Learnable]) -> u32
+    requires { length list.now ≤ 8 }
+    ensures count { result ≡ length (filter (is_kept options.now) list.now) }
+    ensures few { result ≤ 8 }
+{
+    list.iter()
+        .filter(|production| is_kept(options, **production))
+        .count() as u32
+}
+
+/// The production that has this place among those that the options leave.
+fn kept_at(options: &Options, list: &[Learnable], place: u32) -> Option<Learnable>
+    ensures { result ≡ slice_get (filter (is_kept options.now) list.now) place }
+{
+    list.iter()
+        .copied()
+        .filter(|production| is_kept(options, *production))
+        .nth(place as usize)
+}
+
+/// How many second parts the options leave.
+fn second_count(options: &Options, written: &Written) -> u32
+    requires singles { length written.now.singles.now ≤ 8 }
+    requires members { length written.now.members.now ≤ 8 }
+    ensures { result ≡ length (kept_seconds (is_kept options.now)
+        (laid_seconds written.now.singles.now written.now.members.now)) }
+{
+    let singles = kept_count(options, written.singles);
+    if kept_count(options, written.members) > 0 {
+        return singles + 1;
+    }
+    singles
+}
+
+/// Reads the third part of a code.
+#[tactic(auto, unfolding(exi_gram::specs::Codes::member_at))]
+fn read_member(
+    input: &mut BitIn<'_>,
+    members: &[Learnable],
+    options: &Options,
+) -> Result<Learnable, Fault>
+    requires aligned { IsAligned (align_of options.now) input.old }
+    requires few { length members.now ≤ 8 }
+    ensures read { ReadsSome (λ x. x) result input.new
+        (member_at (align_of options.now) (filter (is_kept options.now) members.now) input.old) }
+    ensures bytes { input.new.bytes ≡ input.old.bytes }
+    ensures aligned { IsAligned (align_of options.now) input.new }
+{
+    let third = read_part(input, kept_count(options, members), align_of(options))?;
+    Ok(kept_at(options, members, third).unwrap())
+}
+
+/// Reads the rest of a code of more parts than one.
+///
+/// # Errors
+///
+/// At the first bit of a part: `Short` where the bits end, `NoCode` where no production has it.
+fn read_longer(
+    input: &mut BitIn<'_>,
+    written: &Written,
+    options: &Options,
+) -> Result<Learnable, Fault>
+    requires aligned { IsAligned (align_of options.now) input.old }
+    requires singles { length written.now.singles.now ≤ 8 }
+    requires members { length written.now.members.now ≤ 8 }
+    ensures read { ReadsSome (λ x. x) result input.new (second_at (align_of options.now)
+        (kept_seconds (is_kept options.now)
+        (laid_seconds written.now.singles.now written.now.members.now)) input.old) }
+    ensures bytes { input.new.bytes ≡ input.old.bytes }
+    ensures aligned { IsAligned (align_of options.now) input.new }
+{
+    let second = read_part(input, second_count(options, written), align_of(options))?;
+    match kept_at(options, written.singles, second) {
+        Some(production) => Ok(production),
+        None => read_member(input, written.members, options),
+    }
+}
+
+/// Whether the options leave any of the productions.
+fn any_kept(options: &Options, list: &[Learnable]) -> bool
+    ensures { result ≡ list_any (is_kept options.now) list.now }
+{
+    list.iter().any(|production| is_kept(options, *production))
+}
+
+/// Whether the options leave a production of more parts than one.
+#[tactic(auto, using(crate::proofs::Layouts::any_longer))]
+fn has_longer(options: &Options, written: &Written) -> bool
+    ensures { longer (kept_seconds (is_kept options.now)
+        (laid_seconds written.now.singles.now written.now.members.now))
+        ≡ (if result then 1 else 0) }
+{
+    any_kept(options, written.singles) || any_kept(options, written.members)
+}
+
+/// The production of a code of one part.
+fn first_at(learned: &LearnedList, written: &Written, first: u32) -> Option<Learnable>
+    ensures { result ≡ slice_get (learned.now ++ written.now.firsts.now) first }
+{
+    let count = learned.len();
+    if first < count {
+        return learned.at(first);
+    }
+    written.firsts.get((first - count) as usize).copied()
+}
+
+/// How many values the first part of a code has.
+fn first_count(learned: &LearnedList, written: &Written, options: &Options) -> u32
+    requires { length written.now.firsts.now ≤ 8 }
+    ensures { result ≡ length (learned.now ++ written.now.firsts.now)
+        + longer (kept_seconds (is_kept options.now)
+        (laid_seconds written.now.singles.now written.now.members.now)) }
+{
+    let firsts = learned.len() + written.firsts.len() as u32;
+    if has_longer(options, written) {
+        return firsts + 1;
+    }
+    firsts
+}
+
+/// Reads a code of a state that learned these productions. The place is anything after an `Err`.
+///
+/// # Errors
+///
+/// At the first bit of a part: `Short` where the bits end, `NoCode` where no production has it.
+pub fn read_behind(
+    input: &mut BitIn<'_>,
+    learned: &LearnedList,
+    room: Room,
+    options: &Options,
+) -> Result<Learnable, Fault>
+    requires aligned { IsAligned (align_of options.now) input.old }
+    ensures read { ReadsSome (λ x. x) result input.new (code_at (align_of options.now)
+        (behind_learned learned.now (left_of options.now (written room))) input.old) }
+    ensures bytes { input.new.bytes ≡ input.old.bytes }
+    ensures aligned { IsAligned (align_of options.now) input.new }
+{
+    let written = as_written(room);
+    let values = first_count(learned, &written, options);
+    let first = read_part(input, values, align_of(options))?;
+    match first_at(learned, &written, first) {
+        Some(production) => Ok(production),
+        None => read_longer(input, &written, options),
+    }
+}

@@ -1,0 +1,81 @@
+ghost use Rattle.std.specs.Prelude.{◌≡◌, ◌≤◌, length};
+ghost use Rattle.exi_gram.specs.Switches.{align_of};
+ghost use Rattle.exi_builtin.specs.BuiltIn.{is_kept, written};
+ghost use Rattle.exi_builtin.specs.Layout.{laid_out};
+
+use crate::learnable::{Learnable, Room};
+use bitflags::Flags;
+use exi_bits::Align;
+use exi_gram::{OptionFlags, Options};
+
+/// The productions of a state before anything is learned, by the number of their codes' parts
+/// (EXI 1.0, sections 8.4.2 and 8.4.3).
+#[derive(Clone, Copy)]
+pub struct Written {
+    /// Those with one part. No option switches them off.
+    pub firsts: &'static [Learnable],
+    /// Those with two parts.
+    pub singles: &'static [Learnable],
+    /// Those with three parts, which share the second part behind the others.
+    pub members: &'static [Learnable],
+}
+
+/// The productions of a state as they are written.
+pub fn as_written(room: Room) -> Written
+    ensures written {
+        laid_out result.firsts.now result.singles.now result.members.now ≡ written room }
+    ensures firsts { length result.firsts.now ≤ 8 }
+    ensures singles { length result.singles.now ≤ 8 }
+    ensures members { length result.members.now ≤ 8 }
+{
+    match room {
+        Room::StartTag(_) => Written {
+            firsts: &[],
+            singles: &[
+                Learnable::Ee(false),
+                Learnable::AtAny,
+                Learnable::Ns,
+                Learnable::Sc,
+                Learnable::SeAny,
+                Learnable::Ch(false),
+                Learnable::Er,
+            ],
+            members: &[Learnable::Cm, Learnable::Pi],
+        },
+        Room::Content(_) => Written {
+            firsts: &[Learnable::Ee(true)],
+            singles: &[Learnable::SeAny, Learnable::Ch(false), Learnable::Er],
+            members: &[Learnable::Cm, Learnable::Pi],
+        },
+        Room::Fragment => Written {
+            firsts: &[Learnable::SeAny, Learnable::Ed],
+            singles: &[Learnable::Cm, Learnable::Pi],
+            members: &[],
+        },
+    }
+}
+
+/// How the numbers of the stream lie.
+pub fn align_of(options: &Options) -> Align
+    ensures { result ≡ align_of options.now }
+{
+    if options.flags.contains(OptionFlags::BYTES) {
+        Align::Bytes
+    } else {
+        Align::Bits
+    }
+}
+
+/// Whether the options leave a production (EXI 1.0, section 8.3).
+pub fn is_kept(options: &Options, production: Learnable) -> bool
+    ensures { result ≡ is_kept options.now production }
+{
+    match production {
+        Learnable::Ns => options.flags.contains(OptionFlags::PREFIXES),
+        Learnable::Sc => options.flags.contains(OptionFlags::SELF_CONTAINED),
+        Learnable::Er => options.flags.contains(OptionFlags::DTD),
+        Learnable::Cm => options.flags.contains(OptionFlags::COMMENTS),
+        Learnable::Pi => options.flags.contains(OptionFlags::PIS),
+        _ => true,
+    }
+}
