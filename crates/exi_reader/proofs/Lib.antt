@@ -1,5 +1,8 @@
 mod Afters
 mod Contents
+mod EventContents
+mod EventItems
+mod EventOne
 mod Keeping
 mod Learns
 mod Moves
@@ -11,5 +14,4 @@ mod Soundness
 mod Standing
 mod Steps
 mod Terminals
-mod EventItems
 mod Worked

@@ -179,7 +179,7 @@ pub record Steps (c d : Config) : Type 0 where
   pub events : d.course.beside.meter.used.events ≡ c.course.beside.meter.used.events + 1
   pub within : d.course.beside.meter.used.events ≤ c.course.beside.meter.limits.events
 
-at_event_is : {X : Type 0} (bit : ℕ) (r : Result X Failure) (x : X) → at_event bit r ≡ good x → r ≡ good x
+pub at_event_is : {X : Type 0} (bit : ℕ) (r : Result X Failure) (x : X) → at_event bit r ≡ good x → r ≡ good x
 at_event_is bit (Ok y) x e = ap (λ z. good z) (good_is y x e)
 at_event_is bit (Err f) x e = absurd cc
 

@@ -111,6 +111,6 @@ OneIsSpelled = (g : Setting) (c : Config) (given : Given) → IsBytes c.course.s
 abbrev pub SpelledIsOne : Type 0
 SpelledIsOne = (g : Setting) (c : Config) (given : Given) (text more : List Bool) → IsBytes c.course.spot.bytes → IsAligned (align_of g.options) c.course.spot → IsOne g c given text → rest c.course.spot ≡ text ++ more → one g c ≡ Ok given
 
--- a configuration has no two events of which the bits of one are the front of the other's
-abbrev pub OneIsNoPrefix : Type 0
-OneIsNoPrefix = (g : Setting) (c : Config) (given other : Given) (text front more : List Bool) → IsBytes c.course.spot.bytes → IsOne g c given text → IsOne g c other front → text ≡ front ++ more → (given ≡ other) × (more ≡ [])
+-- a configuration has at most one event: two that are spelled at its place are the same, in the same bits
+abbrev pub OneAtMost : Type 0
+OneAtMost = (g : Setting) (c : Config) (given other : Given) (text words more less : List Bool) → IsBytes c.course.spot.bytes → IsAligned (align_of g.options) c.course.spot → IsOne g c given text → IsOne g c other words → rest c.course.spot ≡ text ++ more → rest c.course.spot ≡ words ++ less → (given ≡ other) × (text ≡ words)

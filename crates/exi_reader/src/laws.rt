@@ -2,6 +2,7 @@
 //! the law.
 
 ghost use Rattle.exi_reader.specs.Laws.{AFaultEnds, ARunIsThere, ASequenceIsThere, FewTurns, IsFrontOfRun, NeverBack, OneRun, OneSequence, OneStepOrOneFault};
+ghost use Rattle.exi_reader.specs.Spelled.{OneAtMost, OneIsSpelled, SpelledIsOne};
 ghost use Rattle.exi_reader.specs.Sound.{FirstIsSound, ReachedAreSound, StepsKeepSound};
 
 /// A configuration that has not ended has exactly one step or exactly one fault.
@@ -63,4 +64,19 @@ pub fn steps_keep_sound()
 /// Each configuration that turns lead to from the first is sound.
 pub fn reached_are_sound()
     ensures law { ReachedAreSound }
+{}
+
+/// What is read as one event is spelled so, and a byte-aligned stream stays in whole bytes.
+pub fn one_is_spelled()
+    ensures law { OneIsSpelled }
+{}
+
+/// One event that is spelled so is read, whatever follows.
+pub fn spelled_is_one()
+    ensures law { SpelledIsOne }
+{}
+
+/// At a place at most one event is spelled.
+pub fn one_at_most()
+    ensures law { OneAtMost }
 {}
