@@ -5,12 +5,13 @@ use Rattle.std.proofs.lemmas.Bool.{eqb-true}
 use Rattle.std.proofs.lemmas.List.Elements.{All-cons, All-head, All-nil, All-push, All-tail, All-weaker}
 use Rattle.std.proofs.lemmas.List.Quantifiers.{position-Some}
 use Rattle.std.proofs.lemmas.Option.{none-some, same_Some, slice_get-get_or}
+use Rattle.exi_builtin.specs.declared.element_grammar.ElementGrammar.{ElementGrammar}
 use Rattle.exi_builtin.specs.declared.learnable.Learnable.{Learnable}
 use Rattle.exi_builtin.specs.declared.learnable.Learnable.TheVariants as learnable
 use Rattle.exi_builtin.specs.declared.learnable.Learned.{Learned}
 use Rattle.exi_builtin.specs.declared.learnable.Room.{Room}
 use Rattle.exi_builtin.specs.declared.learnable.Room.TheVariants as room
-use Rattle.exi_builtin.specs.Learning.{Grammar, Learning, added_by, after_use, changed_at, grammar_number, grammar_place, is_new, new_grammar, same_name, with_grammar}
+use Rattle.exi_builtin.specs.Learning.{Learning, added_by, after_use, changed_at, grammar_number, grammar_place, is_new, new_grammar, same_name, with_grammar}
 use Rattle.exi_names.specs.declared.names.NameId.{NameId}
 use Rattle.exi_tables.specs.Growth.{KeepsAll}
 use Rattle.exi_tables.specs.Partitions.{Partitions}
@@ -27,7 +28,7 @@ element_on : (p q : Partitions) → KeepsAll p q → (x : Learnable) → IsEleme
 element_on p q keeps (learnable.Known name false) h = name_on p q name keeps h
 element_on p q keeps other h = h
 
-grammar_on : (p q : Partitions) → KeepsAll p q → (g : Grammar) → IsSoundGrammar p g → IsSoundGrammar q g
+grammar_on : (p q : Partitions) → KeepsAll p q → (g : ElementGrammar) → IsSoundGrammar p g → IsSoundGrammar q g
 grammar_on p q keeps g s = record {
   name = name_on p q g.name keeps s.name;
   start_tag = All-weaker (IsOfNames p) (IsOfNames q) (of_names_on p q keeps) g.start_tag s.start_tag;
@@ -41,20 +42,20 @@ learning_on p q keeps l s = record {
 }
 
 -- ---- each grammar keeps its number and its name
-abbrev pub KeepsNames : List Grammar → List Grammar → Type 0
-KeepsNames old new = (number : ℕ) (g : Grammar) → slice_get old number ≡ Some g → (h : Grammar) × (slice_get new number ≡ Some h) × (h.name ≡ g.name)
+abbrev pub KeepsNames : List ElementGrammar → List ElementGrammar → Type 0
+KeepsNames old new = (number : ℕ) (g : ElementGrammar) → slice_get old number ≡ Some g → (h : ElementGrammar) × (slice_get new number ≡ Some h) × (h.name ≡ g.name)
 
-pub names_same : (gs : List Grammar) → KeepsNames gs gs
+pub names_same : (gs : List ElementGrammar) → KeepsNames gs gs
 names_same gs number g is = (g, is, refl)
 
-names_changed : (gs : List Grammar) (place : ℕ) (change : Grammar → Grammar) → ((g : Grammar) → (change g).name ≡ g.name) → KeepsNames gs (changed_at gs place change)
+names_changed : (gs : List ElementGrammar) (place : ℕ) (change : ElementGrammar → ElementGrammar) → ((g : ElementGrammar) → (change g).name ≡ g.name) → KeepsNames gs (changed_at gs place change)
 names_changed [] place change same number g is = absurd (none-some g is)
-names_changed (x ∷ xs) zero change same zero g is = (change x, refl, same x ∙ ap (λ (z : Grammar). z.name) (same_Some x g is))
+names_changed (x ∷ xs) zero change same zero g is = (change x, refl, same x ∙ ap (λ (z : ElementGrammar). z.name) (same_Some x g is))
 names_changed (x ∷ xs) zero change same (suc number) g is = (g, is, refl)
 names_changed (x ∷ xs) (suc place) change same zero g is = (g, is, refl)
 names_changed (x ∷ xs) (suc place) change same (suc number) g is = names_changed xs place change same number g is
 
-names_added : (gs more : List Grammar) → KeepsNames gs (gs ++ more)
+names_added : (gs more : List ElementGrammar) → KeepsNames gs (gs ++ more)
 names_added [] more number g is = absurd (none-some g is)
 names_added (x ∷ xs) more zero g is = (g, is, refl)
 names_added (x ∷ xs) more (suc number) g is = names_added xs more number g is
@@ -65,7 +66,7 @@ open_on p q l m keeps names e s =
     record { name = name_on p q e.name keeps s.name; grammar = n.0; stands = n.1; same = n.2 ∙ s.same }
 
 -- ---- a use
-all_changed : (P : Grammar → Type 0) (gs : List Grammar) (place : ℕ) (change : Grammar → Grammar) → ((g : Grammar) → P g → P (change g)) → All P gs → All P (changed_at gs place change)
+all_changed : (P : ElementGrammar → Type 0) (gs : List ElementGrammar) (place : ℕ) (change : ElementGrammar → ElementGrammar) → ((g : ElementGrammar) → P g → P (change g)) → All P gs → All P (changed_at gs place change)
 all_changed P [] place change keeps all = All-nil P
 all_changed P (x ∷ xs) zero change keeps all = All-cons P (change x) xs (keeps x (All-head P x xs all)) (All-tail P x xs all)
 all_changed P (x ∷ xs) (suc place) change keeps all = All-cons P x (changed_at xs place change) (All-head P x xs all) (all_changed P xs place change keeps (All-tail P x xs all))
@@ -79,16 +80,16 @@ abbrev pub MayStand : Partitions → Room → Learnable → Type 0
 MayStand p room.Fragment x = IsElementOfName p x
 MayStand p other x = IsOfNames p x
 
-abbrev in_start_tag : Learnable → Grammar → Grammar
+abbrev in_start_tag : Learnable → ElementGrammar → ElementGrammar
 in_start_tag x g = record g { start_tag = x ∷ g.start_tag }
 
-abbrev in_content : Learnable → Grammar → Grammar
+abbrev in_content : Learnable → ElementGrammar → ElementGrammar
 in_content x g = record g { content = x ∷ g.content }
 
-abbrev put_in : Learning → ℕ → (Grammar → Grammar) → Learning
+abbrev put_in : Learning → ℕ → (ElementGrammar → ElementGrammar) → Learning
 put_in l number change = record l { grammars = changed_at l.grammars number change }
 
-put_sound : (p : Partitions) (l : Learning) (number : ℕ) (change : Grammar → Grammar) → ((g : Grammar) → IsSoundGrammar p g → IsSoundGrammar p (change g)) → IsSoundLearning p l → IsSoundLearning p (put_in l number change)
+put_sound : (p : Partitions) (l : Learning) (number : ℕ) (change : ElementGrammar → ElementGrammar) → ((g : ElementGrammar) → IsSoundGrammar p g → IsSoundGrammar p (change g)) → IsSoundLearning p l → IsSoundLearning p (put_in l number change)
 put_sound p l number change keeps s = record { grammars = all_changed (IsSoundGrammar p) l.grammars number change keeps s.grammars; fragment = s.fragment }
 
 pub use_sound : (p : Partitions) (l : Learning) (r : Room) (u : Learned) → MayStand p r (added_by u) → IsSoundLearning p l → IsSoundLearning p (after_use l r u)
@@ -134,17 +135,17 @@ abbrev made_unless : Learning → NameId → Option ℕ → Learning
 made_unless l name (Some place) = l
 made_unless l name None = record l { grammars = l.grammars ++ new_grammar name ∷ [] }
 
-last_of : (gs : List Grammar) (g : Grammar) → slice_get (gs ++ g ∷ []) (length gs) ≡ Some g
+last_of : (gs : List ElementGrammar) (g : ElementGrammar) → slice_get (gs ++ g ∷ []) (length gs) ≡ Some g
 last_of [] g = refl
 last_of (x ∷ xs) g = last_of xs g
 
-abbrev HasGrammar : List Grammar → ℕ → NameId → Type 0
-HasGrammar gs number name = (g : Grammar) × (slice_get gs number ≡ Some g) × (g.name ≡ name)
+abbrev HasGrammar : List ElementGrammar → ℕ → NameId → Type 0
+HasGrammar gs number name = (g : ElementGrammar) × (slice_get gs number ≡ Some g) × (g.name ≡ name)
 
 made_has : (l : Learning) (name : NameId) (o : Option ℕ) → grammar_place l name ≡ o → HasGrammar (made_unless l name o).grammars (unwrap_or o (length l.grammars)) name
 made_has l name (Some place) e =
-    let at = position-Some (λ (g : Grammar). same_name g.name name) l.grammars place (new_grammar name) e in
-    let g : Grammar = get_or l.grammars place (new_grammar name) in
+    let at = position-Some (λ (g : ElementGrammar). same_name g.name name) l.grammars place (new_grammar name) e in
+    let g : ElementGrammar = get_or l.grammars place (new_grammar name) in
     (g, slice_get-get_or l.grammars place (new_grammar name) at.0, same_is g.name name at.1)
 made_has l name None e = (new_grammar name, last_of l.grammars (new_grammar name), refl)
 

@@ -5,12 +5,13 @@ use Rattle.std.proofs.lemmas.List.Elements.{All-append, All-cons, All-filter, Al
 use Rattle.std.proofs.lemmas.Option.{get_or_from_slice_get, slice_get_within}
 use Rattle.exi_bits.specs.declared.align.Align.{Align}
 use Rattle.exi_bits.specs.Bits.{Spot}
+use Rattle.exi_builtin.specs.declared.element_grammar.ElementGrammar.{ElementGrammar}
 use Rattle.exi_builtin.specs.declared.learnable.Learnable.{Learnable}
 use Rattle.exi_builtin.specs.declared.learnable.Learnable.TheVariants as learnable
 use Rattle.exi_builtin.specs.declared.learnable.Room.TheVariants as room
 use Rattle.exi_builtin.specs.BuiltIn.{element_content, is_kept, left_of, start_tag_content}
 use Rattle.exi_builtin.specs.BuiltIn as built
-use Rattle.exi_builtin.specs.Learning.{Grammar, Learning, behind_learned, productions}
+use Rattle.exi_builtin.specs.Learning.{Learning, behind_learned, productions}
 use Rattle.exi_gram.specs.declared.options.Options.{Options}
 use Rattle.exi_gram.specs.Codes.{Productions, Second, code_at, first_told, first_values, group, kept_second, kept_seconds, mapped, mapped_second, member_at, part_at, pruned, second_at, second_told, single, told}
 use Rattle.exi_tables.specs.Partitions.{Partitions}
@@ -130,11 +131,11 @@ of_names_offered p (learnable.Known name true) h = h
 of_names_offered p (learnable.Known name false) h = h
 of_names_offered p other h = tt
 
-abbrev start_tag_of : Option Grammar → List Learnable
+abbrev start_tag_of : Option ElementGrammar → List Learnable
 start_tag_of None = []
 start_tag_of (Some g) = g.start_tag
 
-abbrev content_of : Option Grammar → List Learnable
+abbrev content_of : Option ElementGrammar → List Learnable
 content_of None = []
 content_of (Some g) = g.content
 
@@ -157,11 +158,11 @@ content_named p = record {
   seconds = All-from_recursion (EachOf (IsOfNames p)) element_content.seconds (tt, (tt, (tt, (members_named p, tt))));
 }
 
-learned_start_tag : (p : Partitions) (gs : List Grammar) (number : ℕ) (o : Option Grammar) → slice_get gs number ≡ o → All (IsSoundGrammar p) gs → All (IsOfNames p) (start_tag_of o)
+learned_start_tag : (p : Partitions) (gs : List ElementGrammar) (number : ℕ) (o : Option ElementGrammar) → slice_get gs number ≡ o → All (IsSoundGrammar p) gs → All (IsOfNames p) (start_tag_of o)
 learned_start_tag p gs number None is all = All-nil (IsOfNames p)
 learned_start_tag p gs number (Some g) is all = (at_place (IsSoundGrammar p) gs number g all is).start_tag
 
-learned_content : (p : Partitions) (gs : List Grammar) (number : ℕ) (o : Option Grammar) → slice_get gs number ≡ o → All (IsSoundGrammar p) gs → All (IsOfNames p) (content_of o)
+learned_content : (p : Partitions) (gs : List ElementGrammar) (number : ℕ) (o : Option ElementGrammar) → slice_get gs number ≡ o → All (IsSoundGrammar p) gs → All (IsOfNames p) (content_of o)
 learned_content p gs number None is all = All-nil (IsOfNames p)
 learned_content p gs number (Some g) is all = (at_place (IsSoundGrammar p) gs number g all is).content
 

@@ -2,9 +2,10 @@
 -- there only to make it whole: a place without a text, a grammar without a number, characters without an element.
 use Rattle.std.specs.Prelude.{◌≡◌, ◌≢◌, ◌⊎◌, ℕ, true, false, List, [], length, Option, Some, All, Ok, slice_get}
 use Rattle.exi_bits.specs.Bits.{Spot}
+use Rattle.exi_builtin.specs.declared.element_grammar.ElementGrammar.{ElementGrammar}
 use Rattle.exi_builtin.specs.declared.learnable.Learnable.{Learnable}
 use Rattle.exi_builtin.specs.declared.learnable.Learnable.TheVariants as learnable
-use Rattle.exi_builtin.specs.Learning.{Grammar, Learning}
+use Rattle.exi_builtin.specs.Learning.{Learning}
 use Rattle.exi_meter.specs.Metering.{Bounds}
 use Rattle.exi_names.specs.declared.names.NameId.{NameId}
 use Rattle.exi_names.specs.Events.{Happening}
@@ -32,7 +33,7 @@ abbrev pub IsElementOfName : Partitions → Learnable → Type 0
 IsElementOfName p (learnable.Known name false) = IsLeastName p name
 IsElementOfName p other = ⊥
 
-pub record IsSoundGrammar (p : Partitions) (g : Grammar) : Type 0 where
+pub record IsSoundGrammar (p : Partitions) (g : ElementGrammar) : Type 0 where
   pub name : IsLeastName p g.name
   pub start_tag : All (IsOfNames p) g.start_tag
   pub content : All (IsOfNames p) g.content
@@ -44,7 +45,7 @@ pub record IsSoundLearning (p : Partitions) (l : Learning) : Type 0 where
 -- an open element has such a name, and the grammar of that name
 pub record IsSoundElement (p : Partitions) (l : Learning) (e : Element) : Type 0 where
   pub name : IsLeastName p e.name
-  pub grammar : Grammar
+  pub grammar : ElementGrammar
   pub stands : slice_get l.grammars e.grammar ≡ Some grammar
   pub same : grammar.name ≡ e.name
 
