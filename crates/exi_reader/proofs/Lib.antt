@@ -11,4 +11,5 @@ mod Soundness
 mod Standing
 mod Steps
 mod Terminals
+mod EventItems
 mod Worked

@@ -5,12 +5,12 @@ use Rattle.std.proofs.lemmas.List.Elements.{All-append, All-cons, All-filter, Al
 use Rattle.std.proofs.lemmas.Option.{get_or_from_slice_get, slice_get_within}
 use Rattle.exi_bits.specs.declared.align.Align.{Align}
 use Rattle.exi_bits.specs.Bits.{Spot}
-use Rattle.exi_builtin.specs.declared.element_grammar.ElementGrammar.{ElementGrammar}
 use Rattle.exi_builtin.specs.declared.learnable.Learnable.{Learnable}
 use Rattle.exi_builtin.specs.declared.learnable.Learnable.TheVariants as learnable
 use Rattle.exi_builtin.specs.declared.learnable.Room.TheVariants as room
 use Rattle.exi_builtin.specs.BuiltIn.{element_content, is_kept, left_of, start_tag_content}
 use Rattle.exi_builtin.specs.BuiltIn as built
+use Rattle.exi_builtin.specs.declared.element_grammar.ElementGrammar.{ElementGrammar}
 use Rattle.exi_builtin.specs.Learning.{Learning, behind_learned, productions}
 use Rattle.exi_gram.specs.declared.options.Options.{Options}
 use Rattle.exi_gram.specs.Codes.{Productions, Second, code_at, first_told, first_values, group, kept_second, kept_seconds, mapped, mapped_second, member_at, part_at, pruned, second_at, second_told, single, told}

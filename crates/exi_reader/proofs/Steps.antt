@@ -21,7 +21,7 @@ use Rattle.exi_typed.specs.Courses.{Course, Courser, Failure, at_spot_of, failin
 use Rattle.exi_typed.specs.NameValues.{name_value_at, with_meter}
 use Rattle.exi_typed.specs.Strings.{Named, declaration_at, known_at, name_at, no_growth, value_at}
 use Rattle.exi_reader.specs.Configurations.{Config, Setting, Terminal, any_attribute, any_element, characters, comment, declaration, document_type, end_document, end_element, entity, instruction, known_attribute, known_element, productions_of, self_contained, start_document}
-use Rattle.exi_reader.specs.OneEvent.{Given, any_attribute_at, any_element_at, at_event, attribute_value_at, characters_at, charged_if, closed, comment_at, declaration_event_at, document_type_at, entity_at, event_charge, event_of, instruction_at, is_start, known_attribute_at, known_element_at, learns, level_charge, moves, name_of, one, opened, string_at, text_at, type_at, went}
+use Rattle.exi_reader.specs.OneEvent.{Given, any_attribute_at, any_element_at, at_event, attribute_value_at, characters_at, charged_if, closed, comment_at, declaration_event_at, document_type_at, entity_at, event_charge, event_of, instruction_at, is_start, known_attribute_at, known_element_at, learns, level_charge, moves, name_of, one, opened, remembered, string_at, text_at, type_at, went}
 use Rattle.exi_reader.proofs.Onward.{Ahead, GoesOnward, Onward, ahead_same, ahead_then, bind_is, charge_is, code_ahead, declaration_onward, failing_is, good, good_is, known_onward, literal_onward, name_onward, onward_either, onward_made, onward_same, onward_then, value_onward}
 
 -- ---- charges
@@ -182,9 +182,6 @@ pub record Steps (c d : Config) : Type 0 where
 at_event_is : {X : Type 0} (bit : ℕ) (r : Result X Failure) (x : X) → at_event bit r ≡ good x → r ≡ good x
 at_event_is bit (Ok y) x e = ap (λ z. good z) (good_is y x e)
 at_event_is bit (Err f) x e = absurd cc
-
-abbrev remembered : Given → Given
-remembered given = (given.0, record given.1 { after_start = is_start given.0 })
 
 pub step_is : (g : Setting) (c d : Config) (e : Option Happening) → one g c ≡ good (e, d) → Steps c d
 unfolding one

@@ -3,3 +3,4 @@ pub mod Laws
 pub mod OneEvent
 pub mod Runs
 pub mod Sound
+pub mod Spelled

@@ -23,7 +23,7 @@ use Rattle.exi_names.specs.Seen.{Value}
 use Rattle.exi_names.specs.Seen as value
 use Rattle.exi_typed.specs.Courses.{Course, Courser, Failure, at_spot_of, failing}
 use Rattle.exi_typed.specs.NameValues.{name_value_at}
-use Rattle.exi_typed.specs.Strings.{declaration_at, known_at, literal_at, name_at, no_growth, value_at}
+use Rattle.exi_typed.specs.Strings.{Declaration, Named, declaration_at, known_at, literal_at, name_at, no_growth, value_at}
 use Rattle.exi_reader.specs.Configurations.{Config, Element, Outer, Setting, Terminal, any_attribute, any_element, characters, comment, declaration, document_type, end_document, end_element, entity, fragment_content, instruction, known_attribute, known_element, next_outer, next_stage, productions_of, room_of, self_contained, start_document, start_tag}
 
 -- what one event gives: the event, and the next configuration. Later a fragment's own SD, SE and ED give no event
@@ -107,17 +107,24 @@ name_of [] = record { uri = 0; local = 0 }
 name_of (e ∷ es) = e.name
 
 -- ---- elements
+-- an element starts in its parent's state, which learns it where its name was coded
+abbrev pub any_element_made : Config → Named → Course → Given
+any_element_made c name k = (Some (happening.se name.name), opened name.id (moves any_element (learns (used.Se name.id) (went c k))))
+
+abbrev pub known_element_made : NameId → Config → Named → Course → Given
+known_element_made id c name k = (Some (happening.se name.name), opened id (moves (known_element id) (went c k)))
+
 unfoldable pub any_element_at : Setting → ℕ → Config → Result Given Failure
 any_element_at g bit c = do
   entered ← level_charge bit c.course
   name ← name_at (prefixes g.options) (align_of g.options) entered
-  Ok (Some (happening.se name.0.name), opened name.0.id (moves any_element (learns (used.Se name.0.id) (went c name.1))))
+  Ok (any_element_made c name.0 name.1)
 
 unfoldable pub known_element_at : Setting → ℕ → NameId → Config → Result Given Failure
 known_element_at g bit id c = do
   entered ← level_charge bit c.course
   name ← known_at (prefixes g.options) (align_of g.options) id entered
-  Ok (Some (happening.se name.0.name), opened id (moves (known_element id) (went c name.1)))
+  Ok (known_element_made id c name.0 name.1)
 
 -- ---- attributes
 -- The value of xsi:type is a name. Without a schema no type is there, which is a fault at the value in a strict
@@ -136,43 +143,68 @@ string_at g name c = do
 abbrev pub attribute_value_at : Setting → NameId → Courser Value
 attribute_value_at g name c = if is_type name then type_at g c else string_at g name c
 
+abbrev pub any_attribute_made : Config → Named → Value → Course → Given
+any_attribute_made c name found k = (Some (happening.at name.name found), moves any_attribute (learns (used.At name.id) (went c k)))
+
+abbrev pub known_attribute_made : NameId → Config → Named → Value → Course → Given
+known_attribute_made id c name found k = (Some (happening.at name.name found), moves (known_attribute id) (went c k))
+
 unfoldable pub any_attribute_at : Setting → Config → Result Given Failure
 any_attribute_at g c = do
   name ← name_at (prefixes g.options) (align_of g.options) c.course
   found ← attribute_value_at g name.0.id name.1
-  Ok (Some (happening.at name.0.name found.0), moves any_attribute (learns (used.At name.0.id) (went c found.1)))
+  Ok (any_attribute_made c name.0 found.0 found.1)
 
 unfoldable pub known_attribute_at : Setting → NameId → Config → Result Given Failure
 known_attribute_at g id c = do
   name ← known_at (prefixes g.options) (align_of g.options) id c.course
   found ← attribute_value_at g id name.1
-  Ok (Some (happening.at name.0.name found.0), moves (known_attribute id) (went c found.1))
+  Ok (known_attribute_made id c name.0 found.0 found.1)
 
 -- ---- content
+abbrev pub characters_made : Config → Value → Course → Given
+characters_made c found k = (Some (happening.ch found), moves characters (learns used.Ch (went c k)))
+
 unfoldable pub characters_at : Setting → Config → Result Given Failure
 characters_at g c = do
   found ← string_at g (name_of c.elements) c.course
-  Ok (Some (happening.ch found.0), moves characters (learns used.Ch (went c found.1)))
+  Ok (characters_made c found.0 found.1)
+
+-- A declaration that tells the prefix of its element comes behind the element's event, which goes without it
+abbrev pub declaration_made : Config → Declaration → Course → Given
+declaration_made c found k = (Some (happening.ns found.uri found.prefix found.element), moves declaration (went c k))
 
 unfoldable pub declaration_event_at : Setting → Config → Result Given Failure
 declaration_event_at g c = do
   found ← declaration_at (align_of g.options) c.course
-  Ok (Some (happening.ns found.0.uri found.0.prefix found.0.element), moves declaration (went c found.1))
+  Ok (declaration_made c found.0 found.1)
 
 -- a literal that stands in no string table
 abbrev pub text_at : Setting → Courser (List ℕ)
 text_at g c = literal_at (align_of g.options) no_growth c
 
+abbrev pub comment_made : Config → List ℕ → Course → Given
+comment_made c text k = (Some (happening.cm text), moves comment (went c k))
+
+abbrev pub instruction_made : Config → List ℕ → List ℕ → Course → Given
+instruction_made c target text k = (Some (happening.pi target text), moves instruction (went c k))
+
+abbrev pub document_type_made : Config → List ℕ → List ℕ → List ℕ → List ℕ → Course → Given
+document_type_made c name public system text k = (Some (happening.dt name public system text), moves document_type (went c k))
+
+abbrev pub entity_made : Config → List ℕ → Course → Given
+entity_made c name k = (Some (happening.er name), moves entity (went c k))
+
 unfoldable pub comment_at : Setting → Config → Result Given Failure
 comment_at g c = do
   text ← text_at g c.course
-  Ok (Some (happening.cm text.0), moves comment (went c text.1))
+  Ok (comment_made c text.0 text.1)
 
 unfoldable pub instruction_at : Setting → Config → Result Given Failure
 instruction_at g c = do
   target ← text_at g c.course
   text ← text_at g target.1
-  Ok (Some (happening.pi target.0 text.0), moves instruction (went c text.1))
+  Ok (instruction_made c target.0 text.0 text.1)
 
 unfoldable pub document_type_at : Setting → Config → Result Given Failure
 document_type_at g c = do
@@ -180,26 +212,36 @@ document_type_at g c = do
   public ← text_at g name.1
   system ← text_at g public.1
   text ← text_at g system.1
-  Ok (Some (happening.dt name.0 public.0 system.0 text.0), moves document_type (went c text.1))
+  Ok (document_type_made c name.0 public.0 system.0 text.0 text.1)
 
 unfoldable pub entity_at : Setting → Config → Result Given Failure
 entity_at g c = do
   name ← text_at g c.course
-  Ok (Some (happening.er name.0), moves entity (went c name.1))
+  Ok (entity_made c name.0 name.1)
+
+-- ---- events without content
+abbrev pub start_made : Config → Given
+start_made c = (Some happening.sd, moves start_document c)
+
+abbrev pub end_made : Config → Given
+end_made c = (Some happening.ed, moves end_document c)
+
+abbrev pub element_end_made : Config → Given
+element_end_made c = (Some happening.ee, closed (learns used.Ee c))
 
 -- ---- one event
 -- What a production reads, behind its code and with the event charged; the code's first bit is given. SC is not
 -- read yet: every one is in a wrong place. Later it is one only where the last event was no SE, and else what was
 -- learned, the tables and the states are put aside, and the place goes to the next whole byte.
 abbrev pub event_of : Setting → ℕ → Terminal → Config → Result Given Failure
-event_of g bit start_document c = Ok (Some happening.sd, moves start_document c)
-event_of g bit end_document c = Ok (Some happening.ed, moves end_document c)
+event_of g bit start_document c = Ok (start_made c)
+event_of g bit end_document c = Ok (end_made c)
 event_of g bit any_element c = any_element_at g bit c
 event_of g bit (known_element id) c = known_element_at g bit id c
 event_of g bit any_attribute c = any_attribute_at g c
 event_of g bit (known_attribute id) c = known_attribute_at g id c
 event_of g bit characters c = characters_at g c
-event_of g bit end_element c = Ok (Some happening.ee, closed (learns used.Ee c))
+event_of g bit end_element c = Ok (element_end_made c)
 event_of g bit declaration c = declaration_event_at g c
 event_of g bit self_contained c = Err (record { fault = record { kind = kind.ScPlace; bit = bit }; meter = c.course.beside.meter })
 event_of g bit comment c = comment_at g c
@@ -211,10 +253,14 @@ abbrev pub is_start : Option Happening → Bool
 is_start (Some (happening.se name)) = true
 is_start other = false
 
+-- whether the event is an SE is remembered
+abbrev pub remembered : Given → Given
+remembered given = (given.0, record given.1 { after_start = is_start given.0 })
+
 -- the next event and configuration, or the first fault
 unfoldable pub one : Setting → Config → Result Given Failure
 one g c = do
   chosen ← failing c.course.beside.meter (code_at (align_of g.options) (productions_of g c) c.course.spot)
   counted ← event_charge c.course.spot.place (at_spot_of c.course chosen.1)
   given ← at_event c.course.spot.place (event_of g c.course.spot.place chosen.0 (went c counted))
-  Ok (given.0, record given.1 { after_start = is_start given.0 })
+  Ok (remembered given)

@@ -2,9 +2,9 @@
 -- there only to make it whole: a place without a text, a grammar without a number, characters without an element.
 use Rattle.std.specs.Prelude.{◌≡◌, ◌≢◌, ◌⊎◌, ℕ, true, false, List, [], length, Option, Some, All, Ok, slice_get}
 use Rattle.exi_bits.specs.Bits.{Spot}
-use Rattle.exi_builtin.specs.declared.element_grammar.ElementGrammar.{ElementGrammar}
 use Rattle.exi_builtin.specs.declared.learnable.Learnable.{Learnable}
 use Rattle.exi_builtin.specs.declared.learnable.Learnable.TheVariants as learnable
+use Rattle.exi_builtin.specs.declared.element_grammar.ElementGrammar.{ElementGrammar}
 use Rattle.exi_builtin.specs.Learning.{Learning}
 use Rattle.exi_meter.specs.Metering.{Bounds}
 use Rattle.exi_names.specs.declared.names.NameId.{NameId}
