@@ -1,21 +1,20 @@
 -- What the values and texts of events keep, and what their charges make of the meter.
-use Rattle.std.proofs.Common.{◌≡◌, ℕ, Bool, true, false, cond, None, Result, Err, refl, ap, subst}
+use Rattle.std.proofs.Common.{◌≡◌, ℕ, Bool, true, false, cond, None, Result, Err, ap, subst}
 use Rattle.exi_bits.specs.declared.fault.Kind.{Kind}
 use Rattle.exi_bits.specs.declared.fault.Kind.TheVariants as kind
 use Rattle.exi_builtin.specs.Learning.{is_type}
 use Rattle.exi_gram.specs.Switches.{align_of, prefixes, strict}
-use Rattle.exi_items.specs.Charges.{text_charge}
-use Rattle.exi_meter.specs.Metering.{Metering, with_text}
+use Rattle.exi_meter.specs.Metering.{Metering}
 use Rattle.exi_names.specs.declared.names.NameId.{NameId}
 use Rattle.exi_names.specs.Seen.{Value}
 use Rattle.exi_names.specs.Seen as value
-use Rattle.exi_typed.specs.Courses.{Course, Failure, failing}
-use Rattle.exi_typed.specs.NameValues.{name_value_at, with_meter}
-use Rattle.exi_typed.specs.Strings.{Named, name_at, no_growth, value_at}
+use Rattle.exi_typed.specs.Courses.{Course, Failure}
+use Rattle.exi_typed.specs.NameValues.{name_value_at}
+use Rattle.exi_typed.specs.Strings.{Named, value_at}
 use Rattle.exi_reader.specs.Configurations.{Setting}
 use Rattle.exi_reader.specs.OneEvent.{attribute_value_at, charged_if, string_at, text_at, type_at}
-use Rattle.exi_reader.proofs.Keeping.{Keeps, Kept, all_same, kept_either, kept_made, kept_same, kept_then, literal_kept, name_kept, value_kept}
-use Rattle.exi_reader.proofs.Onward.{bind_is, charge_is, failing_is, good, good_is}
+use Rattle.exi_reader.proofs.Keeping.{Keeps, Kept, kept_either, kept_made, kept_same, kept_then, literal_kept, name_value_kept, value_kept}
+use Rattle.exi_reader.proofs.Onward.{bind_is, good, good_is}
 
 -- ---- charges
 abbrev pub metered : Course → Metering → Course
@@ -26,14 +25,6 @@ charged_is true k bit c d m e = good_is (metered c m) d e
 charged_is false k bit c d m e = absurd cc
 
 -- ---- values
-name_value_kept : (keep : Bool) (g : Setting) → Keeps (name_value_at keep (align_of g.options))
-unfolding name_value_at
-name_value_kept keep g c d x e =
-    let b = bind_is (failing c.beside.meter (text_charge 1 c.spot.place c.beside.meter)) (λ (m : Metering). name_at keep (align_of g.options) (with_meter c m)) (x, d) e in
-    let k = charge_is 1 c.spot.place c.beside.meter b.0 (failing_is c.beside.meter (text_charge 1 c.spot.place c.beside.meter) b.0 b.1) in
-    let charged : Kept c (with_meter c (with_text c.beside.meter 1)) = record { tables = all_same c.beside.tables; level = refl } in
-    kept_then c (with_meter c b.0) d (subst (λ (m : Metering). Kept c (with_meter c m)) k charged) (name_kept keep (align_of g.options) (with_meter c b.0) d x b.2)
-
 no_type : Course → Named × Course → Result (Value × Course) Failure
 no_type c name = Err (record { fault = record { kind = kind.BadType; bit = c.spot.place }; meter = name.1.beside.meter })
 
@@ -44,7 +35,7 @@ type_kept : (g : Setting) → Keeps (type_at g)
 unfolding type_at no_type the_type
 type_kept g c d x e =
     let b = bind_is (name_value_at (prefixes g.options) (align_of g.options) c) (λ (name : Named × Course). cond (strict g.options) (no_type c name) (the_type name)) (x, d) e in
-    kept_then c b.0.1 d (name_value_kept (prefixes g.options) g c b.0.1 b.0.0 b.1) (by_strict (strict g.options) b.0 b.2)
+    kept_then c b.0.1 d (name_value_kept (prefixes g.options) (align_of g.options) c b.0.1 b.0.0 b.1) (by_strict (strict g.options) b.0 b.2)
   where
     by_strict : (b : Bool) (name : Named × Course) → cond b (no_type c name) (the_type name) ≡ good (x, d) → Kept name.1 d
     by_strict true name h = absurd cc
@@ -58,4 +49,4 @@ pub attribute_kept : (g : Setting) (name : NameId) → Keeps (attribute_value_at
 attribute_kept g name = kept_either (is_type name) (type_at g) (string_at g name) (type_kept g) (string_kept g name)
 
 pub text_kept : (g : Setting) → Keeps (text_at g)
-text_kept g = literal_kept (align_of g.options) no_growth (λ p text. all_same p)
+text_kept g = literal_kept (align_of g.options)
