@@ -9,6 +9,8 @@ mod learned_list;
 mod name_numbers;
 mod overlay;
 mod reading;
+#[cfg(test)]
+mod tests;
 mod uses;
 mod written;
 
