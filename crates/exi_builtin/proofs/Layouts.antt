@@ -1,5 +1,5 @@
 -- What the options leave of written lists, and what their second parts tell.
-use Rattle.std.proofs.Common.{◌≡◌, ℕ, zero, suc, ◌<◌, ◌≤◌, ◌+◌, Bool, cond, ◌||◌, List, [], ◌∷◌, ◌++◌, map, filter, length, slice_get, refl, ap, sym, ◌∙◌, arith, inl, inr, Option, Some, None, Result, Ok, Err}
+use Rattle.std.proofs.Common.{◌≡◌, ℕ, zero, suc, ◌<◌, ◌≤◌, ◌+◌, Bool, cond, ◌||◌, List, [], ◌∷◌, ◌++◌, filter, length, slice_get, refl, ap, arith, inl, inr, Some, None, Result, Ok, Err}
 use Rattle.std.specs.List.{list_any}
 use Rattle.std.proofs.lemmas.Bool.{cases_Bool}
 use Rattle.exi_bits.specs.declared.align.Align.{Align}

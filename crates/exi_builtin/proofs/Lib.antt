@@ -3,3 +3,4 @@ pub mod Shapes
 pub mod Numbering
 pub mod Naming
 pub mod LearningLaws
+mod Worked

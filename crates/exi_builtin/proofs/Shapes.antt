@@ -1,5 +1,5 @@
 -- The productions of a state, and the reading of their codes from the first part on.
-use Rattle.std.proofs.Common.{◌≡◌, ℕ, ◌+◌, List, ◌++◌, filter, length, slice_get, refl, ap, sym, ◌∙◌, Option, Result, Ok, Err}
+use Rattle.std.proofs.Common.{◌≡◌, ℕ, ◌+◌, List, ◌++◌, filter, length, slice_get, refl, ap, sym, ◌∙◌, Option, Ok, Err}
 use Rattle.exi_bits.specs.declared.align.Align.{Align}
 use Rattle.exi_bits.specs.declared.fault.Fault.{Fault}
 use Rattle.exi_bits.specs.Bits.{Spot}

@@ -1,6 +1,6 @@
 -- The built-in grammars of elements and fragments (W3C EXI 1.0, sections 8.4.2 and 8.4.3), as they stand before
 -- anything is learned, and what the options leave of them (section 8.3).
-use Rattle.std.specs.Prelude.{Bool, true, false, List, [], ◌∷◌}
+use Rattle.std.specs.Prelude.{Bool, true, false, [], ◌∷◌}
 use Rattle.exi_gram.specs.declared.options.Options.{Options}
 use Rattle.exi_gram.specs.Codes.{Productions, single, group, pruned}
 use Rattle.exi_gram.specs.Switches.{comments, dtd, prefixes, processing_instructions, self_contained}

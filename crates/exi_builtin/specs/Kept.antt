@@ -1,5 +1,5 @@
 -- What is kept beside the productions, so that no list has to be walked.
-use Rattle.std.specs.Prelude.{◌≡◌, ℕ, ◌≤◌, ◌^◌, Bool, Option, None, List, [], length, position, slice_index_or}
+use Rattle.std.specs.Prelude.{◌≡◌, ℕ, ◌≤◌, ◌^◌, Option, List, length, position}
 use Rattle.exi_names.specs.declared.names.NameId.{NameId}
 use Rattle.exi_builtin.specs.declared.element_grammar.ElementGrammar.{ElementGrammar}
 use Rattle.exi_builtin.specs.Numbers.{number_at}

@@ -1,5 +1,5 @@
 -- What is known of the productions that a state learned without a look at them.
-use Rattle.std.specs.Prelude.{◌≡◌, ℕ, ◌≤◌, ◌^◌, Bool, List, length}
+use Rattle.std.specs.Prelude.{◌≡◌, ◌≤◌, ◌^◌, Bool, List, length}
 use Rattle.std.specs.List.{list_any}
 use Rattle.exi_builtin.specs.declared.learnable.Learnable.{Learnable}
 use Rattle.exi_builtin.specs.Uses.{is_characters, is_end, is_known_type}

@@ -1,4 +1,4 @@
-ghost use Rattle.std.specs.Prelude.{◌≡◌, ◌<◌, ◌^◌, ◌∷◌, ◌++◌, [], None, length, map, IfOk, OnOk, OnErr};
+ghost use Rattle.std.specs.Prelude.{◌≡◌, ◌<◌, ◌^◌, ◌∷◌, ◌++◌, [], None, ◌↔◌, length, map, IsTrue, IfOk, OnOk, OnErr};
 ghost use Rattle.exi_bits.specs.Bits.{IsAligned};
 ghost use Rattle.exi_bits.specs.Unsigned.{Reads};
 ghost use Rattle.exi_gram.specs.Codes.{code_at, coded};
@@ -93,7 +93,8 @@ impl Overlay {
         requires absent { grammar_place self.old name ≡ None }
         ensures number { IfOk result (λ number. number ≡ length self.old.grammars) }
         ensures made { OnOk result (self.new ≡ record self.old {
-            grammars = self.old.grammars ++ new_grammar name ∷ [] }) }
+          grammars = self.old.grammars ++ new_grammar name ∷ [];
+        }) }
         ensures err { OnErr result (self.new ≡ self.old) }
     {
         let number = self.grammars.len() as u32;
@@ -104,8 +105,33 @@ impl Overlay {
         Ok(number)
     }
 
+    /// How many grammars there are.
+    pub fn grammars(&self) -> u32
+        ensures { result ≡ length self.now.grammars }
+    {
+        self.grammars.len() as u32
+    }
+
+    /// Whether the number of a state is one that [`Overlay::grammar`] gave.
+    pub fn is_room(&self, room: Room) -> bool
+        ensures { IsTrue result ↔ IsRoom self.now room }
+    {
+        match room {
+            Room::StartTag(number) | Room::Content(number) => number < self.grammars(),
+            Room::Fragment => true,
+        }
+    }
+
+    /// How many productions a state learned.
+    pub fn learned(&self, room: Room) -> u32
+        requires { IsRoom self.now room }
+        ensures { result ≡ length (learned_in self.now room) }
+    {
+        self.learned_list(room).len()
+    }
+
     /// What a state learned.
-    fn learned(&self, room: Room) -> &LearnedList
+    fn learned_list(&self, room: Room) -> &LearnedList
         requires { IsRoom self.now room }
         ensures { result.now ≡ learned_in self.now room }
     {
@@ -127,7 +153,7 @@ impl Overlay {
         ensures { IfOk result (λ list. map coded_of list
             ≡ coded (productions options.now self.now room)) }
     {
-        codes_behind(self.alloc, self.learned(room), room, options)
+        codes_behind(self.alloc, self.learned_list(room), room, options)
     }
 
     /// Reads a code of a state (EXI 1.0, section 6.2) and gives its production. The number of the state has
@@ -151,7 +177,7 @@ impl Overlay {
         ensures aligned { IsAligned (align_of options.now) input.new }
     {
         let bit = input.at();
-        match read_behind(input, self.learned(room), room, options) {
+        match read_behind(input, self.learned_list(room), room, options) {
             Ok(production) => Ok(production),
             Err(fault) => {
                 input.back(bit);
@@ -174,7 +200,7 @@ impl Overlay {
         ensures learned { OnOk result (self.new ≡ after_use self.old room used) }
         ensures err { OnErr result (self.new ≡ self.old) }
     {
-        if stands_written(room, used) || self.learned(room).stands(used) {
+        if stands_written(room, used) || self.learned_list(room).stands(used) {
             return Ok(false);
         }
         self.add(room, added_by(used))?;

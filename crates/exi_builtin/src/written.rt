@@ -22,8 +22,7 @@ pub struct Written {
 
 /// The productions of a state as they are written.
 pub fn as_written(room: Room) -> Written
-    ensures written {
-        laid_out result.firsts.now result.singles.now result.members.now ≡ written room }
+    ensures written { laid_out result.firsts.now result.singles.now result.members.now ≡ written room }
     ensures firsts { length result.firsts.now ≤ 8 }
     ensures singles { length result.singles.now ≤ 8 }
     ensures members { length result.members.now ≤ 8 }

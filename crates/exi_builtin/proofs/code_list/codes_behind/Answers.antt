@@ -1,4 +1,4 @@
-use Rattle.std.proofs.Common.{◌≡◌, ◌++◌, [], ap, filter, map, sym, ◌∙◌}
+use Rattle.std.proofs.Common.{◌≡◌, [], ap, filter, map, sym, ◌∙◌}
 use Rattle.exi_gram.specs.Codes.{coded, coded_from}
 use Rattle.exi_builtin.specs.BuiltIn.{is_kept}
 use Rattle.exi_builtin.specs.CodeParts.{coded_of}

@@ -1,4 +1,4 @@
-use Rattle.std.proofs.Common.{◌≡◌, ◌++◌, Some, None, length}
+use Rattle.std.proofs.Common.{◌≡◌, ◌++◌, Some, None}
 use Rattle.std.proofs.lemmas.Result.{err_from_is_err_and}
 use Rattle.exi_gram.specs.Switches.{align_of}
 use Rattle.exi_gram.specs.Codes.{code_at, kept_seconds, second_at}

@@ -1,4 +1,4 @@
-use Rattle.std.proofs.Common.{◌≡◌, ◌<◌, ◌∙◌, sym, filter, length, slice_get, Some, None}
+use Rattle.std.proofs.Common.{◌≡◌, ◌<◌, sym, filter, length}
 use Rattle.std.proofs.lemmas.Result.{err_from_is_err_and}
 use Rattle.exi_gram.specs.Switches.{align_of}
 use Rattle.exi_gram.specs.Codes.{kept_seconds, member_at, second_at}

@@ -1,4 +1,4 @@
-use Rattle.std.proofs.Common.{ap, arith, length, filter}
+use Rattle.std.proofs.Common.{arith, filter}
 use Rattle.exi_builtin.specs.BuiltIn.{is_kept}
 use Rattle.exi_builtin.proofs.Layouts.{grouped_none, grouped_some, kept_laid, laid_length}
 use Rattle.exi_builtin.proofs.reading.second_count.Goals as goal

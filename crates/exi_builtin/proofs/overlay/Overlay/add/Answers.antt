@@ -1,6 +1,5 @@
-use Rattle.std.proofs.Common.{◌≡◌, ◌<◌, ◌∷◌, ap, length}
+use Rattle.std.proofs.Common.{◌<◌, ◌∷◌, ap, length}
 use Rattle.exi_builtin.specs.declared.element_grammar.ElementGrammar.{ElementGrammar}
-use Rattle.exi_builtin.specs.Learning.{IsRoom}
 use Rattle.exi_builtin.proofs.Naming.{on_ok, set-changed_at}
 use Rattle.exi_builtin.proofs.overlay.Overlay.add.Goals as goal
 
