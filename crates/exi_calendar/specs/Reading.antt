@@ -3,7 +3,7 @@
 use Rattle.std.specs.Prelude.{Option, Some, None, option_and_then, option_map, ℕ, zero, suc, ◌+◌, ◌-◌, ◌*◌, ◌^◌, ◌==◌, ◌&&◌, ◌||◌, nat_lt, nat_le, if◌then◌else◌, Bool, true, false, List, [], ◌∷◌, length, take, drop, slice_index, not, ℤ, pos, neg_ℤ}
 use Rattle.exi_names.specs.declared.moment.Moment.{Moment}
 use Rattle.exi_names.specs.declared.moment.MomentKind.{MomentKind}
-use Rattle.exi_digits.specs.Digits.{back_in, has_any, is_digit, number_of}
+use Rattle.exi_digits.specs.Digits.{back_in, has_any, is_digit, number_in}
 use Rattle.exi_calendar.specs.Parts.{colon, hyphen, layout, letter_z, no_mark, one_mark, plus, point}
 
 -- one after another, as far as there is something
@@ -54,7 +54,7 @@ signed_year false n = if nat_lt n (2 ^ 63) then Some (pos n) else None
 signed_year true n = if nat_lt 0 n && nat_le n (2 ^ 63) then Some (neg_ℤ (pos n)) else None
 
 unfoldable pub year_of : Bool → List ℕ → Option ℤ
-year_of minus digits = if is_long_enough digits then signed_year minus (number_of digits) else None
+year_of minus digits = if is_long_enough digits then (number_in digits >>= signed_year minus) else None
 
 unfoldable pub digits_year_at : Bool → List ℕ → Option (ℤ × List ℕ)
 digits_year_at minus text = option_map (λ year. (year, after_lead text)) (year_of minus (lead text))

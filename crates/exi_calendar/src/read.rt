@@ -99,7 +99,7 @@ fn year_of(minus: bool, digits: &[u8]) -> Option<i64>
     if !is_long_enough(digits) {
         return None;
     }
-    signed_year(minus, 0)
+    signed_year(minus, exi_digits::number(digits)?)
 }
 
 /// The year of a sign and the digits that a text begins with, and what stands behind them.
@@ -134,7 +134,7 @@ fn fraction_digits(text: &[u8]) -> Option<(Option<u128>, &[u8])>
     if digits.is_empty() {
         return None;
     }
-    Some((Some(0), rest))
+    Some((Some(exi_digits::back(digits)?), rest))
 }
 
 /// The fraction that a text begins with, where seconds stand in front of it, and what stands behind it.
