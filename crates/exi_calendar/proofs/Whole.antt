@@ -22,7 +22,7 @@ zone_ends z text utc = refl
 zone_ends z text (east n) = refl
 zone_ends z text (west n) = refl
 
-regroup : (a b c d e f g h : List ℕ) → (a ++ b ++ c ++ d ++ e ++ f) ++ g ++ h ≡ a ++ (b ++ (c ++ (d ++ (e ++ (f ++ (g ++ h))))))
+regroup : (a b c d e f g h : List ℕ) → (a ++ b ++ c) ++ (d ++ e ++ f) ++ g ++ h ≡ a ++ (b ++ (c ++ (d ++ (e ++ (f ++ (g ++ h))))))
 regroup a b c d e f g h = simp append_assoc
 
 no_fraction : (fraction : Option ℕ) (text : List ℕ) → fraction ≡ None → SpellsFraction fraction text → text ≡ []
@@ -56,7 +56,7 @@ value_front m text ranges spells =
     let y = year_front l.year m.year (field_text l.month m.month ++ (field_text l.day m.day ++ (field_text l.hour m.hour ++ (field_text l.minute m.minute ++ (field_text l.second m.second ++ (digits ++ zone)))))) ranges.year end in
     rw (parts, y, mo, d, h, mi, s, f, zone_front m.zone zone spells.zone_is ranges.zone) refl
 
-joined : (t u v w x y z : List ℕ) (a b c d e f g h : List ℕ) → t ≡ a ++ u → u ≡ b ++ v → v ≡ c ++ w → w ≡ d ++ x → x ≡ e ++ y → y ≡ f ++ z → z ≡ g ++ h → t ≡ (a ++ b ++ c ++ d ++ e ++ f) ++ g ++ h
+joined : (t u v w x y z : List ℕ) (a b c d e f g h : List ℕ) → t ≡ a ++ u → u ≡ b ++ v → v ≡ c ++ w → w ≡ d ++ x → x ≡ e ++ y → y ≡ f ++ z → z ≡ g ++ h → t ≡ (a ++ b ++ c) ++ (d ++ e ++ f) ++ g ++ h
 joined t u v w x y z a b c d e f g h et eu ev ew ex ey ez = rw (et, eu, ev, ew, ex, ey, ez) (sym (regroup a b c d e f g h))
 
 bind_then : {A B P : Type 0} → (o : Option A) (f : A → Option B) (y : B) → (o >>= f) ≡ some y → ((x : A) → o ≡ some x → f x ≡ some y → P) → P

@@ -17,15 +17,13 @@ abbrev pub field_text : Option (List ℕ) → ℕ → List ℕ
 field_text (Some marks) n = marks ++ padded 2 n
 field_text None n = []
 
--- all fields up to the seconds
-abbrev pub fields_text : Moment → List ℕ
-fields_text m =
-    year_text (layout m.kind).year m.year
-    ++ field_text (layout m.kind).month m.month
-    ++ field_text (layout m.kind).day m.day
-    ++ field_text (layout m.kind).hour m.hour
-    ++ field_text (layout m.kind).minute m.minute
-    ++ field_text (layout m.kind).second m.second
+-- year, month and day
+abbrev pub date_text : Moment → List ℕ
+date_text m = year_text (layout m.kind).year m.year ++ field_text (layout m.kind).month m.month ++ field_text (layout m.kind).day m.day
+
+-- hour, minute and second
+abbrev pub time_text : Moment → List ℕ
+time_text m = field_text (layout m.kind).hour m.hour ++ field_text (layout m.kind).minute m.minute ++ field_text (layout m.kind).second m.second
 
 -- `hh:mm`
 abbrev pub offset_text : ℕ → List ℕ
@@ -50,7 +48,7 @@ pub record Spells (m : Moment) (text : List ℕ) : Type 0 where
   pub zone : List ℕ
   pub fraction_is : SpellsFraction m.fraction fraction
   pub zone_is : SpellsZone m.zone zone
-  pub text_is : text ≡ fields_text m ++ fraction ++ zone
+  pub text_is : text ≡ date_text m ++ time_text m ++ fraction ++ zone
 
 -- ---- the canonical text: a fraction without zeros at its end, and UTC as `Z`
 abbrev pub fraction_text : Option ℕ → List ℕ
@@ -64,4 +62,4 @@ zone_text (Some (pos (suc n))) = plus ∷ offset_text (suc n)
 zone_text (Some (negsuc n)) = hyphen ∷ offset_text (suc n)
 
 unfoldable pub moment_text : Moment → List ℕ
-moment_text m = fields_text m ++ fraction_text m.fraction ++ zone_text m.zone
+moment_text m = date_text m ++ time_text m ++ fraction_text m.fraction ++ zone_text m.zone

@@ -18,34 +18,34 @@ pub fn has_year(kind: MomentKind) -> bool
 }
 
 /// The marks in front of the month, where the kind has one.
-pub fn month_marks(kind: MomentKind) -> Option<&'static [u8]>
+pub fn month_marks(kind: MomentKind) -> Option<&'static str>
     ensures { option_copied result ≡ (layout kind).month }
 {
     match kind {
-        MomentKind::GYearMonth | MomentKind::Date | MomentKind::DateTime => Some(b"-"),
-        MomentKind::GMonth | MomentKind::GMonthDay => Some(b"--"),
+        MomentKind::GYearMonth | MomentKind::Date | MomentKind::DateTime => Some("-"),
+        MomentKind::GMonth | MomentKind::GMonthDay => Some("--"),
         MomentKind::GYear | MomentKind::GDay | MomentKind::Time => None,
     }
 }
 
 /// The marks in front of the day, where the kind has one.
-pub fn day_marks(kind: MomentKind) -> Option<&'static [u8]>
+pub fn day_marks(kind: MomentKind) -> Option<&'static str>
     ensures { option_copied result ≡ (layout kind).day }
 {
     match kind {
-        MomentKind::Date | MomentKind::DateTime | MomentKind::GMonthDay => Some(b"-"),
-        MomentKind::GDay => Some(b"---"),
+        MomentKind::Date | MomentKind::DateTime | MomentKind::GMonthDay => Some("-"),
+        MomentKind::GDay => Some("---"),
         MomentKind::GYear | MomentKind::GYearMonth | MomentKind::GMonth | MomentKind::Time => None,
     }
 }
 
 /// The marks in front of the hour, where the kind has a time of day.
-pub fn hour_marks(kind: MomentKind) -> Option<&'static [u8]>
+pub fn hour_marks(kind: MomentKind) -> Option<&'static str>
     ensures { option_copied result ≡ (layout kind).hour }
 {
     match kind {
-        MomentKind::DateTime => Some(b"T"),
-        MomentKind::Time => Some(b""),
+        MomentKind::DateTime => Some("T"),
+        MomentKind::Time => Some(""),
         MomentKind::GYear
         | MomentKind::GYearMonth
         | MomentKind::Date
@@ -56,12 +56,12 @@ pub fn hour_marks(kind: MomentKind) -> Option<&'static [u8]>
 }
 
 /// The marks in front of the minute, and of the second, where the kind has a time of day.
-pub fn minute_marks(kind: MomentKind) -> Option<&'static [u8]>
+pub fn minute_marks(kind: MomentKind) -> Option<&'static str>
     ensures minute { option_copied result ≡ (layout kind).minute }
     ensures second { option_copied result ≡ (layout kind).second }
 {
     match kind {
-        MomentKind::DateTime | MomentKind::Time => Some(b":"),
+        MomentKind::DateTime | MomentKind::Time => Some(":"),
         MomentKind::GYear
         | MomentKind::GYearMonth
         | MomentKind::Date

@@ -62,13 +62,13 @@ fn two_digits_in_front(least: u8, most: u8, text: &[u8]) -> Option<(u8, &[u8])>
 /// The field behind its marks, within these bounds, and what stands behind it; 0 where the kind does not have
 /// the field.
 #[tactic(auto, unfolding(crate::specs::Reading::field_at))]
-fn field<'a>(marks: Option<&[u8]>, least: u8, most: u8, text: &'a [u8]) -> Option<(u8, &'a [u8])>
+fn field<'a>(marks: Option<&str>, least: u8, most: u8, text: &'a [u8]) -> Option<(u8, &'a [u8])>
     ensures { MatchOption result (field_at (option_copied marks.entry) least most text.now ≡ None) (λ p. field_at (option_copied marks.entry) least most text.now ≡ Some (p.0, p.1.now)) }
 {
     let Some(marks) = marks else {
         return Some((0, text));
     };
-    two_digits_in_front(least, most, past(marks, text)?)
+    two_digits_in_front(least, most, past(marks.as_bytes(), text)?)
 }
 
 /// The year of a sign and a number: it fits 64 bits, and there is no year -0.
@@ -139,7 +139,7 @@ fn fraction_digits(text: &[u8]) -> Option<(Option<u128>, &[u8])>
 
 /// The fraction that a text begins with, where seconds stand in front of it, and what stands behind it.
 #[tactic(auto, unfolding(crate::specs::Reading::fraction_at))]
-fn fraction<'a>(marks: Option<&[u8]>, text: &'a [u8]) -> Option<(Option<u128>, &'a [u8])>
+fn fraction<'a>(marks: Option<&str>, text: &'a [u8]) -> Option<(Option<u128>, &'a [u8])>
     ensures { MatchOption result (fraction_at (option_copied marks.entry) text.now ≡ None) (λ p. fraction_at (option_copied marks.entry) text.now ≡ Some (p.0, p.1.now)) }
 {
     if marks.is_none() {
@@ -156,8 +156,8 @@ fn fraction<'a>(marks: Option<&[u8]>, text: &'a [u8]) -> Option<(Option<u128>, &
 fn offset(text: &[u8]) -> Option<i16>
     ensures { result ≡ option_map pos (offset_of text.now) }
 {
-    let (hours, text) = field(Some(b""), 0, 14, text)?;
-    let (minutes, text) = field(Some(b":"), 0, 59, text)?;
+    let (hours, text) = field(Some(""), 0, 14, text)?;
+    let (minutes, text) = field(Some(":"), 0, 59, text)?;
     let all = i16::from(hours) * 60 + i16::from(minutes);
     if text.is_empty() && all <= 840 {
         Some(all)
