@@ -1,12 +1,12 @@
 -- The digits of a number spell it.
-use Rattle.std.proofs.Common.{◌≡◌, ℕ, zero, suc, ◌+◌, ◌*◌, ◌-◌, ◌/◌, ◌%◌, ◌^◌, ◌<◌, ◌≤◌, Bool, true, false, ◌&&◌, List, [], ◌∷◌, ◌++◌, length, get_or, replicate, refl, sym, ap, ◌∙◌, subst, arith, inl, inr, Option, Some, None, leb}
+use Rattle.std.proofs.Common.{◌≡◌, ℕ, zero, suc, ◌+◌, ◌*◌, ◌-◌, ◌/◌, ◌%◌, ◌^◌, ◌<◌, ◌≤◌, true, List, [], ◌∷◌, ◌++◌, length, get_or, replicate, refl, sym, ap, ◌∙◌, arith, inl, inr, Some, leb}
 use Rattle.std.specs.Prelude.{reverse, decimal, IsAscii}
-use Rattle.std.proofs.lemmas.List.{length-append, length-reverse, length-replicate, reverse-reverse, get_or_append_left}
-use Rattle.std.proofs.lemmas.Bool.{cases_Bool, cases_lt, le-leb, and_parts, leb-true}
+use Rattle.std.proofs.lemmas.List.{length-append, length-reverse, length-replicate, reverse-append, reverse-reverse, get_or_append_left}
+use Rattle.std.proofs.lemmas.Bool.{cases_lt, le-leb, and_parts, leb-true}
 use Rattle.std.proofs.lemmas.Fmt.{decimal_by_steps_wide, length-decimal-le_wide}
 use Rattle.std.proofs.lemmas.Str.Ascii.{IsAscii-nil, IsAscii-cons}
 use Rattle.std.proofs.Math.Nat.{pow-le-pow_right, mul-le-mul_right}
-use Rattle.exi_digits.specs.Digits.{is_digit, all_digits, has_any, is_numeral, number_of, back_of, kept, number_in, back_in, number_behind, padded, fraction_of}
+use Rattle.exi_digits.specs.Digits.{is_digit, all_digits, has_any, number_of, back_of, number_in, back_in, padded, fraction_of}
 use Rattle.exi_digits.proofs.Numbers.{all_digits-append, all_digits-reverse, number_of-append, number_of-push, ten_up, kept_some}
 
 -- these are the shortest digits of the number
@@ -38,8 +38,8 @@ more_digits n ds le s =
       number = (number_of-push ds (48 + n % 10) ∙ omega arith);
       any = omega (arith, length-append ds ((48 + n % 10) ∷ []));
       front = (λ e.
-      let z : n / 10 ≡ 0 = s.front (sym (get_or_append_left ds ((48 + n % 10) ∷ []) 0 0 any) ∙ e) in
-      omega arith);
+          let z : n / 10 ≡ 0 = s.front (sym (get_or_append_left ds ((48 + n % 10) ∷ []) 0 0 any) ∙ e) in
+          omega arith);
     }
 
 pub decimal_spells : (n : ℕ) → n < 2 ^ 128 → Spells n (decimal n)
@@ -87,8 +87,16 @@ number_of-zeros zero ds = refl
 number_of-zeros (suc k) ds = omega (arith, number_of-zeros k ds)
 
 -- zeros at the end of a fraction tell nothing
+zeros_reversed : (k : ℕ) → number_of (reverse (replicate k 48)) ≡ 0
+zeros_reversed zero = refl
+zeros_reversed (suc k) =
+    let e : reverse (48 ∷ replicate k 48) ≡ reverse (replicate k 48) ++ 48 ∷ [] = reverse-append (48 ∷ []) (replicate k 48) in
+    let z : number_of (reverse (replicate k 48)) ≡ 0 = zeros_reversed k in
+    ap number_of e ∙ number_of-push (reverse (replicate k 48)) 48 ∙ (rw z refl)
+
 pub back_of-zeros : (ds : List ℕ) (k : ℕ) → back_of (ds ++ replicate k 48) ≡ back_of ds
-back_of-zeros ds k = ?
+back_of-zeros ds k =
+    ap number_of (reverse-append ds (replicate k 48)) ∙ number_of-append (reverse (replicate k 48)) (reverse ds) ∙ (rw (zeros_reversed k) (omega arith))
 
 pub all_digits-padded : (w n : ℕ) → n < 2 ^ 128 → all_digits (padded w n) ≡ true
 all_digits-padded w n lt = all_digits-zeros (w - length (decimal n)) (decimal n) ∙ all_digits-decimal n lt
@@ -133,7 +141,7 @@ decimal_short w n pos lt below = length-decimal-le_wide w n pos below (omega ari
 
 pub length-padded : (w n : ℕ) → 0 < w → n < 2 ^ 128 → n < 10 ^ w → length (padded w n) ≡ w
 length-padded w n pos lt below =
-    omega (arith, length-append (replicate (w - length (decimal n)) 48) (decimal n), length-replicate (w - length (decimal n)) 48, decimal_short w n pos lt below)
+    omega (arith, length-append (replicate (w - length (decimal n)) 48) (decimal n), length-replicate {A = ℕ} (w - length (decimal n)) 48, decimal_short w n pos lt below)
 
 -- a number of more digits has no zeros in front
 pub padded_long : (w n : ℕ) → n < 2 ^ 128 → 10 ^ w ≤ n → padded w n ≡ decimal n

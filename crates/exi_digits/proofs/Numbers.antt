@@ -1,11 +1,11 @@
 -- Laws of the numbers that digits spell.
-use Rattle.std.proofs.Common.{◌≡◌, ℕ, zero, suc, ◌+◌, ◌*◌, ◌-◌, ◌^◌, ◌<◌, ◌≤◌, Bool, true, false, ◌&&◌, List, [], ◌∷◌, ◌++◌, length, get_or, take, drop, replicate, refl, sym, ap, ◌∙◌, subst, append_assoc, arith, inl, inr, Option, Some, None, ltb}
-use Rattle.std.specs.Prelude.{reverse, nat_le, nat_lt}
-use Rattle.std.proofs.lemmas.List.{length-append, length-reverse, reverse-append, reverse-reverse, drop_more, drop_all}
+use Rattle.std.proofs.Common.{◌≡◌, ℕ, suc, ◌+◌, ◌*◌, ◌-◌, ◌^◌, ◌<◌, ◌≤◌, Bool, true, false, ◌&&◌, List, [], ◌∷◌, ◌++◌, length, get_or, drop, refl, sym, ap, ◌∙◌, arith, inl, inr, Some, None}
+use Rattle.std.specs.Prelude.{reverse}
+use Rattle.std.proofs.lemmas.List.{length-append, reverse-append, drop_more, drop_all}
 use Rattle.std.proofs.lemmas.Nat.{pow-add}
-use Rattle.std.proofs.Math.Nat.{pow-suc, mul_assoc, mul_comm, add-mul, mul-le-mul_right, one-le-pow}
-use Rattle.std.proofs.lemmas.Bool.{cases_Bool, cases_lt, lt-ltb, le-ltb, leb-true, ltb-true, and_parts}
-use Rattle.exi_digits.specs.Digits.{is_digit, all_digits, has_any, is_numeral, number_of, back_of, kept, number_behind, digit_behind, number_in, back_in}
+use Rattle.std.proofs.Math.Nat.{pow-suc, mul_comm, mul-le-mul_right, one-le-pow}
+use Rattle.std.proofs.lemmas.Bool.{cases_Bool, cases_lt, lt-ltb, le-ltb}
+use Rattle.exi_digits.specs.Digits.{is_digit, all_digits, number_of, kept, number_behind, digit_behind, number_in, back_in}
 
 -- ---- 10 to a power
 pub ten_up : (k : ℕ) → 10 ^ suc k ≡ 10 ^ k * 10

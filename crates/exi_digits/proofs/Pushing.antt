@@ -1,9 +1,9 @@
 -- A text that is added piece by piece.
-use Rattle.std.proofs.Common.{◌≡◌, ℕ, zero, suc, ◌+◌, ◌-◌, ◌<◌, ◌≤◌, List, [], ◌∷◌, ◌++◌, length, get_or, replicate, refl, sym, ap, ◌∙◌, subst, append_assoc, arith, inl, inr, Result, Ok, Err}
-use Rattle.std.specs.Prelude.{reverse, IsAscii, encode_utf8, decimal, is_ok, OnOk, OnErr, if◌then◌else◌}
+use Rattle.std.proofs.Common.{◌≡◌, ℕ, suc, ◌+◌, ◌-◌, ◌<◌, ◌≤◌, List, [], ◌∷◌, ◌++◌, length, get_or, replicate, refl, sym, ap, ◌∙◌, subst, append_assoc, arith, inl, inr, Result, Ok, Err}
+use Rattle.std.specs.Prelude.{reverse, IsAscii, encode_utf8, is_ok, OnOk, OnErr, if◌then◌else◌}
 use Rattle.std.proofs.lemmas.List.{append-nil, reverse-append, get_or_at, get_or-reverse, get_or_past, length-reverse}
 use Rattle.std.proofs.lemmas.Bool.{cases_lt}
-use Rattle.std.proofs.lemmas.Str.Ascii.{encode_ascii, IsAscii-from_all, All-from_ascii}
+use Rattle.std.proofs.lemmas.Str.Ascii.{encode_ascii}
 use Rattle.exi_digits.specs.Pushed.{HoldsFront}
 
 -- of the text all but what is left was added

@@ -1,9 +1,8 @@
 -- The definitions on small values.
-use Rattle.std.proofs.Common.{◌≡◌, ℕ, List, [], ◌∷◌, ◌++◌, refl, Some, None, replicate, ◌-◌, ◌^◌}
-use Rattle.std.specs.Prelude.{codes, decimal}
+use Rattle.std.proofs.Common.{◌≡◌, [], ◌++◌, refl, Some, None, replicate, ◌-◌, ◌^◌}
+use Rattle.std.specs.Prelude.{codes}
 use Rattle.std.specs.Fmt.{digits}
 use Rattle.exi_digits.specs.Digits.{number_in, back_in, padded, fraction_of, number_behind}
-use Rattle.exi_digits.specs.Splits.{before, behind}
 
 number_1205 : number_in (codes "001205") ≡ Some 1205
 number_1205 = refl

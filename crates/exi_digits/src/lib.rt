@@ -12,7 +12,11 @@
 #![tactic(auto)]
 
 mod read;
+mod split;
+#[cfg(test)]
+mod tests;
 mod write;
 
 pub use read::{back, number, number_behind};
+pub use split::{split_at_either, split_at_mark};
 pub use write::{push_fraction, push_number, push_padded};

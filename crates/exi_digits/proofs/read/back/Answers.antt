@@ -1,6 +1,6 @@
-use Rattle.std.proofs.Common.{◌≡◌, ◌<◌, ◌≤◌, ◌^◌, length, refl, sym, ◌∙◌, arith, ap, List, ℕ}
+use Rattle.std.proofs.Common.{◌≡◌, sym, ◌∙◌, arith, ap, List, ℕ}
 use Rattle.std.specs.Prelude.{reverse}
-use Rattle.exi_digits.specs.Digits.{back_in, number_behind}
+use Rattle.exi_digits.specs.Digits.{number_behind}
 use Rattle.exi_digits.proofs.Numbers.{back_in_is, back_end, back_step, back_stop, digit_behind_is}
 use Rattle.exi_digits.proofs.read.back.Goals as goal
 

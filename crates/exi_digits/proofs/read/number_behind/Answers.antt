@@ -1,4 +1,4 @@
-use Rattle.std.proofs.Common.{◌≡◌, ◌<◌, ◌≤◌, ◌^◌, length, get_or, refl, sym, ◌∙◌, arith}
+use Rattle.std.proofs.Common.{get_or, refl, sym, ◌∙◌, arith}
 use Rattle.exi_digits.proofs.Numbers.{behind_end, behind_step, behind_stop, digit_behind_is}
 use Rattle.exi_digits.proofs.read.number_behind.Goals as goal
 

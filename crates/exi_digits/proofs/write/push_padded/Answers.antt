@@ -1,5 +1,5 @@
-use Rattle.std.proofs.Common.{rules, ◌≡◌, ◌++◌, ◌∷◌, [], ◌-◌, ◌+◌, ◌<◌, ◌≤◌, refl, sym, ap, ◌∙◌, arith, List, ℕ, subst, length, replicate}
-use Rattle.std.specs.Prelude.{string_bytes, decimal}
+use Rattle.std.proofs.Common.{rules, ◌++◌, ◌∷◌, [], ◌-◌, ◌+◌, ◌<◌, ◌≤◌, sym, ap, ◌∙◌, arith, List, ℕ, subst, length, replicate}
+use Rattle.std.specs.Prelude.{string_bytes}
 use Rattle.exi_digits.specs.Digits.{padded}
 use Rattle.exi_digits.proofs.Pushing.{Pushing, encode_zero, last_err, last_ok, no_zeros, one_zero, pushing_front, pushing_more, pushing_none}
 use Rattle.exi_digits.proofs.write.push_padded.Goals as goal
