@@ -7,7 +7,7 @@ use Rattle.exi_names.specs.declared.moment.MomentKind.TheVariants as form
 use Rattle.exi_digits.specs.Digits.{fraction_of}
 use Rattle.exi_digits.proofs.Decimals.{all_digits-fraction_of, back_of-fraction_of, fraction_any, has_any_of}
 use Rattle.exi_calendar.specs.Parts.{IsFraction, IsInRanges, layout}
-use Rattle.exi_calendar.specs.Forms.{Spells, SpellsFraction, SpellsZone, field_text, fields_text, fraction_text, moment_text, year_text, zone_text}
+use Rattle.exi_calendar.specs.Forms.{Spells, SpellsFraction, SpellsZone, field_text, fraction_text, moment_text, year_text, zone_text}
 use Rattle.exi_calendar.specs.Forms.SpellsZone.{absent, utc, east, west}
 use Rattle.exi_calendar.specs.Reading.{◌>>=◌, field_at, fraction_at, moment_value, year_at, zone_of}
 use Rattle.exi_calendar.specs.Laws.{CanonicalTextHasItsValue, IsValueOf, ValueComesBack, ValueIsByForm}

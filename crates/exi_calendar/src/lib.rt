@@ -4,3 +4,4 @@
 mod layout;
 mod laws;
 mod read;
+mod write;
