@@ -1,4 +1,4 @@
-//! Values to canonical texts.
+//! From a value to its canonical text.
 
 ghost use Rattle.std.specs.Prelude.{◌≡◌, ◌++◌, OnOk, OnErr, IfSome, IsTrue, string_bytes};
 ghost use Rattle.std.specs.Option.{option_copied};
@@ -108,7 +108,14 @@ fn push_zone(out: &mut String, zone: Option<i16>) -> Result<(), AllocError>
     push_offset(out, zone.unsigned_abs())
 }
 
-/// Puts the canonical text of a date or a time at the end.
+/// Puts the canonical text of a date or a time at the end: a year with four digits at least, a fraction only where
+/// there is one and without zeros at its end, a zone of 0 as `Z`. Fields that the kind does not have are not written.
+///
+/// [`moment`](crate::moment) reads the value back from it, where the fields are in their ranges.
+///
+/// # Errors
+///
+/// `AllocError` where memory is refused; the text then has a front of what was to be added, perhaps none.
 #[tactic(auto, using(crate::proofs::Visible::visible_append, crate::proofs::Fronts::first_of_four, crate::proofs::Fronts::second_of_four, crate::proofs::Fronts::third_of_four, crate::proofs::Fronts::fourth_of_four), unfolding(crate::specs::Forms::moment_text))]
 pub fn push_moment(out: &mut String, moment: &Moment) -> Result<(), AllocError>
     ensures ok { OnOk result (string_bytes out.new ≡ string_bytes out.old ++ moment_text moment.now) }
