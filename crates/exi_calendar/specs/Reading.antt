@@ -1,6 +1,6 @@
 -- How the value of a text follows from its form: field by field, each behind the one before it. Nothing where the
 -- text has not the form, or where a field is out of its range (XML Schema 1.0 Part 2, sections 3.2.7 to 3.2.14).
-use Rattle.std.specs.Prelude.{Option, Some, None, option_and_then, option_map, ℕ, zero, suc, ◌+◌, ◌-◌, ◌*◌, ◌^◌, ◌==◌, ◌&&◌, ◌||◌, nat_lt, nat_le, if◌then◌else◌, Bool, true, false, List, [], ◌∷◌, length, take, drop, slice_index, not, ℤ, pos, neg_ℤ}
+use Rattle.std.specs.Prelude.{Option, Some, None, option_and_then, option_map, ℕ, suc, ◌+◌, ◌-◌, ◌*◌, ◌^◌, ◌==◌, ◌&&◌, ◌||◌, nat_lt, nat_le, if◌then◌else◌, Bool, true, false, List, [], ◌∷◌, length, take, drop, slice_index, not, ℤ, pos, neg_ℤ}
 use Rattle.exi_names.specs.declared.moment.Moment.{Moment}
 use Rattle.exi_names.specs.declared.moment.MomentKind.{MomentKind}
 use Rattle.exi_digits.specs.Digits.{back_in, has_any, is_digit, number_in}
