@@ -1,9 +1,10 @@
 mod Afters
 mod Contents
+mod EventItems
+mod Fitting
 mod Keeping
 mod Learns
 mod Moves
-mod Offered
 mod Onward
 mod Reached
 mod Sequences
@@ -11,5 +12,4 @@ mod Soundness
 mod Standing
 mod Steps
 mod Terminals
-mod EventItems
 mod Worked

@@ -2,7 +2,7 @@
 //! the law.
 
 ghost use Rattle.exi_reader.specs.Laws.{AFaultEnds, ARunIsThere, ASequenceIsThere, FewTurns, IsFrontOfRun, NeverBack, OneRun, OneSequence, OneStepOrOneFault};
-ghost use Rattle.exi_reader.specs.Sound.{FirstIsSound, ReachedAreSound, StepsKeepSound};
+ghost use Rattle.exi_reader.specs.Sound.{CodesFit, FirstIsSound, ReachedAreSound, StepsKeepSound};
 
 /// A configuration that has not ended has exactly one step or exactly one fault.
 pub fn one_step_or_one_fault()
@@ -63,4 +63,10 @@ pub fn steps_keep_sound()
 /// Each configuration that turns lead to from the first is sound.
 pub fn reached_are_sound()
     ensures law { ReachedAreSound }
+{}
+
+/// What a code tells in a sound configuration fits the state: a name only one that stands; attributes,
+/// content and EE only in an element; SD, ED and DT only outside of all.
+pub fn codes_fit()
+    ensures law { CodesFit }
 {}
