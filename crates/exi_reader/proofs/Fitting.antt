@@ -15,8 +15,8 @@ use Rattle.exi_builtin.specs.Learning.{Learning, behind_learned, productions}
 use Rattle.exi_gram.specs.declared.options.Options.{Options}
 use Rattle.exi_gram.specs.Codes.{Productions, Second, code_at, first_told, first_values, group, kept_second, kept_seconds, mapped, mapped_second, member_at, part_at, pruned, second_at, second_told, single, told}
 use Rattle.exi_tables.specs.Partitions.{Partitions}
-use Rattle.exi_reader.specs.Configurations.{Element, Outer, Stage, Terminal, any_element, built_in, comment, content, document, document_content, document_content_productions, document_end, document_end_productions, document_type, end_document, ended, fragment_content, fragment_start, instruction, is_left, known_attribute, known_element, outer_productions, productions_in, room_at, start_document, start_productions, start_tag, terminal_of}
-use Rattle.exi_reader.specs.Sound.{FitsIn, FitsInside, FitsOutside, IsElementOfName, IsLeastName, IsOfNames, IsSoundGrammar, IsSoundLearning}
+use Rattle.exi_reader.specs.Configurations.{Element, Outer, Stage, built_in, comment, content, document, document_content, document_content_productions, document_end, document_end_productions, ended, fragment_content, fragment_start, instruction, is_left, outer_productions, productions_in, room_at, start_productions, start_tag, terminal_of}
+use Rattle.exi_reader.specs.Sound.{FitsIn, FitsInside, FitsOutside, IsElementOfName, IsOfNames, IsSoundGrammar, IsSoundLearning}
 use Rattle.exi_reader.proofs.Onward.{bind_is, good, good_is}
 
 -- ---- a code tells one of the productions
