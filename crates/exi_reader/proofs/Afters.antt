@@ -12,10 +12,9 @@ use Rattle.exi_tables.specs.Growth.{KeepsAll}
 use Rattle.exi_typed.specs.Courses.{Course, Courser, Failure}
 use Rattle.exi_reader.specs.Configurations.{Config, Element, Terminal, any_element, known_element, start_tag}
 use Rattle.exi_reader.specs.OneEvent.{Given, is_start, learns, level_charge, moves, opened, went}
-use Rattle.exi_reader.specs.Sound.{IsLeastName}
+use Rattle.exi_reader.specs.Sound.{FitsIn, IsLeastName}
 use Rattle.exi_reader.proofs.Keeping.{Kept}
 use Rattle.exi_reader.proofs.Moves.{Inside, IsWhereOpen, MayLearn, any_opens, cons_is_some, inside_learns, inside_moves, inside_opened, inside_went, known_opens, known_stands, may_element, moved_count}
-use Rattle.exi_reader.proofs.Offered.{Offers}
 use Rattle.exi_reader.proofs.Onward.{bind_is, good, good_is}
 use Rattle.exi_reader.proofs.Standing.{name_on}
 use Rattle.exi_reader.proofs.Contents.{charged_is, metered}
@@ -32,9 +31,9 @@ pub record After (given : Given) : Type 0 where
   pub level : given.1.course.beside.meter.level ≡ length given.1.elements
   pub start : is_start given.0 ≡ true → given.1.elements ≢ []
 
--- a terminal that is offered
+-- a terminal that fits
 abbrev pub IsNext : Config → Terminal → Type 0
-IsNext c t = Offers c.course.beside.tables c.outer c.elements t
+IsNext c t = FitsIn c.course.beside.tables c.outer c.elements t
 
 abbrev pub GivesSound : Terminal → (Config → Result Given Failure) → Type 0
 GivesSound t read = (c : Config) (given : Given) → Sounds c → IsNext c t → read c ≡ good given → After given

@@ -22,7 +22,9 @@ use Rattle.exi_reader.proofs.Standing.{name_on}
 -- ---- where the tables grow
 of_names_on : (p q : Partitions) → KeepsAll p q → (x : Learnable) → IsOfNames p x → IsOfNames q x
 of_names_on p q keeps (learnable.Known name attribute) h = name_on p q name keeps h
-of_names_on p q keeps other h = h
+of_names_on p q keeps (learnable.Ch one_part) h = h
+of_names_on p q keeps (learnable.Ee one_part) h = h
+of_names_on p q keeps other h = absurd h
 
 element_on : (p q : Partitions) → KeepsAll p q → (x : Learnable) → IsElementOfName p x → IsElementOfName q x
 element_on p q keeps (learnable.Known name false) h = name_on p q name keeps h

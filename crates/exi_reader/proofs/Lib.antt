@@ -1,12 +1,13 @@
 mod Afters
 mod Contents
+mod Endings
 mod EventContents
 mod EventItems
 mod EventOne
+mod Fitting
 mod Keeping
 mod Learns
 mod Moves
-mod Offered
 mod Onward
 mod Reached
 mod Sequences
@@ -14,4 +15,5 @@ mod Soundness
 mod Standing
 mod Steps
 mod Terminals
+mod Withins
 mod Worked

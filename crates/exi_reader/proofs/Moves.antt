@@ -12,10 +12,9 @@ use Rattle.exi_tables.specs.Partitions.{Partitions}
 use Rattle.exi_typed.specs.Courses.{Course}
 use Rattle.exi_reader.specs.Configurations.{Config, Element, Outer, Stage, Terminal, any_attribute, any_element, characters, content, document, document_content, document_end, end_element, ended, fragment_content, fragment_start, known_element, next_outer, next_stage, room_at, room_of, start_tag}
 use Rattle.exi_reader.specs.OneEvent.{closed, enclosing, learned_in, learning_room, learns, moved_elements, moved_outer, moves, opened, went}
-use Rattle.exi_reader.specs.Sound.{IsElementOfName, IsLeastName, IsOfNames, IsSoundElement, IsSoundLearning}
+use Rattle.exi_reader.specs.Sound.{FitsIn, IsElementOfName, IsLeastName, IsOfNames, IsSoundElement, IsSoundLearning}
 use Rattle.exi_reader.proofs.Keeping.{all_same}
 use Rattle.exi_reader.proofs.Learns.{KeepsNames, grammar_names, grammar_sound, learning_on, names_same, number_has, open_on, use_names, use_sound}
-use Rattle.exi_reader.proofs.Offered.{Offers}
 
 pub cons_is_some : {X : Type 0} (x : X) (xs : List X) → (x ∷ xs) ≢ []
 cons_is_some x xs e = absurd cc
@@ -48,17 +47,17 @@ pub may_element : (p : Partitions) (outer : Outer) (es : List Element) (id : Nam
 may_element p outer [] id least = λ e. least
 may_element p outer (x ∷ xs) id least = least
 
-pub may_attribute : (p q : Partitions) (outer : Outer) (es : List Element) (id : NameId) → Offers p outer es any_attribute → IsLeastName q id → MayLearn q outer es (used.At id)
+pub may_attribute : (p q : Partitions) (outer : Outer) (es : List Element) (id : NameId) → FitsIn p outer es any_attribute → IsLeastName q id → MayLearn q outer es (used.At id)
 may_attribute p q outer [] id h least = absurd h
 may_attribute p q outer (x ∷ xs) id h least = least
 
-pub may_characters : (p q : Partitions) (outer : Outer) (es : List Element) → Offers p outer es characters → MayLearn q outer es used.Ch
+pub may_characters : (p q : Partitions) (outer : Outer) (es : List Element) → FitsIn p outer es characters → MayLearn q outer es used.Ch
 may_characters p q outer [] h = absurd h
-may_characters p q outer (x ∷ xs) h = tt
+may_characters p q outer (x ∷ xs) h = refl
 
-pub may_end : (p q : Partitions) (outer : Outer) (es : List Element) → Offers p outer es end_element → MayLearn q outer es used.Ee
+pub may_end : (p q : Partitions) (outer : Outer) (es : List Element) → FitsIn p outer es end_element → MayLearn q outer es used.Ee
 may_end p q outer [] h = absurd h
-may_end p q outer (x ∷ xs) h = tt
+may_end p q outer (x ∷ xs) h = refl
 
 state_sound : (p : Partitions) (l : Learning) (number : ℕ) (stage : Stage) (u : Learned) → IsOfNames p (added_by u) → IsSoundLearning p l → IsSoundLearning p (after_use l (room_at number stage) u)
 state_sound p l number start_tag u may s = use_sound p l (room.StartTag number) u may s
@@ -116,16 +115,16 @@ moved_count t (e ∷ es) = refl
 
 -- ---- an element opened, and closed
 -- where an element is read, one may be open behind it
-pub any_opens : (p : Partitions) (outer : Outer) (es : List Element) → Offers p outer es any_element → (es ≢ [] → IsWhereOpen outer) → IsWhereOpen (moved_outer any_element es outer)
+pub any_opens : (p : Partitions) (outer : Outer) (es : List Element) → FitsIn p outer es any_element → (es ≢ [] → IsWhereOpen outer) → IsWhereOpen (moved_outer any_element es outer)
 any_opens p outer [] (inl first) open_in = inl (ap (λ (z : Outer). next_outer any_element z) first)
 any_opens p outer [] (inr inner) open_in = inr (ap (λ (z : Outer). next_outer any_element z) inner)
 any_opens p outer (e ∷ es) h open_in = open_in (cons_is_some e es)
 
-pub known_opens : (p : Partitions) (outer : Outer) (es : List Element) (id : NameId) → Offers p outer es (known_element id) → (es ≢ [] → IsWhereOpen outer) → IsWhereOpen (moved_outer (known_element id) es outer)
+pub known_opens : (p : Partitions) (outer : Outer) (es : List Element) (id : NameId) → FitsIn p outer es (known_element id) → (es ≢ [] → IsWhereOpen outer) → IsWhereOpen (moved_outer (known_element id) es outer)
 known_opens p outer [] id h open_in = inr (ap (λ (z : Outer). next_outer (known_element id) z) h.0)
 known_opens p outer (e ∷ es) id h open_in = open_in (cons_is_some e es)
 
-pub known_stands : (p : Partitions) (outer : Outer) (es : List Element) (id : NameId) → Offers p outer es (known_element id) → IsLeastName p id
+pub known_stands : (p : Partitions) (outer : Outer) (es : List Element) (id : NameId) → FitsIn p outer es (known_element id) → IsLeastName p id
 known_stands p outer [] id h = h.1
 known_stands p outer (e ∷ es) id h = h
 

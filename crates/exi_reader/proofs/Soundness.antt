@@ -12,9 +12,9 @@ use Rattle.exi_names.specs.Events as happening
 use Rattle.exi_typed.specs.Courses.{Course, Failure, at_spot_of, failing}
 use Rattle.exi_reader.specs.Configurations.{Setting, Terminal, any_attribute, any_element, characters, comment, declaration, document_type, end_document, end_element, entity, instruction, known_attribute, known_element, productions_of, self_contained, start_document}
 use Rattle.exi_reader.specs.OneEvent.{Given, at_event, closed, event_charge, event_of, is_start, learns, moves, one, went}
-use Rattle.exi_reader.specs.Sound.{IsSound, StepsKeepSound}
+use Rattle.exi_reader.specs.Sound.{CodesFit, FitsIn, IsSound, StepsKeepSound}
 use Rattle.exi_reader.proofs.Keeping.{kept_same}
-use Rattle.exi_reader.proofs.Offered.{Offers, code_is, offered}
+use Rattle.exi_reader.proofs.Fitting.{code_is, state_fits}
 use Rattle.exi_reader.proofs.Onward.{bind_is, failing_is, good, good_is}
 use Rattle.exi_reader.proofs.Contents.{charged_is, metered}
 use Rattle.exi_reader.proofs.Afters.{After, GivesSound, IsNext, Sounds, after_plain}
@@ -50,6 +50,9 @@ remembered given = (given.0, record given.1 { after_start = is_start given.0 })
 remembered_sound : (given : Given) → After given → IsSound (remembered given).1
 remembered_sound given a = record { learned = a.inside.learned; elements = a.inside.elements; level = a.level; outside = a.inside.outside; after_start = a.start }
 
+pub codes_fit : CodesFit
+codes_fit g c t spot s h = code_is (FitsIn c.course.beside.tables c.outer c.elements) (align_of g.options) (productions_of g c) (state_fits g.options c.course.beside.tables c.learned s.learned c.outer c.elements) c.course.spot spot t h
+
 pub steps_keep_sound : StepsKeepSound
 unfolding one
 steps_keep_sound g c d e s h =
@@ -60,7 +63,7 @@ steps_keep_sound g c d e s h =
     let f = bind_is (event_charge bit (behind b.0.1)) (λ (k : Course). at_event bit (event_of g bit b.0.0 (went c k)) >>= λ given. good (remembered given)) (e, d) b.2 in
     let r = bind_is (at_event bit (event_of g bit b.0.0 (went c f.0))) (λ (given : Given). good (remembered given)) (e, d) f.2 in
     let told = failing_is c.course.beside.meter (code_at (align_of g.options) (productions_of g c) c.course.spot) b.0 b.1 in
-    let next : IsNext c b.0.0 = code_is (Offers c.course.beside.tables c.outer c.elements) (align_of g.options) (productions_of g c) (offered g.options c.course.beside.tables c.learned s.learned c.outer c.elements) c.course.spot b.0.1 b.0.0 told in
+    let next : IsNext c b.0.0 = codes_fit g c b.0.0 b.0.1 s told in
     let k : Course = metered (behind b.0.1) (with_event c.course.beside.meter) in
     let counted : k ≡ f.0 = charged_is (event_fits c.course.beside.meter) kind.EventLimit bit (behind b.0.1) f.0 (with_event c.course.beside.meter) f.1 in
     let read : event_of g bit b.0.0 (went c k) ≡ good r.0 = at_event_is bit (event_of g bit b.0.0 (went c k)) r.0 (subst (λ (z : Course). at_event bit (event_of g bit b.0.0 (went c z)) ≡ good r.0) (sym counted) r.1) in

@@ -1,4 +1,4 @@
--- What each terminal gives in a sound configuration that offers it.
+-- What each terminal gives in a sound configuration that it fits.
 use Rattle.std.proofs.Common.{◌≡◌, ℕ, ◌-◌, List, [], ◌∷◌, length, Some, refl, arith}
 use Rattle.exi_bits.specs.Unsigned.{◌>>=◌}
 use Rattle.exi_builtin.specs.declared.learnable.Learned.TheVariants as used
@@ -11,9 +11,9 @@ use Rattle.exi_typed.specs.Courses.{Course}
 use Rattle.exi_typed.specs.Strings.{Named, declaration_at, known_at, name_at}
 use Rattle.exi_reader.specs.Configurations.{Config, Element, Setting, any_attribute, any_element, characters, comment, declaration, document_type, end_element, entity, instruction, known_attribute, known_element}
 use Rattle.exi_reader.specs.OneEvent.{Given, any_attribute_at, any_element_at, attribute_value_at, characters_at, closed, comment_at, declaration_event_at, document_type_at, enclosing, entity_at, instruction_at, known_attribute_at, known_element_at, learns, level_charge, moves, name_of, opened, string_at, text_at, went}
+use Rattle.exi_reader.specs.Sound.{FitsIn}
 use Rattle.exi_reader.proofs.Keeping.{Kept, declaration_kept, kept_then, known_kept, name_kept}
 use Rattle.exi_reader.proofs.Moves.{inside_closed, inside_learns, may_attribute, may_characters, may_end}
-use Rattle.exi_reader.proofs.Offered.{Offers}
 use Rattle.exi_reader.proofs.Onward.{bind_is, good}
 use Rattle.exi_reader.proofs.Standing.{name_is_least, name_on}
 use Rattle.exi_reader.proofs.Contents.{attribute_kept, string_kept, text_kept}
@@ -38,7 +38,7 @@ known_element_sound g bit id c given s next h =
 level_less : (c : Config) → Sounds c → IsNext c end_element → (closed c).course.beside.meter.level ≡ length (closed c).elements
 level_less c s next = by_elements c.elements c.course.beside.meter.level s.level next
   where
-    by_elements : (es : List Element) (level : ℕ) → level ≡ length es → Offers c.course.beside.tables c.outer es end_element → level - 1 ≡ length (enclosing es)
+    by_elements : (es : List Element) (level : ℕ) → level ≡ length es → FitsIn c.course.beside.tables c.outer es end_element → level - 1 ≡ length (enclosing es)
     by_elements [] level e h = absurd h
     by_elements (x ∷ xs) level e h = omega (arith, e)
 

@@ -132,7 +132,7 @@ pub record Config : Type 0 where
   -- what enclosing bodies put aside; nothing while no fragment is read at SC
   pub aside : List Body
 
-abbrev start_of : Bool → Outer
+abbrev pub start_of : Bool → Outer
 start_of true = fragment_start
 start_of false = document
 

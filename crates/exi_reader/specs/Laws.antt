@@ -1,12 +1,13 @@
 -- The laws of sequential processing.
-use Rattle.std.specs.Prelude.{◌≡◌, ◌≢◌, ◌⊎◌, ◌≤◌, ℕ, ◌+◌, false, List, ◌++◌, Option, Ok, Err}
+use Rattle.std.specs.Prelude.{◌≡◌, ◌≢◌, ◌⊎◌, ◌≤◌, ℕ, ◌+◌, false, List, [], ◌∷◌, ◌++◌, Option, Some, Ok, Err}
 use Rattle.exi_bits.specs.Bits.{Spot}
 use Rattle.exi_meter.specs.Metering.{Bounds}
-use Rattle.exi_names.specs.Events.{Happening}
+use Rattle.exi_meter.specs.declared.tally.Tally.{Tally}
+use Rattle.exi_names.specs.Events.{Happening, ed}
 use Rattle.exi_typed.specs.Courses.{Failure}
-use Rattle.exi_reader.specs.Configurations.{Config, Setting, Start}
+use Rattle.exi_reader.specs.Configurations.{Config, Setting, Start, first_config}
 use Rattle.exi_reader.specs.OneEvent.{Given, one}
-use Rattle.exi_reader.specs.Runs.{End, IsRun, IsSequence, Leads, events_of, failed_end, has_ended}
+use Rattle.exi_reader.specs.Runs.{End, IsRun, IsSequence, Leads, done, events_of, failed_end, has_ended}
 
 -- ---- one event
 -- one step, no other, and no fault
@@ -60,3 +61,16 @@ OneSequence = (g : Setting) (start : Start) (limits : Bounds) (begin : Spot) (es
 -- it takes at most one turn more than the limit of events
 abbrev pub FewTurns : Type 0
 FewTurns = (g : Setting) (start : Start) (limits : Bounds) (begin : Spot) (es : List Happening) (e : End) (count : ℕ) → IsSequence g start limits begin es e count → count ≤ limits.events + 1
+
+-- reading that does not fail ends with ED
+abbrev pub EndsAtEd : Type 0
+EndsAtEd = (g : Setting) (start : Start) (limits : Bounds) (begin : Spot) (turns : List (Option Happening)) (e : End) (bit : ℕ) → IsRun g (first_config g start limits begin) turns e → e.how ≡ done bit → (before : List (Option Happening)) × (turns ≡ before ++ Some ed ∷ [])
+
+-- nothing that is charged passes its limit, wherever reading ends
+pub record IsWithinLimits (limits : Bounds) (tally : Tally) : Type 0 where
+  pub events : tally.events ≤ limits.events
+  pub text : tally.text ≤ limits.text
+  pub depth : tally.deepest ≤ limits.depth
+
+abbrev pub LimitsAreKept : Type 0
+LimitsAreKept = (g : Setting) (start : Start) (limits : Bounds) (begin : Spot) (es : List Happening) (e : End) (count : ℕ) → IsSequence g start limits begin es e count → IsWithinLimits limits e.tally

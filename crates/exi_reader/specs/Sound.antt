@@ -1,18 +1,20 @@
 -- What holds of each configuration that reading reaches, so that no definition of one event meets a case that is
 -- there only to make it whole: a place without a text, a grammar without a number, characters without an element.
-use Rattle.std.specs.Prelude.{◌≡◌, ◌≢◌, ◌⊎◌, ℕ, true, false, List, [], length, Option, Some, All, Ok, slice_get}
+use Rattle.std.specs.Prelude.{◌≡◌, ◌≢◌, ◌⊎◌, ℕ, true, false, List, [], ◌∷◌, length, Option, Some, All, Ok, slice_get}
 use Rattle.exi_bits.specs.Bits.{Spot}
 use Rattle.exi_builtin.specs.declared.learnable.Learnable.{Learnable}
 use Rattle.exi_builtin.specs.declared.learnable.Learnable.TheVariants as learnable
 use Rattle.exi_builtin.specs.declared.element_grammar.ElementGrammar.{ElementGrammar}
 use Rattle.exi_builtin.specs.Learning.{Learning}
+use Rattle.exi_gram.specs.Codes.{code_at}
+use Rattle.exi_gram.specs.Switches.{align_of}
 use Rattle.exi_meter.specs.Metering.{Bounds}
 use Rattle.exi_names.specs.declared.names.NameId.{NameId}
 use Rattle.exi_names.specs.Events.{Happening}
 use Rattle.exi_names.specs.StartTables.{IsStart}
 use Rattle.exi_tables.specs.Growth.{IsLeast}
 use Rattle.exi_tables.specs.Partitions.{Partitions, locals, uris}
-use Rattle.exi_reader.specs.Configurations.{Config, Element, Setting, Start, document_end, first_config, fragment_content}
+use Rattle.exi_reader.specs.Configurations.{Config, Element, Outer, Setting, Start, Terminal, any_element, comment, document, document_content, document_end, document_type, end_document, first_config, fragment_content, fragment_start, instruction, known_attribute, known_element, productions_of, start_document}
 use Rattle.exi_reader.specs.OneEvent.{one}
 use Rattle.exi_reader.specs.Runs.{Leads}
 
@@ -23,10 +25,12 @@ pub record IsLeastName (p : Partitions) (name : NameId) : Type 0 where
   pub least_uri : IsLeast (uris p) uri name.uri
   pub least_local : IsLeast (locals p name.uri) local name.local
 
--- what was learned speaks of such names
+-- what an element's states learned: elements and attributes of such names, and CH and EE with a code of one part
 abbrev pub IsOfNames : Partitions → Learnable → Type 0
 IsOfNames p (learnable.Known name attribute) = IsLeastName p name
-IsOfNames p other = Unit {0}
+IsOfNames p (learnable.Ch one_part) = one_part ≡ true
+IsOfNames p (learnable.Ee one_part) = one_part ≡ true
+IsOfNames p other = ⊥
 
 -- a fragment's content has learned elements alone
 abbrev pub IsElementOfName : Partitions → Learnable → Type 0
@@ -70,3 +74,32 @@ StepsKeepSound = (g : Setting) (c next : Config) (e : Option Happening) → IsSo
 -- so each configuration that turns lead to from the first is sound
 abbrev pub ReachedAreSound : Type 0
 ReachedAreSound = (g : Setting) (start : Start) (limits : Bounds) (begin : Spot) (turns : List (Option Happening)) (reached : Config) → IsStart g.names → Leads g (first_config g start limits begin) turns reached → IsSound reached
+
+-- ---- what a code tells in a sound configuration
+-- where an element is open: neither SD, ED nor DT, and of a name only one that stands
+abbrev pub FitsInside : Partitions → Terminal → Type 0
+FitsInside p start_document = ⊥
+FitsInside p end_document = ⊥
+FitsInside p document_type = ⊥
+FitsInside p (known_element name) = IsLeastName p name
+FitsInside p (known_attribute name) = IsLeastName p name
+FitsInside p other = Unit {0}
+
+-- where none is open: no attribute, no content and no EE, and each other in its states alone (8.4.1, 8.4.2)
+abbrev pub FitsOutside : Partitions → Outer → Terminal → Type 0
+FitsOutside p outer start_document = (outer ≡ document) ⊎ (outer ≡ fragment_start)
+FitsOutside p outer end_document = (outer ≡ document_end) ⊎ (outer ≡ fragment_content)
+FitsOutside p outer document_type = outer ≡ document_content
+FitsOutside p outer any_element = (outer ≡ document_content) ⊎ (outer ≡ fragment_content)
+FitsOutside p outer (known_element name) = (outer ≡ fragment_content) × IsLeastName p name
+FitsOutside p outer comment = Unit {0}
+FitsOutside p outer instruction = Unit {0}
+FitsOutside p outer other = ⊥
+
+abbrev pub FitsIn : Partitions → Outer → List Element → Terminal → Type 0
+FitsIn p outer [] t = FitsOutside p outer t
+FitsIn p outer (e ∷ es) t = FitsInside p t
+
+-- what a code tells fits the state
+abbrev pub CodesFit : Type 0
+CodesFit = (g : Setting) (c : Config) (t : Terminal) (s : Spot) → IsSound c → code_at (align_of g.options) (productions_of g c) c.course.spot ≡ Ok (t, s) → FitsIn c.course.beside.tables c.outer c.elements t

@@ -1,9 +1,9 @@
 //! What holds of sequential processing. Each law is a function that does nothing: what it ensures is
 //! the law.
 
-ghost use Rattle.exi_reader.specs.Laws.{AFaultEnds, ARunIsThere, ASequenceIsThere, FewTurns, IsFrontOfRun, NeverBack, OneRun, OneSequence, OneStepOrOneFault};
+ghost use Rattle.exi_reader.specs.Laws.{AFaultEnds, ARunIsThere, ASequenceIsThere, EndsAtEd, FewTurns, IsFrontOfRun, LimitsAreKept, NeverBack, OneRun, OneSequence, OneStepOrOneFault};
 ghost use Rattle.exi_reader.specs.Spelled.{OneAtMost, OneIsSpelled, SpelledIsOne};
-ghost use Rattle.exi_reader.specs.Sound.{FirstIsSound, ReachedAreSound, StepsKeepSound};
+ghost use Rattle.exi_reader.specs.Sound.{CodesFit, FirstIsSound, ReachedAreSound, StepsKeepSound};
 
 /// A configuration that has not ended has exactly one step or exactly one fault.
 pub fn one_step_or_one_fault()
@@ -79,4 +79,20 @@ pub fn spelled_is_one()
 /// At a place at most one event is spelled.
 pub fn one_at_most()
     ensures law { OneAtMost }
+{}
+
+/// What a code tells in a sound configuration fits the state: a name only one that stands; attributes,
+/// content and EE only in an element; SD, ED and DT only outside of all.
+pub fn codes_fit()
+    ensures law { CodesFit }
+{}
+
+/// Reading that does not fail ends with ED.
+pub fn ends_at_ed()
+    ensures law { EndsAtEd }
+{}
+
+/// Nothing that is charged passes its limit, wherever reading ends.
+pub fn limits_are_kept()
+    ensures law { LimitsAreKept }
 {}

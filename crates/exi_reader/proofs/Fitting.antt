@@ -1,4 +1,4 @@
--- What a code can tell in a sound configuration: which terminals are offered in each state, and of which names.
+-- What a code can tell in a sound configuration: which terminals fit each state, and of which names.
 use Rattle.std.proofs.Common.{◌≡◌, ◌⊎◌, ℕ, Bool, true, false, cond, List, [], ◌∷◌, ◌++◌, length, filter, Option, Some, None, inl, inr, refl, ap, subst}
 use Rattle.std.specs.Prelude.{All, slice_get}
 use Rattle.std.proofs.lemmas.List.Elements.{All-append, All-cons, All-filter, All-from_recursion, All-head, All-map, All-nil, All-tail, All-weaker}
@@ -15,8 +15,8 @@ use Rattle.exi_builtin.specs.Learning.{Learning, behind_learned, productions}
 use Rattle.exi_gram.specs.declared.options.Options.{Options}
 use Rattle.exi_gram.specs.Codes.{Productions, Second, code_at, first_told, first_values, group, kept_second, kept_seconds, mapped, mapped_second, member_at, part_at, pruned, second_at, second_told, single, told}
 use Rattle.exi_tables.specs.Partitions.{Partitions}
-use Rattle.exi_reader.specs.Configurations.{Element, Outer, Stage, Terminal, any_element, built_in, comment, content, document, document_content, document_content_productions, document_end, document_end_productions, document_type, end_document, ended, fragment_content, fragment_start, instruction, is_left, known_attribute, known_element, outer_productions, productions_in, room_at, start_document, start_productions, start_tag, terminal_of}
-use Rattle.exi_reader.specs.Sound.{IsElementOfName, IsLeastName, IsOfNames, IsSoundGrammar, IsSoundLearning}
+use Rattle.exi_reader.specs.Configurations.{Element, Outer, Stage, built_in, comment, content, document, document_content, document_content_productions, document_end, document_end_productions, ended, fragment_content, fragment_start, instruction, is_left, outer_productions, productions_in, room_at, start_productions, start_tag, terminal_of}
+use Rattle.exi_reader.specs.Sound.{FitsIn, FitsInside, FitsOutside, IsElementOfName, IsOfNames, IsSoundGrammar, IsSoundLearning}
 use Rattle.exi_reader.proofs.Onward.{bind_is, good, good_is}
 
 -- ---- a code tells one of the productions
@@ -103,33 +103,16 @@ each_mapped P f p e = record {
 each_behind : {X : Type 0} (P : X → Type 0) (p : Productions X) (front : List X) → All P front → Each P p → Each P (record p { firsts = front ++ p.firsts })
 each_behind P p front h e = record { firsts = All-append P front p.firsts h e.firsts; seconds = e.seconds }
 
--- ---- what is offered
--- where an element is open: of a name only one that stands
-abbrev pub IsOffered : Partitions → Terminal → Type 0
-IsOffered p (known_element id) = IsLeastName p id
-IsOffered p (known_attribute id) = IsLeastName p id
-IsOffered p other = Unit {0}
-
--- where no element is open
-abbrev pub IsOfferedIn : Partitions → Outer → Terminal → Type 0
-IsOfferedIn p outer start_document = (outer ≡ document) ⊎ (outer ≡ fragment_start)
-IsOfferedIn p outer end_document = Unit {0}
-IsOfferedIn p outer any_element = (outer ≡ document_content) ⊎ (outer ≡ fragment_content)
-IsOfferedIn p outer (known_element id) = (outer ≡ fragment_content) × IsLeastName p id
-IsOfferedIn p outer comment = Unit {0}
-IsOfferedIn p outer instruction = Unit {0}
-IsOfferedIn p outer document_type = Unit {0}
-IsOfferedIn p outer other = ⊥
-
-abbrev pub Offers : Partitions → Outer → List Element → Terminal → Type 0
-Offers p outer [] t = IsOfferedIn p outer t
-Offers p outer (e ∷ es) t = IsOffered p t
-
 -- ---- an element's states
-of_names_offered : (p : Partitions) (x : Learnable) → IsOfNames p x → IsOffered p (terminal_of x)
-of_names_offered p (learnable.Known name true) h = h
-of_names_offered p (learnable.Known name false) h = h
-of_names_offered p other h = tt
+abbrev InElement : Partitions → Learnable → Type 0
+InElement p x = FitsInside p (terminal_of x)
+
+of_names_fits : (p : Partitions) (x : Learnable) → IsOfNames p x → InElement p x
+of_names_fits p (learnable.Known name true) h = h
+of_names_fits p (learnable.Known name false) h = h
+of_names_fits p (learnable.Ch one_part) h = tt
+of_names_fits p (learnable.Ee one_part) h = tt
+of_names_fits p other h = absurd h
 
 abbrev start_tag_of : Option ElementGrammar → List Learnable
 start_tag_of None = []
@@ -139,23 +122,19 @@ abbrev content_of : Option ElementGrammar → List Learnable
 content_of None = []
 content_of (Some g) = g.content
 
-weaker_second : (p : Partitions) (x : Second Learnable) → EachOf (IsOfNames p) x → EachOf (λ y. IsOffered p (terminal_of y)) x
-weaker_second p (single x) h = of_names_offered p x h
-weaker_second p (group xs) h = All-weaker (IsOfNames p) (λ y. IsOffered p (terminal_of y)) (of_names_offered p) xs h
+members_fit : (p : Partitions) → All (InElement p) (learnable.Cm ∷ learnable.Pi ∷ [])
+members_fit p = All-from_recursion (InElement p) (learnable.Cm ∷ learnable.Pi ∷ []) (tt, (tt, tt))
 
-members_named : (p : Partitions) → All (IsOfNames p) (learnable.Cm ∷ learnable.Pi ∷ [])
-members_named p = All-from_recursion (IsOfNames p) (learnable.Cm ∷ learnable.Pi ∷ []) (tt, (tt, tt))
-
-start_tag_named : (p : Partitions) → Each (IsOfNames p) start_tag_content
-start_tag_named p = record {
-  firsts = All-nil (IsOfNames p);
-  seconds = All-from_recursion (EachOf (IsOfNames p)) start_tag_content.seconds (tt, (tt, (tt, (tt, (tt, (tt, (tt, (members_named p, tt))))))));
+start_tag_written : (p : Partitions) → Each (InElement p) start_tag_content
+start_tag_written p = record {
+  firsts = All-nil (InElement p);
+  seconds = All-from_recursion (EachOf (InElement p)) start_tag_content.seconds (tt, (tt, (tt, (tt, (tt, (tt, (tt, (members_fit p, tt))))))));
 }
 
-content_named : (p : Partitions) → Each (IsOfNames p) element_content
-content_named p = record {
-  firsts = All-from_recursion (IsOfNames p) element_content.firsts (tt, tt);
-  seconds = All-from_recursion (EachOf (IsOfNames p)) element_content.seconds (tt, (tt, (tt, (members_named p, tt))));
+content_written : (p : Partitions) → Each (InElement p) element_content
+content_written p = record {
+  firsts = All-from_recursion (InElement p) element_content.firsts (tt, tt);
+  seconds = All-from_recursion (EachOf (InElement p)) element_content.seconds (tt, (tt, (tt, (members_fit p, tt))));
 }
 
 learned_start_tag : (p : Partitions) (gs : List ElementGrammar) (number : ℕ) (o : Option ElementGrammar) → slice_get gs number ≡ o → All (IsSoundGrammar p) gs → All (IsOfNames p) (start_tag_of o)
@@ -166,75 +145,72 @@ learned_content : (p : Partitions) (gs : List ElementGrammar) (number : ℕ) (o 
 learned_content p gs number None is all = All-nil (IsOfNames p)
 learned_content p gs number (Some g) is all = (at_place (IsSoundGrammar p) gs number g all is).content
 
-named_in : (o : Options) (p : Partitions) (front : List Learnable) (behind : Productions Learnable) → All (IsOfNames p) front → Each (IsOfNames p) behind → Each (IsOffered p) (mapped terminal_of (behind_learned front (left_of o behind)))
-named_in o p front behind h e =
-    let each : Each (IsOfNames p) (behind_learned front (left_of o behind)) = each_behind (IsOfNames p) (left_of o behind) front h (each_pruned (IsOfNames p) (is_kept o) behind e) in
-    each_mapped (IsOffered p) terminal_of (behind_learned front (left_of o behind)) (record {
-      firsts = All-weaker (IsOfNames p) (λ x. IsOffered p (terminal_of x)) (of_names_offered p) (behind_learned front (left_of o behind)).firsts each.firsts;
-      seconds = All-weaker (EachOf (IsOfNames p)) (EachOf (λ x. IsOffered p (terminal_of x))) (weaker_second p) (behind_learned front (left_of o behind)).seconds each.seconds;
-    })
+behind_fits : (o : Options) (p : Partitions) (front : List Learnable) (behind : Productions Learnable) → All (IsOfNames p) front → Each (InElement p) behind → Each (FitsInside p) (mapped terminal_of (behind_learned front (left_of o behind)))
+behind_fits o p front behind h e =
+    each_mapped (FitsInside p) terminal_of (behind_learned front (left_of o behind))
+    (each_behind (InElement p) (left_of o behind) front (All-weaker (IsOfNames p) (InElement p) (of_names_fits p) front h) (each_pruned (InElement p) (is_kept o) behind e))
 
-element_offers : (o : Options) (p : Partitions) (l : Learning) → IsSoundLearning p l → (number : ℕ) (stage : Stage) → Each (IsOffered p) (built_in o l (room_at number stage))
-element_offers o p l s number start_tag = named_in o p (start_tag_of (slice_get l.grammars number)) start_tag_content (learned_start_tag p l.grammars number (slice_get l.grammars number) refl s.grammars) (start_tag_named p)
-element_offers o p l s number content = named_in o p (content_of (slice_get l.grammars number)) element_content (learned_content p l.grammars number (slice_get l.grammars number) refl s.grammars) (content_named p)
+element_fits : (o : Options) (p : Partitions) (l : Learning) → IsSoundLearning p l → (number : ℕ) (stage : Stage) → Each (FitsInside p) (built_in o l (room_at number stage))
+element_fits o p l s number start_tag = behind_fits o p (start_tag_of (slice_get l.grammars number)) start_tag_content (learned_start_tag p l.grammars number (slice_get l.grammars number) refl s.grammars) (start_tag_written p)
+element_fits o p l s number content = behind_fits o p (content_of (slice_get l.grammars number)) element_content (learned_content p l.grammars number (slice_get l.grammars number) refl s.grammars) (content_written p)
 
 -- ---- a fragment's content
-of_name_offered : (p : Partitions) (x : Learnable) → IsElementOfName p x → IsOfferedIn p fragment_content (terminal_of x)
-of_name_offered p (learnable.Known name false) h = (refl, h)
-of_name_offered p (learnable.Known name true) h = absurd h
-of_name_offered p learnable.SeAny h = absurd h
-of_name_offered p learnable.AtAny h = absurd h
-of_name_offered p (learnable.Ch one_part) h = absurd h
-of_name_offered p (learnable.Ee one_part) h = absurd h
-of_name_offered p learnable.Ed h = absurd h
-of_name_offered p learnable.Ns h = absurd h
-of_name_offered p learnable.Sc h = absurd h
-of_name_offered p learnable.Er h = absurd h
-of_name_offered p learnable.Cm h = absurd h
-of_name_offered p learnable.Pi h = absurd h
+of_name_fits : (p : Partitions) (x : Learnable) → IsElementOfName p x → FitsOutside p fragment_content (terminal_of x)
+of_name_fits p (learnable.Known name false) h = (refl, h)
+of_name_fits p (learnable.Known name true) h = absurd h
+of_name_fits p learnable.SeAny h = absurd h
+of_name_fits p learnable.AtAny h = absurd h
+of_name_fits p (learnable.Ch one_part) h = absurd h
+of_name_fits p (learnable.Ee one_part) h = absurd h
+of_name_fits p learnable.Ed h = absurd h
+of_name_fits p learnable.Ns h = absurd h
+of_name_fits p learnable.Sc h = absurd h
+of_name_fits p learnable.Er h = absurd h
+of_name_fits p learnable.Cm h = absurd h
+of_name_fits p learnable.Pi h = absurd h
 
 abbrev InFragment : Partitions → Learnable → Type 0
-InFragment p x = IsOfferedIn p fragment_content (terminal_of x)
+InFragment p x = FitsOutside p fragment_content (terminal_of x)
 
 fragment_written : (p : Partitions) → Each (InFragment p) built.fragment_content
 fragment_written p = record {
-  firsts = All-from_recursion (InFragment p) built.fragment_content.firsts (inr refl, (tt, tt));
+  firsts = All-from_recursion (InFragment p) built.fragment_content.firsts (inr refl, (inr refl, tt));
   seconds = All-from_recursion (EachOf (InFragment p)) built.fragment_content.seconds (tt, (tt, tt));
 }
 
-fragment_offers : (o : Options) (p : Partitions) (l : Learning) → IsSoundLearning p l → Each (IsOfferedIn p fragment_content) (built_in o l room.Fragment)
-fragment_offers o p l s =
-    each_mapped (IsOfferedIn p fragment_content) terminal_of (productions o l room.Fragment)
-    (each_behind (InFragment p) (left_of o built.fragment_content) l.fragment (All-weaker (IsElementOfName p) (InFragment p) (of_name_offered p) l.fragment s.fragment)
+fragment_fits : (o : Options) (p : Partitions) (l : Learning) → IsSoundLearning p l → Each (FitsOutside p fragment_content) (built_in o l room.Fragment)
+fragment_fits o p l s =
+    each_mapped (FitsOutside p fragment_content) terminal_of (productions o l room.Fragment)
+    (each_behind (InFragment p) (left_of o built.fragment_content) l.fragment (All-weaker (IsElementOfName p) (InFragment p) (of_name_fits p) l.fragment s.fragment)
     (each_pruned (InFragment p) (is_kept o) built.fragment_content (fragment_written p)))
 
 -- ---- a document's states
-document_written : (p : Partitions) → Each (IsOfferedIn p document_content) document_content_productions
+document_written : (p : Partitions) → Each (FitsOutside p document_content) document_content_productions
 document_written p = record {
-  firsts = All-from_recursion (IsOfferedIn p document_content) document_content_productions.firsts (inl refl, tt);
-  seconds = All-from_recursion (EachOf (IsOfferedIn p document_content)) document_content_productions.seconds (tt, (All-from_recursion (IsOfferedIn p document_content) (comment ∷ instruction ∷ []) (tt, (tt, tt)), tt));
+  firsts = All-from_recursion (FitsOutside p document_content) document_content_productions.firsts (inl refl, tt);
+  seconds = All-from_recursion (EachOf (FitsOutside p document_content)) document_content_productions.seconds (refl, (All-from_recursion (FitsOutside p document_content) (comment ∷ instruction ∷ []) (tt, (tt, tt)), tt));
 }
 
-end_written : (p : Partitions) → Each (IsOfferedIn p document_end) document_end_productions
+end_written : (p : Partitions) → Each (FitsOutside p document_end) document_end_productions
 end_written p = record {
-  firsts = All-from_recursion (IsOfferedIn p document_end) document_end_productions.firsts (tt, tt);
-  seconds = All-from_recursion (EachOf (IsOfferedIn p document_end)) document_end_productions.seconds (tt, (tt, tt));
+  firsts = All-from_recursion (FitsOutside p document_end) document_end_productions.firsts (inl refl, tt);
+  seconds = All-from_recursion (EachOf (FitsOutside p document_end)) document_end_productions.seconds (tt, (tt, tt));
 }
 
-start_written : (p : Partitions) (outer : Outer) → (outer ≡ document) ⊎ (outer ≡ fragment_start) → Each (IsOfferedIn p outer) start_productions
+start_written : (p : Partitions) (outer : Outer) → (outer ≡ document) ⊎ (outer ≡ fragment_start) → Each (FitsOutside p outer) start_productions
 start_written p outer h = record {
-  firsts = All-from_recursion (IsOfferedIn p outer) start_productions.firsts (h, tt);
-  seconds = All-nil (EachOf (IsOfferedIn p outer));
+  firsts = All-from_recursion (FitsOutside p outer) start_productions.firsts (h, tt);
+  seconds = All-nil (EachOf (FitsOutside p outer));
 }
 
-outer_offers : (o : Options) (p : Partitions) (l : Learning) → IsSoundLearning p l → (outer : Outer) → Each (IsOfferedIn p outer) (outer_productions o l outer)
-outer_offers o p l s document = start_written p document (inl refl)
-outer_offers o p l s document_content = each_pruned (IsOfferedIn p document_content) (is_left o) document_content_productions (document_written p)
-outer_offers o p l s document_end = each_pruned (IsOfferedIn p document_end) (is_left o) document_end_productions (end_written p)
-outer_offers o p l s fragment_start = start_written p fragment_start (inr refl)
-outer_offers o p l s fragment_content = fragment_offers o p l s
-outer_offers o p l s ended = record { firsts = All-nil (IsOfferedIn p ended); seconds = All-nil (EachOf (IsOfferedIn p ended)) }
+outer_fits : (o : Options) (p : Partitions) (l : Learning) → IsSoundLearning p l → (outer : Outer) → Each (FitsOutside p outer) (outer_productions o l outer)
+outer_fits o p l s document = start_written p document (inl refl)
+outer_fits o p l s document_content = each_pruned (FitsOutside p document_content) (is_left o) document_content_productions (document_written p)
+outer_fits o p l s document_end = each_pruned (FitsOutside p document_end) (is_left o) document_end_productions (end_written p)
+outer_fits o p l s fragment_start = start_written p fragment_start (inr refl)
+outer_fits o p l s fragment_content = fragment_fits o p l s
+outer_fits o p l s ended = record { firsts = All-nil (FitsOutside p ended); seconds = All-nil (EachOf (FitsOutside p ended)) }
 
-pub offered : (o : Options) (p : Partitions) (l : Learning) → IsSoundLearning p l → (outer : Outer) (es : List Element) → Each (Offers p outer es) (productions_in o l outer es)
-offered o p l s outer [] = outer_offers o p l s outer
-offered o p l s outer (e ∷ es) = element_offers o p l s e.grammar e.stage
+pub state_fits : (o : Options) (p : Partitions) (l : Learning) → IsSoundLearning p l → (outer : Outer) (es : List Element) → Each (FitsIn p outer es) (productions_in o l outer es)
+state_fits o p l s outer [] = outer_fits o p l s outer
+state_fits o p l s outer (e ∷ es) = element_fits o p l s e.grammar e.stage
