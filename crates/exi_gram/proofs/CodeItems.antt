@@ -39,6 +39,12 @@ width_taken : (n : ℕ) (a : Align) → n ≤ taken n a
 width_taken n align.Bits = omega arith
 width_taken n align.Bytes = omega arith
 
+pub below_width : (v count : ℕ) → v < count → v < 2 ^ width_for count
+below_width v count less =
+    let h : count ≤ 2 ^ (0 + count) = below_sum count in
+    let w = width_holds count 0 count h in
+    omega arith
+
 pub below_fits : (v count : ℕ) (a : Align) → v < count → v < 2 ^ taken (width_for count) a
 below_fits v count a less =
     let h : count ≤ 2 ^ (0 + count) = below_sum count in

@@ -30,23 +30,23 @@ code_last : (a : Align) (cs : List (List ℕ)) (part count : ℕ) (text first se
 unfolding code_bits
 code_last a cs part count text first second v e f h = code_next a cs (going_on part cs) part count [] text first second v refl e f h
 
-code_parts : (a : Align) (cs rests : List (List ℕ)) (part count : ℕ) (parts : List ℕ) → values_of cs ≡ count → going_on part cs ≡ rests → code_bits a cs (part ∷ parts) ≡ number (width_for count) a part ++ code_bits a rests parts
+pub code_parts : (a : Align) (cs rests : List (List ℕ)) (part count : ℕ) (parts : List ℕ) → values_of cs ≡ count → going_on part cs ≡ rests → code_bits a cs (part ∷ parts) ≡ number (width_for count) a part ++ code_bits a rests parts
 unfolding code_bits
 code_parts a cs rests part count parts v g =
     ap (λ (k : ℕ). number (width_for k) a part ++ code_bits a (going_on part cs) parts) v
     ∙ ap (λ (z : List (List ℕ)). number (width_for count) a part ++ code_bits a z parts) g
 
-code_none : (a : Align) (cs : List (List ℕ)) → code_bits a cs [] ≡ []
+pub code_none : (a : Align) (cs : List (List ℕ)) → code_bits a cs [] ≡ []
 unfolding code_bits
 code_none a cs = refl
 
-second_count : {X : Type 0} (xs : List (Second X)) → All HasMembers xs → values_of (parts_in (coded_seconds [] 0 xs)) ≡ length xs
+pub second_count : {X : Type 0} (xs : List (Second X)) → All HasMembers xs → values_of (parts_in (coded_seconds [] 0 xs)) ≡ length xs
 second_count xs h = omega (arith, values_seconds 0 xs h)
 
-third_count : {X : Type 0} (xs : List X) → values_of (parts_in (coded_from [] 0 xs)) ≡ length xs
+pub third_count : {X : Type 0} (xs : List X) → values_of (parts_in (coded_from [] 0 xs)) ≡ length xs
 third_count xs = omega (arith, values_from 0 xs)
 
-group_behind : {X : Type 0} (xs : List (Second X)) (j : ℕ) (ys : List X) → slice_get xs j ≡ Some (group ys) → going_on j (parts_in (coded_seconds [] 0 xs)) ≡ parts_in (coded_from [] 0 ys)
+pub group_behind : {X : Type 0} (xs : List (Second X)) (j : ℕ) (ys : List X) → slice_get xs j ≡ Some (group ys) → going_on j (parts_in (coded_seconds [] 0 xs)) ≡ parts_in (coded_from [] 0 ys)
 group_behind {X} xs j ys e = let p : j ≡ 0 + j = omega arith in ap (λ (k : ℕ). going_on k (parts_in (coded_seconds [] 0 xs))) p ∙ going_group 0 xs j ys e
 
 -- ---- what was read, as a code
@@ -122,7 +122,7 @@ get_past : {X : Type 0} (xs : List X) → slice_get xs (length xs) ≡ None
 get_past [] = refl
 get_past (x ∷ xs) = get_past xs
 
-some_longer : {X : Type 0} (xs : List (Second X)) (j : ℕ) (y : Second X) → slice_get xs j ≡ Some y → longer xs ≡ 1
+pub some_longer : {X : Type 0} (xs : List (Second X)) (j : ℕ) (y : Second X) → slice_get xs j ≡ Some y → longer xs ≡ 1
 some_longer [] j y e = absurd cc
 some_longer (x ∷ xs) j y e = refl
 

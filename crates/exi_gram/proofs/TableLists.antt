@@ -8,7 +8,7 @@ use Rattle.exi_gram.specs.declared.code.Coded.{Coded as Kept}
 use Rattle.exi_gram.specs.declared.grammar.Production.{Production}
 use Rattle.exi_gram.specs.declared.second.SecondPart.{SecondPart}
 use Rattle.exi_gram.specs.Codes.{Coded, HasMembers, IsClosedUp, Productions, Second, coded, coded_from, coded_second, coded_seconds, group, single}
-use Rattle.exi_gram.specs.Laws.{placed, placed_seconds, places_from}
+use Rattle.exi_gram.specs.Laws.{members, placed, placed_second, placed_seconds, places_from}
 use Rattle.exi_gram.specs.Tables.{Follow, IsTable, as_single, coded_of, counting, ends_in_group, items_of, last_joined, places_in, parts_of, places_of, second_of, size, slice, table_of, with_first, with_member, with_second}
 
 -- ---- the codes of more productions
@@ -39,9 +39,9 @@ second_coded : {X : Type 0} (p : Productions X) (y : Second X) → coded (with_s
 second_coded {X} p y =
     let e : 0 + length p.seconds ≡ length p.seconds = omega arith in
     ap (λ (z : List (Coded X)). coded_from [] 0 p.firsts ++ z)
-      (seconds-append (length p.firsts ∷ []) 0 p.seconds (y ∷ [])
-      ∙ ap (λ (k : ℕ). coded_seconds (length p.firsts ∷ []) 0 p.seconds ++ (coded_second (length p.firsts ∷ []) k y ++ [])) e
-      ∙ ap (λ (z : List (Coded X)). coded_seconds (length p.firsts ∷ []) 0 p.seconds ++ z) (append-nil (coded_second (length p.firsts ∷ []) (length p.seconds) y)))
+    (seconds-append (length p.firsts ∷ []) 0 p.seconds (y ∷ [])
+    ∙ ap (λ (k : ℕ). coded_seconds (length p.firsts ∷ []) 0 p.seconds ++ (coded_second (length p.firsts ∷ []) k y ++ [])) e
+    ∙ ap (λ (z : List (Coded X)). coded_seconds (length p.firsts ∷ []) 0 p.seconds ++ z) (append-nil (coded_second (length p.firsts ∷ []) (length p.seconds) y)))
     ∙ sym (append_assoc (coded_from [] 0 p.firsts) (coded_seconds (length p.firsts ∷ []) 0 p.seconds) (coded_second (length p.firsts ∷ []) (length p.seconds) y))
 
 -- one more member of the last group
@@ -111,17 +111,17 @@ slice_grows {X} xs x s e =
 first_table : {X : Type 0} (xs : List X) (x : X) (firsts : ℕ) → firsts ≡ length xs → table_of (xs ++ x ∷ []) (firsts + 1) [] ≡ with_first (table_of xs firsts []) x
 first_table {X} xs x firsts e =
     ap (λ (z : List X). record { firsts = z; seconds = [] })
-      (take_all (firsts + 1) (xs ++ x ∷ []) (omega (arith, length-append xs (x ∷ [])))
-      ∙ ap (λ (z : List X). z ++ x ∷ []) (sym (take_all firsts xs (omega arith))))
+    (take_all (firsts + 1) (xs ++ x ∷ []) (omega (arith, length-append xs (x ∷ [])))
+    ∙ ap (λ (z : List X). z ++ x ∷ []) (sym (take_all firsts xs (omega arith))))
 
 second_table : {X : Type 0} (xs : List X) (x : X) (firsts : ℕ) (ss : List SecondPart) (s : SecondPart) (y : Second X) → Follow firsts ss (length xs) → second_of (xs ++ x ∷ []) s ≡ y → table_of (xs ++ x ∷ []) firsts (ss ++ s ∷ []) ≡ with_second (table_of xs firsts ss) y
 second_table {X} xs x firsts ss s y h e =
     let w = follow_within firsts ss (length xs) h in
     ap (λ (z : List X). record { firsts = z; seconds = map (second_of (xs ++ x ∷ [])) (ss ++ s ∷ []) }) (take-append-le firsts xs (x ∷ []) (omega arith))
     ∙ ap (λ (z : List (Second X)). record { firsts = take firsts xs; seconds = z })
-      (map-append (second_of (xs ++ x ∷ [])) ss (s ∷ [])
-      ∙ ap (λ (z : List (Second X)). z ++ second_of (xs ++ x ∷ []) s ∷ []) (seconds_kept xs (x ∷ []) firsts ss (length xs) h (omega arith))
-      ∙ ap (λ (z : Second X). map (second_of xs) ss ++ z ∷ []) e)
+    (map-append (second_of (xs ++ x ∷ [])) ss (s ∷ [])
+    ∙ ap (λ (z : List (Second X)). z ++ second_of (xs ++ x ∷ []) s ∷ []) (seconds_kept xs (x ∷ []) firsts ss (length xs) h (omega arith))
+    ∙ ap (λ (z : Second X). map (second_of xs) ss ++ z ∷ []) e)
 
 -- the last second part tells a group
 group_of : {X : Type 0} (xs : List X) (s : SecondPart) → s.group ≡ true → second_of xs s ≡ group (slice xs s)
@@ -158,7 +158,7 @@ coded_more cs c parts old new e f g =
     ∙ ap (λ (z : List ℕ). old ++ record { parts = z; item = c.production } ∷ []) f
     ∙ sym g
 
-count_items : (cs : List Kept) → length (items_of cs) ≡ length cs
+pub count_items : (cs : List Kept) → length (items_of cs) ≡ length cs
 count_items cs = length-map cs (λ (c : Kept). c.production)
 
 -- how many productions there are
@@ -186,12 +186,12 @@ first_keeps cs firsts ss c t none room parts =
       small = omega (arith, size_is cs firsts ss t);
       follow = subst (λ (ss : List SecondPart). Follow (firsts + 1) ss (length (with_code cs c))) (sym e) (omega arith);
       codes = coded_more cs c (firsts ∷ []) (coded (table_of (items_of cs) firsts [])) (coded (table_of (items_of (with_code cs c)) (firsts + 1) ss))
-        (t.codes ∙ ap (λ (z : List SecondPart). coded (table_of (items_of cs) firsts z)) e)
-        parts
-        (ap coded v ∙ first_coded (take firsts (items_of cs)) c.production ∙ ap (λ (k : ℕ). coded (table_of (items_of cs) firsts []) ++ record { parts = k ∷ []; item = c.production } ∷ []) n);
+          (t.codes ∙ ap (λ (z : List SecondPart). coded (table_of (items_of cs) firsts z)) e)
+          parts
+          (ap coded v ∙ first_coded (take firsts (items_of cs)) c.production ∙ ap (λ (k : ℕ). coded (table_of (items_of cs) firsts []) ++ record { parts = k ∷ []; item = c.production } ∷ []) n);
     }
 
-count_firsts : (cs : List Kept) (firsts : ℕ) (ss : List SecondPart) (end : ℕ) → Follow firsts ss end → end ≤ length cs → length (take firsts (items_of cs)) ≡ firsts
+pub count_firsts : (cs : List Kept) (firsts : ℕ) (ss : List SecondPart) (end : ℕ) → Follow firsts ss end → end ≤ length cs → length (take firsts (items_of cs)) ≡ firsts
 count_firsts cs firsts ss end h le = let w = follow_within firsts ss end h in omega (arith, length-take firsts (items_of cs), count_items cs)
 
 -- one that the next second part tells
@@ -223,10 +223,10 @@ second_keeps cs firsts ss c grouped t room parts =
       small = omega (arith, size_is cs firsts ss t);
       follow = subst (Follow firsts (ss ++ next_part cs grouped ∷ [])) (sym l) (follow_push firsts ss (length cs) (next_part cs grouped) t.follow refl (omega arith) (λ e. refl));
       codes = coded_more cs c (cond grouped (firsts ∷ length ss ∷ 0 ∷ []) (firsts ∷ length ss ∷ [])) (coded (table_of (items_of cs) firsts ss)) (coded (table_of (items_of (with_code cs c)) firsts (ss ++ next_part cs grouped ∷ [])))
-        t.codes parts
-        (ap coded (second_view cs firsts ss c grouped t)
-        ∙ second_coded (table_of (items_of cs) firsts ss) (cond grouped (group (c.production ∷ [])) (single c.production))
-        ∙ ap (λ (z : List (Coded Production)). coded (table_of (items_of cs) firsts ss) ++ z)
+          t.codes parts
+          (ap coded (second_view cs firsts ss c grouped t)
+          ∙ second_coded (table_of (items_of cs) firsts ss) (cond grouped (group (c.production ∷ [])) (single c.production))
+          ∙ ap (λ (z : List (Coded Production)). coded (table_of (items_of cs) firsts ss) ++ z)
           (ap (λ (k : ℕ). coded_second (k ∷ []) (length (map (second_of (items_of cs)) ss)) (cond grouped (group (c.production ∷ [])) (single c.production))) n
           ∙ ap (λ (k : ℕ). coded_second (firsts ∷ []) k (cond grouped (group (c.production ∷ [])) (single c.production))) m
           ∙ second_codes grouped firsts (length ss) c.production));
@@ -277,13 +277,13 @@ member_keeps cs firsts ss s c t l room parts =
       small = omega (arith, size_is cs firsts (ss ++ s ∷ []) t, length-append cs (c ∷ []));
       follow = subst (Follow firsts (ss ++ grown s ∷ [])) e (follow_push firsts ss s.begin (grown s) l.before refl (omega arith) (λ b. absurd (apart s.group l.grouped b)));
       codes = coded_more cs c (firsts ∷ length ss ∷ s.count ∷ []) old (coded (table_of (items_of (with_code cs c)) firsts (ss ++ grown s ∷ [])))
-        t.codes parts
-        (rw (items_more cs c) (ap coded (member_table (items_of cs) c.production firsts ss s f l.grouped))
-        ∙ member_coded (take firsts (items_of cs)) (map (second_of (items_of cs)) ss) (slice (items_of cs) s) c.production
-        ∙ ap (λ (z : Productions Production). coded z ++ record { parts = length (take firsts (items_of cs)) ∷ length (map (second_of (items_of cs)) ss) ∷ length (slice (items_of cs) s) ∷ []; item = c.production } ∷ []) (sym (grouped_table (items_of cs) firsts ss s l.grouped))
-        ∙ ap (λ (i : ℕ). old ++ record { parts = i ∷ length (map (second_of (items_of cs)) ss) ∷ length (slice (items_of cs) s) ∷ []; item = c.production } ∷ []) n
-        ∙ ap (λ (i : ℕ). old ++ record { parts = firsts ∷ i ∷ length (slice (items_of cs) s) ∷ []; item = c.production } ∷ []) m
-        ∙ ap (λ (i : ℕ). old ++ record { parts = firsts ∷ length ss ∷ i ∷ []; item = c.production } ∷ []) k);
+          t.codes parts
+          (rw (items_more cs c) (ap coded (member_table (items_of cs) c.production firsts ss s f l.grouped))
+          ∙ member_coded (take firsts (items_of cs)) (map (second_of (items_of cs)) ss) (slice (items_of cs) s) c.production
+          ∙ ap (λ (z : Productions Production). coded z ++ record { parts = length (take firsts (items_of cs)) ∷ length (map (second_of (items_of cs)) ss) ∷ length (slice (items_of cs) s) ∷ []; item = c.production } ∷ []) (sym (grouped_table (items_of cs) firsts ss s l.grouped))
+          ∙ ap (λ (i : ℕ). old ++ record { parts = i ∷ length (map (second_of (items_of cs)) ss) ∷ length (slice (items_of cs) s) ∷ []; item = c.production } ∷ []) n
+          ∙ ap (λ (i : ℕ). old ++ record { parts = firsts ∷ i ∷ length (slice (items_of cs) s) ∷ []; item = c.production } ∷ []) m
+          ∙ ap (λ (i : ℕ). old ++ record { parts = firsts ∷ length ss ∷ i ∷ []; item = c.production } ∷ []) k);
     }
   where
     apart : (b : Bool) → b ≡ true → b ≡ false → ⊥
@@ -298,8 +298,7 @@ pub first_added : (cs new : List Kept) (firsts : ℕ) (ss : List SecondPart) (x 
     → IsTable new (firsts + 1) ss × (table_of (items_of new) (firsts + 1) ss ≡ with_first p x)
 first_added cs new firsts ss x p t v none room e =
     let w = ap (λ (p : Productions Production). p.seconds) v ∙ none in
-    let r : size (table_of (items_of cs) firsts ss) < 2 ^ 31 = subst (λ (p : Productions Production). size p < 2 ^ 31) (sym v) room in
-    (
+    let r : size (table_of (items_of cs) firsts ss) < 2 ^ 31 = subst (λ (p : Productions Production). size p < 2 ^ 31) (sym v) room in (
       subst (λ (cs : List Kept). IsTable cs (firsts + 1) ss) (sym e) (first_keeps cs firsts ss (kept firsts None None x) t w r refl),
       ap (λ (cs : List Kept). table_of (items_of cs) (firsts + 1) ss) e ∙ first_view cs firsts ss (kept firsts None None x) t w ∙ ap (λ (p : Productions Production). with_first p x) v,
     )
@@ -311,8 +310,7 @@ pub second_added : (cs new : List Kept) (firsts : ℕ) (ss mid news : List Secon
 second_added cs new firsts ss mid news begin second third grouped x p t v room e b n m s parts =
     let r : size (table_of (items_of cs) firsts ss) < 2 ^ 31 = subst (λ (p : Productions Production). size p < 2 ^ 31) (sym v) room in
     let e' : new ≡ with_code cs (kept firsts (Some (length ss)) third x) = e ∙ ap (λ (k : ℕ). cs ++ kept firsts (Some k) third x ∷ []) n in
-    let s' : news ≡ ss ++ next_part cs grouped ∷ [] = s ∙ ap (λ (z : List SecondPart). z ++ record { begin = begin; count = 1; group = grouped } ∷ []) m ∙ ap (λ (k : ℕ). ss ++ record { begin = k; count = 1; group = grouped } ∷ []) b in
-    (
+    let s' : news ≡ ss ++ next_part cs grouped ∷ [] = s ∙ ap (λ (z : List SecondPart). z ++ record { begin = begin; count = 1; group = grouped } ∷ []) m ∙ ap (λ (k : ℕ). ss ++ record { begin = k; count = 1; group = grouped } ∷ []) b in (
       subst (λ (cs : List Kept). IsTable cs firsts news) (sym e') (subst (λ (z : List SecondPart). IsTable (with_code cs (kept firsts (Some (length ss)) third x)) firsts z) (sym s') (second_keeps cs firsts ss (kept firsts (Some (length ss)) third x) grouped t r parts)),
       ap (λ (cs : List Kept). table_of (items_of cs) firsts news) e' ∙ ap (λ (z : List SecondPart). table_of (items_of (with_code cs (kept firsts (Some (length ss)) third x))) firsts z) s' ∙ second_view cs firsts ss (kept firsts (Some (length ss)) third x) grouped t ∙ ap (λ (p : Productions Production). with_second p (cond grouped (group (x ∷ [])) (single x))) v,
     )
@@ -331,8 +329,7 @@ member_added cs same new firsts ss mid news s second x p t v g room z q e n f =
     let k = last_taken cs firsts ss mid s p t v g z in
     let v' : table_of (items_of cs) firsts (mid ++ s ∷ []) ≡ p = ap (table_of (items_of cs) firsts) (sym z) ∙ v in
     let r : size (table_of (items_of cs) firsts (mid ++ s ∷ [])) < 2 ^ 31 = subst (λ (p : Productions Production). size p < 2 ^ 31) (sym v') room in
-    let e' : new ≡ with_code cs (kept firsts (Some (length mid)) (Some s.count) x) = e ∙ ap (λ (z : List Kept). z ++ kept firsts (Some second) (Some s.count) x ∷ []) q ∙ ap (λ (k : ℕ). cs ++ kept firsts (Some k) (Some s.count) x ∷ []) n in
-    (
+    let e' : new ≡ with_code cs (kept firsts (Some (length mid)) (Some s.count) x) = e ∙ ap (λ (z : List Kept). z ++ kept firsts (Some second) (Some s.count) x ∷ []) q ∙ ap (λ (k : ℕ). cs ++ kept firsts (Some k) (Some s.count) x ∷ []) n in (
       subst (λ (cs : List Kept). IsTable cs firsts news) (sym e') (subst (λ (z : List SecondPart). IsTable (with_code cs (kept firsts (Some (length mid)) (Some s.count) x)) firsts z) (sym f) (member_keeps cs firsts mid s (kept firsts (Some (length mid)) (Some s.count) x) k.0 k.1 r refl)),
       ap (λ (cs : List Kept). table_of (items_of cs) firsts news) e' ∙ ap (λ (z : List SecondPart). table_of (items_of (with_code cs (kept firsts (Some (length mid)) (Some s.count) x))) firsts z) f ∙ member_view cs firsts mid s (kept firsts (Some (length mid)) (Some s.count) x) k.0 k.1 ∙ ap (λ (p : Productions Production). with_member p x) v',
     )
@@ -341,7 +338,53 @@ member_added cs same new firsts ss mid news s second x p t v g room z q e n f =
 pub seconds_few : (cs : List Kept) (firsts : ℕ) (ss : List SecondPart) → IsTable cs firsts ss → length ss ≤ 2 ^ 31
 seconds_few cs firsts ss t = omega (arith, follow_within firsts ss (length cs) t.follow, t.small)
 
+pub firsts_few : (cs : List Kept) (firsts : ℕ) (ss : List SecondPart) → IsTable cs firsts ss → firsts ≤ 2 ^ 31
+firsts_few cs firsts ss t = omega (arith, follow_within firsts ss (length cs) t.follow, t.small)
+
 -- ---- what is kept, as places
 places_counting : {X : Type 0} (place : ℕ) (xs : List X) → places_from place xs ≡ counting place (length xs)
 places_counting place [] = refl
 places_counting place (x ∷ xs) = ap (λ (z : List ℕ). place ∷ z) (places_counting (suc place) xs)
+
+one_place : {X : Type 0} (place : ℕ) (ys : List X) → length ys ≡ 1 → (placed_second place (as_single ys) ≡ single place) × (members (as_single ys) ≡ 1)
+one_place place [] e = absurd (omega arith)
+one_place place (y ∷ ys) e = (refl, refl)
+
+second_placed : {X : Type 0} (place : ℕ) (ys : List X) (count : ℕ) (grouped : Bool) → length ys ≡ count → (grouped ≡ false → count ≡ 1)
+    → (placed_second place (cond grouped (group ys) (as_single ys)) ≡ cond grouped (group (counting place count)) (single place)) × (members (cond {A = Second X} grouped (group ys) (as_single ys)) ≡ count)
+second_placed place ys count true e one = (ap (λ (z : List ℕ). group z) (places_counting place ys ∙ ap (counting place) e), e)
+second_placed place ys count false e one = let k = one_place place ys (e ∙ one refl) in (k.0, k.1 ∙ sym (one refl))
+
+seconds_placed : {X : Type 0} (xs : List X) (place : ℕ) (ss : List SecondPart) (end : ℕ) → Follow place ss end → end ≤ length xs → placed_seconds place (map (second_of xs) ss) ≡ map places_of ss
+seconds_placed xs place [] end h le = refl
+seconds_placed {X} xs place (s ∷ ss) end h le =
+    let w = follow_within (place + s.count) ss end h.3 in
+    let n : length (slice xs s) ≡ s.count = omega (arith, h.0, length-take s.count (drop s.begin xs), length-drop s.begin xs) in
+    let k = second_placed place (slice xs s) s.count s.group n h.2 in
+    ap (λ (i : ℕ). placed_second place (second_of xs s) ∷ placed_seconds (place + i) (map (second_of xs) ss)) k.1
+    ∙ ap (λ (z : Second ℕ). z ∷ placed_seconds (place + s.count) (map (second_of xs) ss)) (k.0 ∙ ap (λ (i : ℕ). cond s.group (group (counting i s.count)) (single i)) (sym h.0))
+    ∙ ap (λ (z : List (Second ℕ)). places_of s ∷ z) (seconds_placed xs (place + s.count) ss end h.3 le)
+
+pub placed_table : (cs : List Kept) (firsts : ℕ) (ss : List SecondPart) → IsTable cs firsts ss → placed (table_of (items_of cs) firsts ss) ≡ places_in firsts ss
+placed_table cs firsts ss t =
+    let n = count_firsts cs firsts ss (length cs) t.follow (omega arith) in
+    let le : length cs ≤ length (items_of cs) = omega (arith, count_items cs) in
+    ap (λ (z : List ℕ). record { firsts = z; seconds = placed_seconds (length (take firsts (items_of cs))) (map (second_of (items_of cs)) ss) }) (places_counting 0 (take firsts (items_of cs)) ∙ ap (counting 0) n)
+    ∙ ap (λ (k : ℕ). record { firsts = counting 0 firsts; seconds = placed_seconds k (map (second_of (items_of cs)) ss) }) n
+    ∙ ap (λ (z : List (Second ℕ)). record { firsts = counting 0 firsts; seconds = z }) (seconds_placed (items_of cs) firsts ss (length cs) t.follow le)
+
+-- no group is empty
+second_members : {X : Type 0} (ys : List X) (grouped : Bool) → 1 ≤ length ys → HasMembers (cond {A = Second X} grouped (group ys) (as_single ys))
+second_members [] grouped le = absurd (omega arith)
+second_members (y ∷ ys) true le = λ e. cc
+second_members (y ∷ ys) false le = tt
+
+seconds_closed : {X : Type 0} (xs : List X) (place : ℕ) (ss : List SecondPart) (end : ℕ) → Follow place ss end → end ≤ length xs → All HasMembers (map (second_of xs) ss)
+seconds_closed xs place [] end h le = All-nil HasMembers
+seconds_closed xs place (s ∷ ss) end h le =
+    let w = follow_within (place + s.count) ss end h.3 in
+    let n : 1 ≤ length (slice xs s) = omega (arith, h.0, h.1, length-take s.count (drop s.begin xs), length-drop s.begin xs) in
+    All-cons HasMembers (second_of xs s) (map (second_of xs) ss) (second_members (slice xs s) s.group n) (seconds_closed xs (place + s.count) ss end h.3 le)
+
+pub table_closed : (cs : List Kept) (firsts : ℕ) (ss : List SecondPart) → IsTable cs firsts ss → IsClosedUp (table_of (items_of cs) firsts ss)
+table_closed cs firsts ss t = seconds_closed (items_of cs) firsts ss (length cs) t.follow (omega (arith, count_items cs))

@@ -26,9 +26,9 @@ at on to = record { on = on; to = to; inner = None }
 all_in : (P : Production → Type 0) → P (at terminal.Sd 1) → P (at terminal.SeAny 2) → P (at terminal.Dt 1) → P (at terminal.Cm 1) → P (at terminal.Pi 1) → P (at terminal.Ed 2) → P (at terminal.Cm 2) → P (at terminal.Pi 2) → AllIn P document_grammar
 all_in P a b c d e f g h =
     three (All P) (at terminal.Sd 1 ∷ []) (at terminal.SeAny 2 ∷ at terminal.Dt 1 ∷ at terminal.Cm 1 ∷ at terminal.Pi 1 ∷ []) (at terminal.Ed 2 ∷ at terminal.Cm 2 ∷ at terminal.Pi 2 ∷ [])
-      (alone P (at terminal.Sd 1) a)
-      (All-cons P (at terminal.SeAny 2) (at terminal.Dt 1 ∷ at terminal.Cm 1 ∷ at terminal.Pi 1 ∷ []) b (three P (at terminal.Dt 1) (at terminal.Cm 1) (at terminal.Pi 1) c d e))
-      (three P (at terminal.Ed 2) (at terminal.Cm 2) (at terminal.Pi 2) f g h)
+    (alone P (at terminal.Sd 1) a)
+    (All-cons P (at terminal.SeAny 2) (at terminal.Dt 1 ∷ at terminal.Cm 1 ∷ at terminal.Pi 1 ∷ []) b (three P (at terminal.Dt 1) (at terminal.Cm 1) (at terminal.Pi 1) c d e))
+    (three P (at terminal.Ed 2) (at terminal.Cm 2) (at terminal.Pi 2) f g h)
 
 none : {X : Type 0} (P : X → Type 0) → All P []
 none P = All-nil P
@@ -50,8 +50,8 @@ starts : StartsOnce document_grammar
 starts = record {
   first = refl;
   others = two (All (λ p. is_start p.on ≡ false)) (at terminal.SeAny 2 ∷ at terminal.Dt 1 ∷ at terminal.Cm 1 ∷ at terminal.Pi 1 ∷ []) (at terminal.Ed 2 ∷ at terminal.Cm 2 ∷ at terminal.Pi 2 ∷ [])
-    (All-cons (λ p. is_start p.on ≡ false) (at terminal.SeAny 2) (at terminal.Dt 1 ∷ at terminal.Cm 1 ∷ at terminal.Pi 1 ∷ []) refl (three (λ p. is_start p.on ≡ false) (at terminal.Dt 1) (at terminal.Cm 1) (at terminal.Pi 1) refl refl refl))
-    (three (λ p. is_start p.on ≡ false) (at terminal.Ed 2) (at terminal.Cm 2) (at terminal.Pi 2) refl refl refl);
+      (All-cons (λ p. is_start p.on ≡ false) (at terminal.SeAny 2) (at terminal.Dt 1 ∷ at terminal.Cm 1 ∷ at terminal.Pi 1 ∷ []) refl (three (λ p. is_start p.on ≡ false) (at terminal.Dt 1) (at terminal.Cm 1) (at terminal.Pi 1) refl refl refl))
+      (three (λ p. is_start p.on ≡ false) (at terminal.Ed 2) (at terminal.Cm 2) (at terminal.Pi 2) refl refl refl);
   never_back = all_in (λ p. p.to ≢ 0) (apart 0) (apart 1) (apart 0) (apart 0) (apart 0) (apart 1) (apart 1) (apart 1);
 }
 

@@ -1,5 +1,5 @@
 -- The options of a stream (W3C EXI 1.0, section 5.4) as what they switch on.
-use Rattle.std.specs.Prelude.{ℕ, Bool, ◌==◌, None, if◌then◌else◌}
+use Rattle.std.specs.Prelude.{ℕ, Bool, ◌==◌, ◌&&◌, ◌||◌, None, if◌then◌else◌}
 use Rattle.std.specs.Int.RustNames.{bit_and}
 use Rattle.exi_bits.specs.declared.align.Align.{Align}
 use Rattle.exi_bits.specs.declared.align.Align.TheVariants as align
@@ -48,3 +48,8 @@ align_of o = if byte_aligned o then align.Bytes else align.Bits
 -- what holds where the header tells nothing else: bit-packed, nothing switched on, blocks of 1,000,000, no bounds
 abbrev pub default_options : Options
 default_options = record { flags = record { 0 = 0 }; schema = schema.Absent; block = 1_000_000; most = None; capacity = None }
+
+-- options that may not be on together: strict with what it leaves out, and self-contained elements with prefixes (the
+-- second is the codec's own)
+abbrev pub conflicts : Options → Bool
+conflicts o = (strict o && (dtd o || prefixes o || comments o || processing_instructions o || self_contained o)) || (self_contained o && prefixes o)

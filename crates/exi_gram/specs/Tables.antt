@@ -1,6 +1,9 @@
 -- The codes of a state as they are kept: the productions in the order of their codes, how many have codes of one
 -- part, and for each second part where its productions begin and how many they are.
-use Rattle.std.specs.Prelude.{◌≡◌, ℕ, zero, suc, ◌+◌, ◌<◌, ◌≤◌, ◌^◌, Bool, true, false, Option, None, Some, List, [], ◌∷◌, ◌++◌, length, map, take, drop, if◌then◌else◌}
+use Rattle.std.specs.Prelude.{◌≡◌, ℕ, zero, suc, ◌+◌, ◌<◌, ◌≤◌, ◌^◌, Bool, true, false, Option, None, Some, List, [], ◌∷◌, ◌++◌, length, map, take, drop, get_or, if◌then◌else◌}
+use Rattle.exi_bits.specs.declared.align.Align.{Align}
+use Rattle.exi_bits.specs.Bits.{number}
+use Rattle.exi_bits.specs.Widths.{width_for}
 use Rattle.exi_gram.specs.declared.code.Code.{Code}
 use Rattle.exi_gram.specs.declared.code.Coded.{Coded as Kept}
 use Rattle.exi_gram.specs.declared.grammar.Production.{Production}
@@ -104,3 +107,40 @@ places_of s = if s.group then group (counting s.begin s.count) else single s.beg
 -- the places in the place of the productions
 abbrev pub places_in : ℕ → List SecondPart → Productions ℕ
 places_in firsts seconds = record { firsts = counting 0 firsts; seconds = map places_of seconds }
+
+-- the code of the production at a place
+abbrev pub parts_at : {X : Type 0} → Productions X → ℕ → List ℕ
+parts_at p place = get_or (map (λ c. c.parts) (coded p)) place []
+
+-- ---- the bits of a code that is kept
+-- how many values a first part has
+abbrev pub first_count : ℕ → List SecondPart → ℕ
+first_count firsts [] = firsts
+first_count firsts (s ∷ ss) = firsts + 1
+
+abbrev pub count_at : List SecondPart → ℕ → ℕ
+count_at ss second = (get_or ss second (record { begin = 0; count = 0; group = false })).count
+
+abbrev pub third_bits : Align → ℕ → Option ℕ → List Bool
+third_bits a count None = []
+third_bits a count (Some third) = number (width_for count) a third
+
+abbrev pub second_bits : Align → List SecondPart → Option ℕ → Option ℕ → List Bool
+second_bits a ss None third = []
+second_bits a ss (Some second) third = number (width_for (length ss)) a second ++ third_bits a (count_at ss second) third
+
+abbrev pub kept_bits : Align → ℕ → List SecondPart → Code → List Bool
+kept_bits a firsts ss code = number (width_for (first_count firsts ss)) a code.first ++ second_bits a ss code.second code.third
+
+-- the parts of the code are among the values that they can have
+abbrev pub ThirdFits : ℕ → Option ℕ → Type 0
+ThirdFits count None = Unit {0}
+ThirdFits count (Some third) = third < count
+
+abbrev pub SecondFits : List SecondPart → Option ℕ → Option ℕ → Type 0
+SecondFits ss None third = Unit {0}
+SecondFits ss (Some second) third = (second < length ss) × ThirdFits (count_at ss second) third
+
+pub record CodeFits (firsts : ℕ) (ss : List SecondPart) (code : Code) : Type 0 where
+  pub first : code.first < first_count firsts ss
+  pub longer : SecondFits ss code.second code.third

@@ -1,6 +1,8 @@
 //! What is spelled and what is read are the same. Each law is a function that does nothing: what it
 //! ensures is the law, for productions of any type.
 
+ghost use Rattle.exi_gram.specs.Document.{without_schema};
+ghost use Rattle.exi_gram.specs.Schemas.{IsSchema};
 ghost use Rattle.exi_gram.specs.Laws.{CodeIsNoPrefix, CodeIsRead, CodeIsSpelled, MappedIsRead, PlacedIsNumbered, PrunedIsClosedUp};
 
 /// The production that is read has a code of the state, and the bits of that code were taken.
@@ -31,4 +33,9 @@ pub fn mapped_is_read<T, U>()
 /// With places in the productions' place, the codes tell the places in their order.
 pub fn placed_is_numbered<T>()
     ensures { PlacedIsNumbered T }
+{}
+
+/// The Document grammar alone is a schema, as every schema has to be: what there is without one.
+pub fn without_schema_is_schema()
+    ensures { IsSchema without_schema }
 {}

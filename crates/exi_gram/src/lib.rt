@@ -1,6 +1,7 @@
 //! Grammars, event codes and options of EXI 1.0.
 #![tactic(auto)]
 
+mod book;
 mod code;
 mod entry;
 mod grammar;
@@ -8,11 +9,14 @@ mod items;
 pub mod laws;
 mod options;
 mod part;
+mod read;
 mod schema;
 mod second;
 mod table;
 mod terminal;
+mod write;
 
+pub use book::{Book, read_code, write_code};
 pub use code::{Code, Coded};
 pub use entry::{ElementEntry, TypeEntry};
 pub use grammar::{Grammar, Production, Proto, Step};

@@ -35,32 +35,28 @@ impl Model for Schema {
 
     ghost coded = { Prim.hlevel (codes, datatype.the_row.coded) };
 
-    ghost view = {
-        λ s.
-            record {
-                known = s.known;
-                grammars = s.grammars;
-                globals = s.globals;
-                fragment = s.fragment;
-                attributes = s.attributes;
-                types = s.types;
-                names = s.names;
-            }
-    };
+    ghost view = { λ s.
+        record {
+          known = s.known;
+          grammars = s.grammars;
+          globals = s.globals;
+          fragment = s.fragment;
+          attributes = s.attributes;
+          types = s.types;
+          names = s.names;
+        } };
 
-    ghost invariant = {
-        λ s.
-            IsSchema
-                (record {
-                    known = s.known;
-                    grammars = s.grammars;
-                    globals = s.globals;
-                    fragment = s.fragment;
-                    attributes = s.attributes;
-                    types = s.types;
-                    names = s.names;
-                })
-    };
+    ghost invariant = { λ s.
+        IsSchema
+        (record {
+          known = s.known;
+          grammars = s.grammars;
+          globals = s.globals;
+          fragment = s.fragment;
+          attributes = s.attributes;
+          types = s.types;
+          names = s.names;
+        }) };
 }
 
 impl Schema {
@@ -77,30 +73,26 @@ impl Schema {
         types: Items<TypeEntry>,
         names: StartNames,
     ) -> Schema
-        requires schema {
-            IsSchema
-                (record {
-                    known = known;
-                    grammars = grammars;
-                    globals = globals;
-                    fragment = fragment;
-                    attributes = attributes;
-                    types = types;
-                    names = names;
-                })
-        }
-        ensures {
-            result
-                ≡ record {
-                    known = known;
-                    grammars = grammars;
-                    globals = globals;
-                    fragment = fragment;
-                    attributes = attributes;
-                    types = types;
-                    names = names;
-                }
-        }
+        requires schema { IsSchema
+            (record {
+              known = known;
+              grammars = grammars;
+              globals = globals;
+              fragment = fragment;
+              attributes = attributes;
+              types = types;
+              names = names;
+            }) }
+        ensures { result
+            ≡ record {
+              known = known;
+              grammars = grammars;
+              globals = globals;
+              fragment = fragment;
+              attributes = attributes;
+              types = types;
+              names = names;
+            } }
     {
         Schema {
             known,

@@ -1,10 +1,18 @@
-ghost use Rattle.std.specs.Prelude.{◌≡◌, ◌<◌, ◌≤◌, ◌^◌, ◌∷◌, ◌++◌, [], true, OnOk, OnErr, map, length};
-ghost use Rattle.exi_gram.specs.Codes.{coded, group, single};
-ghost use Rattle.exi_gram.specs.Tables.{coded_of, ends_in_group, no_productions, size, with_first, with_member, with_second};
+ghost use Rattle.std.specs.Prelude.{◌≡◌, ◌<◌, ◌≤◌, ◌^◌, ◌∷◌, ◌++◌, [], true, OnOk, OnErr, IfOk, map, length};
+ghost use Rattle.exi_bits.specs.Bits.{IsAligned};
+ghost use Rattle.exi_bits.specs.Unsigned.{Reads};
+ghost use Rattle.exi_bits.specs.Written.{IsWholeBytes};
+ghost use Rattle.exi_items.specs.Fronts.{HoldsFront};
+ghost use Rattle.exi_gram.specs.Codes.{code_at, code_bits, coded, group, single};
+ghost use Rattle.exi_gram.specs.Laws.{codes, placed};
+ghost use Rattle.exi_gram.specs.Tables.{parts_at, coded_of, ends_in_group, no_productions, size, with_first, with_member, with_second};
 
 use crate::code::{Code, Coded};
 use crate::grammar::Production;
+use crate::read::read_first;
 use crate::second::SecondPart;
+use crate::write::write_kept;
+use exi_bits::{Align, BitIn, BitOut, Fault};
 use std::alloc::{AllocError, Global};
 use std::marker::Model;
 
@@ -153,5 +161,44 @@ impl CodeTable {
             });
         }
         Ok(())
+    }
+
+    /// Reads a code. Answers the place of its production in the order of the codes.
+    ///
+    /// # Errors
+    ///
+    /// At the first bit of a part: `Short` where the bits end before the part does, and `NoCode` where no
+    /// code goes on so. The place in the input is then unchanged.
+    pub fn read(&self, input: &mut BitIn<'_>, align: Align) -> Result<u32, Fault>
+        requires aligned { IsAligned align input.old }
+        ensures read { Reads (λ x. x) result input.old input.new (code_at align (placed self.now) input.old) }
+        ensures below { IfOk result (λ place. place < size self.now) }
+        ensures bytes { input.new.bytes ≡ input.old.bytes }
+        ensures aligned { IsAligned align input.new }
+    {
+        let bit = input.at();
+        match read_first(input, self.firsts, &self.seconds, align) {
+            Ok(place) => Ok(place),
+            Err(fault) => {
+                input.back(bit);
+                Err(fault)
+            }
+        }
+    }
+
+    /// Writes the code of the production at a place, which has to exist, as [`CodeTable::read`] reads it.
+    ///
+    /// # Errors
+    ///
+    /// `AllocError` where memory is refused. The bits then end with a front of the code, maybe none of it.
+    pub fn write(&self, out: &mut BitOut, place: u32, align: Align) -> Result<(), AllocError>
+        requires there { place < size self.now }
+        requires aligned { IsWholeBytes align out.old }
+        ensures ok { OnOk result (out.new ≡ out.old ++ code_bits align (codes self.now) (parts_at self.now place)) }
+        ensures err { OnErr result (HoldsFront out.old (code_bits align (codes self.now) (parts_at self.now place)) out.new) }
+        ensures aligned { IsWholeBytes align out.new }
+    {
+        let code = self.coded[place as usize].code;
+        write_kept(out, code, self.firsts, &self.seconds, align)
     }
 }
