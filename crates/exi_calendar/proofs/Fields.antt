@@ -6,6 +6,7 @@ use Rattle.std.proofs.lemmas.Fmt.{decimal_digit, decimal_step}
 use Rattle.std.proofs.lemmas.Option.{cond_some}
 use Rattle.std.specs.Prelude.{decimal, option_map, not, ℤ, pos, neg_ℤ, IfSome, unsigned_abs}
 use Rattle.exi_digits.specs.Digits.{has_any, is_digit, padded}
+use Rattle.exi_digits.proofs.Decimals.{digit_of}
 use Rattle.exi_calendar.specs.Parts.{IsIn, colon, hyphen, letter_z, no_mark, one_mark, plus}
 use Rattle.exi_calendar.specs.Forms.{SpellsZone, field_text, offset_text}
 use Rattle.exi_calendar.specs.Forms.SpellsZone.{absent, utc, east, west}
@@ -60,12 +61,6 @@ padded_two n low =
           rw (d, e) refl
     ]
 
-pub digit_is : (d : ℕ) → d < 10 → is_digit (48 + d) ≡ true
-digit_is d low =
-    let least : 48 ≤ 48 + d = omega arith in
-    let most : 48 + d ≤ 57 = omega arith in
-    rw (le-leb 48 (48 + d) least, le-leb (48 + d) 57 most) refl
-
 pub digit_bounds : (c : ℕ) → is_digit c ≡ true → (48 ≤ c) × (c ≤ 57)
 digit_bounds c e = let p = and_parts (leb 48 c) (leb c 57) e in (leb-true 48 c p.0, leb-true c 57 p.1)
 
@@ -75,7 +70,7 @@ two_digits_told least most n low high few =
     let q : n / 10 < 10 = omega arith in
     let r : n % 10 < 10 = omega arith in
     let e : (48 + n / 10 - 48) * 10 + (48 + n % 10 - 48) ≡ n = omega arith in
-    rw (digit_is (n / 10) q, digit_is (n % 10) r, e, le-leb least n low, le-leb n most high) refl
+    rw (digit_of (n / 10) q, digit_of (n % 10) r, e, le-leb least n low, le-leb n most high) refl
 
 two_digits_front : (least most n : ℕ) (rest : List ℕ) → least ≤ n → n ≤ most → n < 100 → two_digits_at least most (padded 2 n ++ rest) ≡ some (n, rest)
 two_digits_front least most n rest low high few = rw (padded_two n few) (ap (option_map (λ (k : ℕ). (k, rest))) (two_digits_told least most n low high few))
