@@ -1,0 +1,6 @@
+pub mod Blanks
+pub mod Letters
+pub mod Tables
+pub mod Appends
+pub mod Hexes
+pub mod Sixes

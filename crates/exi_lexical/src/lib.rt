@@ -1,0 +1,5 @@
+//! From the text of a value to the value and back.
+#![tactic(auto)]
+
+mod binaries;
+mod spaces;
