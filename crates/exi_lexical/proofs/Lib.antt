@@ -4,3 +4,4 @@ pub mod Tables
 pub mod Appends
 pub mod Hexes
 pub mod Sixes
+pub mod Same

@@ -2,4 +2,5 @@
 #![tactic(auto)]
 
 mod binaries;
+mod equality;
 mod spaces;
