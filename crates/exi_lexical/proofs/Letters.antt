@@ -1,5 +1,5 @@
 -- What bytes are in UTF-8, against the characters that they are of: white space, words and ASCII are the same.
-use Rattle.std.proofs.Common.{◌≡◌, ℕ, zero, suc, ◌+◌, ◌<◌, ◌≤◌, Bool, true, false, not, cond, ltb, ◌&&◌, List, [], ◌∷◌, ◌++◌, length, get_or, map, refl, sym, ap, ◌∙◌, subst, inl, inr, arith}
+use Rattle.std.proofs.Common.{◌≡◌, ℕ, zero, suc, ◌+◌, ◌<◌, ◌≤◌, Bool, true, false, not, cond, ltb, ◌&&◌, List, [], ◌∷◌, ◌++◌, length, get_or, map, None, refl, sym, ap, ◌∙◌, subst, inl, inr, arith}
 use Rattle.std.proofs.lemmas.List.{append-nil, length-append}
 use Rattle.std.proofs.lemmas.Bool.{cases_Bool, false≢true, and_parts}
 use Rattle.std.proofs.lemmas.Bool.Decides.{nat_tests}
@@ -7,6 +7,8 @@ use Rattle.std.proofs.lemmas.Str.{encode_ascii, inside_one, length-encode, len_u
 use Rattle.std.specs.List.{slice_split, onto_first, filter}
 use Rattle.std.specs.Str.{IsUtf8, IsAscii, IsNotAscii, chars}
 use lib.Utf8.{encode, encodes}
+use Rattle.exi_names.specs.Datatypes.{Representation}
+use Rattle.exi_lexical.specs.Values.{form_value, scalar_value}
 use Rattle.exi_lexical.specs.Spaces.{is_space, without_front, without_back, before_rest, trimmed, words, has_no_space, is_some_text, all_ascii}
 use Rattle.exi_lexical.proofs.Blanks.{space_below, put_before, split_word}
 
@@ -171,3 +173,11 @@ other_chars bs fits not_ascii = elim (cases_Bool (all_ascii (chars bs))) [
       absurd (above bs not_ascii (subst IsAscii same a))
   | inr h ↦ h
 ]
+
+pub no_ascii : (r : Representation) (text : List ℕ) → IsUtf8 text → IsNotAscii text → None ≡ scalar_value r (chars text)
+unfolding scalar_value
+no_ascii r text fits other = rw (other_chars text fits other) refl
+
+pub ascii_same : (r : Representation) (text : List ℕ) → IsAscii text → form_value r text ≡ scalar_value r (chars text)
+unfolding scalar_value
+ascii_same r text h = let a = ascii_chars text h in rw (a.0, a.1) refl

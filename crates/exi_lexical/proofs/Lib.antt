@@ -5,3 +5,4 @@ pub mod Appends
 pub mod Hexes
 pub mod Sixes
 pub mod Same
+pub mod Lists

@@ -5,7 +5,8 @@ use Rattle.std.proofs.lemmas.List.{drop_more, drop_all, length-map}
 use Rattle.std.proofs.lemmas.Slice.Eq.{bytes_eq-Decides}
 use Rattle.std.specs.Cmp.{signed_Decides}
 use Rattle.std.specs.Ordering.{int_eq}
-use Rattle.std.specs.Option.{option_eq}
+use Rattle.std.specs.Option.{is_some, option_eq}
+use Rattle.exi_lexical.specs.Values.{first_equal}
 use Rattle.std.specs.Str.{bytes_eq}
 use Rattle.exi_names.specs.Wholes.{Number}
 use Rattle.exi_names.specs.declared.moment.Moment.{Moment}
@@ -205,3 +206,15 @@ mutual
   pub all_equal_same : (vs : Values) → all_equal vs vs ≡ true
   all_equal_same no_more = refl
   all_equal_same (and v vs) = rw (equal_same v, all_equal_same vs) refl
+
+-- an enumerated value that equals a value is that value
+pub found_is : (v : Value) (ws : List Value) → is_some (first_equal v ws) ≡ true → first_equal v ws ≡ Some v
+found_is v [] h = absurd (false≢true h)
+found_is v (w ∷ ws) h = elim (cases_Bool (equal v w)) [
+  | inl e ↦ rw e (ap Some (sym (equal_is v w e)))
+  | inr e ↦ rw e (found_is v ws (rw e at h))
+]
+
+pub not_found : (o : Option Value) → is_some o ≡ false → o ≡ None
+not_found None h = refl
+not_found (Some v) h = absurd (false≢true (sym h))

@@ -4,3 +4,4 @@
 mod binaries;
 mod equality;
 mod spaces;
+mod values;

@@ -1,6 +1,7 @@
 //! White space in the text of a value.
 
 ghost use Rattle.std.specs.Prelude.{◌≡◌, true, ◌∷◌, ◌++◌, [], ◌<◌, length, MatchOption, IfSome};
+ghost use Rattle.std.specs.Str.{IsUtf8, chars};
 ghost use Rattle.exi_lexical.specs.Spaces.{IsBehindWord, has_no_space, is_space, without_front, without_back, trimmed, words};
 
 /// Whether a byte is a tab, a line feed, a carriage return or a space.
@@ -38,7 +39,7 @@ pub fn skip_back(text: &str) -> &str
 
 /// The text without the white space at either end.
 pub fn trim(text: &str) -> &str
-    ensures { result.now ≡ trimmed text.now }
+    ensures { chars result.now ≡ trimmed (chars text.now) }
 {
     skip_back(skip_front(text))
 }
@@ -48,6 +49,7 @@ fn cut(text: &str) -> (&str, &str)
     ensures parts { text.now ≡ result.0.now ++ result.1.now }
     ensures word { has_no_space result.0.now ≡ true }
     ensures rest { IsBehindWord result.1.now }
+    ensures texts { IsUtf8 result.0.now × IsUtf8 result.1.now }
 {
     let bytes = text.as_bytes();
     for (index, byte) in bytes.iter().enumerate() {
@@ -60,8 +62,9 @@ fn cut(text: &str) -> (&str, &str)
 
 /// The first word and what follows it, and nothing where there is only white space.
 pub fn next_word(text: &str) -> Option<(&str, &str)>
-    ensures words { MatchOption result (words text.now ≡ []) (λ p. words text.now ≡ p.0.now ∷ words p.1.now) }
+    ensures words { MatchOption result (words (chars text.now) ≡ []) (λ p. words (chars text.now) ≡ chars p.0.now ∷ words (chars p.1.now)) }
     ensures shorter { IfSome result (λ p. length p.1.now < length text.now) }
+    ensures texts { IfSome result (λ p. IsUtf8 p.1.now) }
 {
     let rest = skip_front(text);
     if rest.is_empty() {

@@ -1,0 +1,152 @@
+//! The value of a text.
+
+ghost use Rattle.std.specs.Prelude.{◌≡◌, IfOk, option_map};
+ghost use Rattle.std.specs.Option.{is_some};
+ghost use Rattle.std.specs.Str.{chars};
+ghost use Rattle.exi_names.specs.Datatypes.{represented};
+ghost use Rattle.exi_names.specs.Seen.{items, seen, vals, values_of};
+ghost use Rattle.exi_lexical.specs.Values.{binary_value, boolean_value, chosen, first_equal, form_value, list_value, scalar_value, value};
+
+use crate::binaries::{base64_value, hex_value};
+use crate::equality::same;
+use crate::spaces::{next_word, trim};
+use exi_names::{Datatype, Txt, Val, ValList};
+use std::alloc::{AllocError, Global};
+
+/// How many items a list may have.
+const MOST_ITEMS: usize = 65_536;
+
+/// The value of one of the four texts of a boolean, if the text is such.
+#[tactic(auto, unfolding(crate::specs::Values::boolean_value))]
+fn boolean(pattern: bool, text: &str) -> Option<Val>
+    ensures { option_map seen result ≡ boolean_value pattern text.now }
+{
+    match text {
+        "true" => Some(Val::Bool {
+            yes: true,
+            digit: false,
+        }),
+        "false" => Some(Val::Bool {
+            yes: false,
+            digit: false,
+        }),
+        "1" => Some(Val::Bool {
+            yes: true,
+            digit: pattern,
+        }),
+        "0" => Some(Val::Bool {
+            yes: false,
+            digit: pattern,
+        }),
+        _ => None,
+    }
+}
+
+/// The octets that a text spells, if it does.
+fn binary(alloc: Global, hex: bool, text: &[u8]) -> Result<Option<Val>, AllocError>
+    ensures { IfOk result (λ v. option_map seen v ≡ binary_value hex text.now) }
+{
+    let octets = if hex {
+        hex_value(alloc, text)?
+    } else {
+        base64_value(alloc, text)?
+    };
+    Ok(octets.map(|octets| Val::Bin { hex, octets }))
+}
+
+/// The value of an ASCII text in the form of a datatype whose values are neither strings, lists, names nor
+/// enumerated; none under any other.
+fn form(alloc: Global, kind: &Datatype, text: &str) -> Result<Option<Val>, AllocError>
+    ensures { IfOk result (λ v. option_map seen v ≡ form_value (represented kind.now) text.now) }
+{
+    match kind {
+        Datatype::Boolean { pattern } => Ok(boolean(*pattern, text)),
+        Datatype::Binary { hex } => binary(alloc, *hex, text.as_bytes()),
+        _ => Ok(None),
+    }
+}
+
+/// The value of a trimmed text under such a datatype. The forms have ASCII characters alone.
+fn scalar(alloc: Global, kind: &Datatype, text: &str) -> Result<Option<Val>, AllocError>
+    ensures { IfOk result (λ v. option_map seen v ≡ scalar_value (represented kind.now) (chars text.now)) }
+{
+    if !text.is_ascii() {
+        return Ok(None);
+    }
+    form(alloc, kind, text)
+}
+
+/// Whether a value equals one of these.
+fn is_among(value: &Val, values: &ValList) -> bool
+    ensures { result ≡ is_some (first_equal (seen value.now) (vals values.now)) }
+{
+    for other in &values.items {
+        if same(value, other) {
+            return true;
+        }
+    }
+    false
+}
+
+/// The value of a text under a datatype, if it has one.
+#[cycle(value)]
+#[tactic(auto, unfolding(crate::specs::Values::value))]
+pub fn value_in(alloc: Global, kind: &Datatype, text: &str) -> Result<Option<Val>, AllocError>
+    ensures { IfOk result (λ v. option_map seen v ≡ value (represented kind.now) (chars text.now)) }
+{
+    match kind {
+        Datatype::Text => Ok(Some(Val::Text(Txt::of(alloc, text)?))),
+        Datatype::Chars(_) => Ok(Some(Val::Text(Txt::of(alloc, text)?))),
+        Datatype::Name { prefixes: _ } => Ok(None),
+        Datatype::List(item) => list(alloc, item, text),
+        Datatype::Choice { base, values } => choice(alloc, base, values, trim(text)),
+        _ => scalar(alloc, kind, trim(text)),
+    }
+}
+
+/// The value that is a list of these.
+fn whole(list: ValList) -> Val
+    ensures { seen result ≡ items (values_of (vals list)) }
+{
+    Val::Items(list)
+}
+
+/// The list of the values of the words, if each has one and they are not too many.
+#[cycle(value)]
+fn list(alloc: Global, item: &Datatype, text: &str) -> Result<Option<Val>, AllocError>
+    ensures { IfOk result (λ v. option_map seen v ≡ list_value (λ w. value (represented item.now) w) (chars text.now)) }
+{
+    let mut items = ValList::new(alloc);
+    let mut rest = text;
+    while let Some((word, after)) = next_word(rest) {
+        if items.items.len() == MOST_ITEMS {
+            return Ok(None);
+        }
+        let Some(value) = value_in(alloc, item, word)? else {
+            return Ok(None);
+        };
+        items.push(value)?;
+        rest = after;
+    }
+    Ok(Some(whole(items)))
+}
+
+/// The value of a trimmed text under the base, if it is one of these.
+#[cycle(value)]
+fn choice(
+    alloc: Global,
+    base: &Datatype,
+    values: &ValList,
+    text: &str,
+) -> Result<Option<Val>, AllocError>
+    ensures { IfOk result (λ v. option_map seen v ≡ chosen (vals values.now) (value (represented base.now) (chars text.now))) }
+{
+    let Some(value) = value_in(alloc, base, text)? else {
+        return Ok(None);
+    };
+    if is_among(&value, values) {
+        Ok(Some(value))
+    } else {
+        Ok(None)
+    }
+}
