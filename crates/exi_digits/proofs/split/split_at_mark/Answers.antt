@@ -1,0 +1,24 @@
+use Rattle.std.proofs.Common.{◌+◌, List, ℕ, Some, ap, ◌∙◌, arith, get_or}
+use Rattle.exi_digits.specs.Splits.{is_mark}
+use Rattle.exi_digits.proofs.Splitting.{all_behind, mark_is, no_mark, passed_all, passed_more, passed_none, passed_to}
+use Rattle.exi_digits.proofs.split.split_at_mark.Goals as goal
+
+pub loop-place-init : goal.loop-place-init
+loop-place-init c = passed_none (is_mark c.args.mark) c.args.text.now
+
+pub returns-then-byte-mark-clause-before : goal.returns-then-byte-mark-clause-before
+returns-then-byte-mark-clause-before c =
+    (passed_to (is_mark c.args.mark) c.args.text.now c.loop-place.place (omega arith) (mark_is c.args.mark (get_or c.args.text.now c.loop-place.place 0) c.if-byte-mark.true) c.loop-place.invariant).0
+
+pub returns-then-byte-mark-clause-behind : goal.returns-then-byte-mark-clause-behind
+returns-then-byte-mark-clause-behind c =
+    ap (λ (t : List ℕ). Some t) (all_behind c.args.text.now (c.loop-place.place + 1)) ∙ (passed_to (is_mark c.args.mark) c.args.text.now c.loop-place.place (omega arith) (mark_is c.args.mark (get_or c.args.text.now c.loop-place.place 0) c.if-byte-mark.true) c.loop-place.invariant).1
+
+pub loop-place-preserved : goal.loop-place-preserved
+loop-place-preserved c = passed_more (is_mark c.args.mark) c.args.text.now c.loop-place.place (omega arith) (no_mark c.args.mark (get_or c.args.text.now c.loop-place.place 0) c.if-byte-mark.false) c.loop-place.invariant
+
+pub returns-clause-before : goal.returns-clause-before
+returns-clause-before c = (passed_all (is_mark c.args.mark) c.args.text.now c.loop-place.place (omega arith) c.loop-place.invariant).0
+
+pub returns-clause-behind : goal.returns-clause-behind
+returns-clause-behind c = (passed_all (is_mark c.args.mark) c.args.text.now c.loop-place.place (omega arith) c.loop-place.invariant).1

@@ -1,0 +1,4 @@
+pub mod Integers
+pub mod Decimals
+pub mod Floats
+pub mod Laws
