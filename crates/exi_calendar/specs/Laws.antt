@@ -1,0 +1,25 @@
+-- The laws between the texts of a date or a time and their value.
+use Rattle.std.specs.Prelude.{◌≡◌, ◌↔◌, Some, List, ℕ}
+use Rattle.exi_names.specs.declared.moment.Moment.{Moment}
+use Rattle.exi_names.specs.declared.moment.MomentKind.{MomentKind}
+use Rattle.exi_calendar.specs.Parts.{IsInRanges}
+use Rattle.exi_calendar.specs.Forms.{Spells, moment_text}
+use Rattle.exi_calendar.specs.Reading.{moment_value}
+
+-- the value is of the kind, in its ranges, and the text is one of its texts
+pub record IsValueOf (k : MomentKind) (text : List ℕ) (m : Moment) : Type 0 where
+  pub kind_is : m.kind ≡ k
+  pub ranges : IsInRanges m
+  pub spells : Spells m text
+
+-- a text has a value exactly where it is one of the texts of the value
+abbrev pub ValueIsByForm : Type 0
+ValueIsByForm = (k : MomentKind) (text : List ℕ) (m : Moment) → (moment_value k text ≡ Some m) ↔ IsValueOf k text m
+
+-- the canonical text has the value that it was made of
+abbrev pub CanonicalTextHasItsValue : Type 0
+CanonicalTextHasItsValue = (m : Moment) → IsInRanges m → moment_value m.kind (moment_text m) ≡ Some m
+
+-- so every value that a text has comes back from its canonical text
+abbrev pub ValueComesBack : Type 0
+ValueComesBack = (k : MomentKind) (text : List ℕ) (m : Moment) → moment_value k text ≡ Some m → moment_value k (moment_text m) ≡ Some m
