@@ -6,3 +6,5 @@ pub mod Hexes
 pub mod Sixes
 pub mod Same
 pub mod Lists
+pub mod Graphic
+pub mod Joined

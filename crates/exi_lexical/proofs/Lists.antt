@@ -1,6 +1,6 @@
 -- The values of several texts, one after another.
-use Rattle.std.proofs.Common.{◌≡◌, ℕ, suc, ◌+◌, ◌<◌, ◌≤◌, Bool, true, false, List, [], ◌∷◌, ◌++◌, length, Option, Some, None, option_map, refl, sym, ap, ◌∙◌, subst, inl, inr, nat_le, arith}
-use Rattle.std.proofs.lemmas.List.{append-nil, append_assoc}
+use Rattle.std.proofs.Common.{◌≡◌, ℕ, suc, ◌+◌, ◌<◌, ◌≤◌, Bool, true, false, List, [], ◌∷◌, ◌++◌, length, drop, get_or, Option, Some, None, option_map, refl, sym, ap, ◌∙◌, subst, inl, inr, nat_le, arith}
+use Rattle.std.proofs.lemmas.List.{append-nil, append_assoc, drop_more}
 use Rattle.exi_names.specs.Seen.{Value, items, values_of}
 use Rattle.exi_lexical.specs.Values.{each_value, list_value, value_before}
 use Rattle.exi_lexical.specs.Spaces.{words}
@@ -42,3 +42,8 @@ none_listed f t h = elim (cases_Bool (nat_le (length (words t)) 65_536)) [
 pub listed : (f : List ℕ → Option Value) (t : List ℕ) (vs : List Value) → each_value f (words t) ≡ Some vs → length (words t) ≤ 65_536 → list_value f t ≡ Some (items (values_of vs))
 unfolding list_value
 listed f t vs h few = let e : nat_le (length (words t)) 65_536 ≡ true = grind (arith, nat_tests) in rw (e, h) refl
+
+-- the item that a loop reads
+pub at_item : {X : Type 0} (xs ys : List X) (i : ℕ) (x : X) → ys ≡ xs → i < length ys → x ≡ get_or ys i x → drop i xs ≡ x ∷ drop (i + 1) xs
+at_item {X} xs ys i x e lt is =
+    ap (λ (zs : List X). drop i zs) (sym e) ∙ drop_more ys i x lt ∙ ap (λ (z : X). z ∷ drop (i + 1) ys) (sym is) ∙ ap (λ (zs : List X). x ∷ drop (i + 1) zs) e

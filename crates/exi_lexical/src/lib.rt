@@ -2,6 +2,7 @@
 #![tactic(auto)]
 
 mod binaries;
+mod canonical;
 mod equality;
 mod spaces;
 mod values;
