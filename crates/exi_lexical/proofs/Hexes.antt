@@ -1,7 +1,7 @@
 -- Hex digits in pairs, as the crate `hex` reads and writes them.
 use Rattle.std.proofs.Common.{◌≡◌, ℕ, zero, suc, ◌+◌, ◌*◌, ◌/◌, ◌%◌, ◌<◌, ◌≤◌, Bool, true, false, cond, ◌==◌, List, [], ◌∷◌, ◌++◌, length, Option, Some, None, Result, Ok, Err, refl, sym, ap, ◌∙◌, subst, inl, inr, arith}
 use Rattle.std.proofs.lemmas.Bool.Decides.{nat_tests}
-use Rattle.std.proofs.lemmas.Bool.{cases_eq, eqb-true}
+use Rattle.std.proofs.lemmas.Bool.{cases_Bool, cases_eq, eqb-true, false≢true}
 use Rattle.std.specs.Result.{result_ok}
 use Rattle.std.specs.Prelude.{slice_index}
 use Rattle.hex.specs.Hex.{◌>>=◌, decode_of, decode_pairs, digit_or_error, encode_with, hex_digit_value, upper_digits}
@@ -66,3 +66,48 @@ upper_is [] fits = refl
 upper_is (o ∷ os) fits =
     let lt = fits 0 in
     rw (sign_is (o / 16) (omega arith), sign_is (o % 16) (omega arith), upper_is os (λ i. fits (suc i))) refl
+
+-- ---- reading what is written
+abbrev is_digit_of : ℕ → Option ℕ → Bool
+is_digit_of n (Some m) = m == n
+is_digit_of n None = false
+
+digit_back : (n : ℕ) (d : Option ℕ) → is_digit_of n d ≡ true → d ≡ Some n
+digit_back n (Some m) h = ap (λ (k : ℕ). Some k) (eqb-true m n h)
+digit_back n None h = absurd (false≢true h)
+
+sign_read : (n : ℕ) → n < 16 → hex_digit (hex_sign n) ≡ Some n
+unfolding all_below
+sign_read n lt = digit_back n (hex_digit (hex_sign n)) (at_below (λ k. is_digit_of k (hex_digit (hex_sign k))) 16 n refl lt)
+
+pub hex_read : (os : List ℕ) → ((i : ℕ) → slice_index os i < 256) → hex_octets (hex_text os) ≡ Some os
+unfolding hex_octets hex_text
+hex_read [] fits = refl
+hex_read (o ∷ os) fits =
+    let lt : o < 256 = fits 0 in
+    let whole : o / 16 * 16 + o % 16 ≡ o = omega arith in
+    rw (sign_read (o / 16) (omega arith), sign_read (o % 16) (omega arith), hex_read os (λ i. fits (suc i)), whole) refl
+
+hex_digit_below : (c n : ℕ) → hex_digit c ≡ Some n → n < 16
+hex_digit_below c n h = grind (arith, nat_tests)
+
+octet_is : (h l : Option ℕ) (o : Option (List ℕ)) (os : List ℕ) → octet_before h l o ≡ Some os
+    → (a : ℕ) × (b : ℕ) × (more : List ℕ) × (h ≡ Some a) × (l ≡ Some b) × (o ≡ Some more) × (os ≡ (a * 16 + b) ∷ more)
+octet_is None l o os e = cc e
+octet_is (Some a) None o os e = cc e
+octet_is (Some a) (Some b) None os e = cc e
+octet_is (Some a) (Some b) (Some more) os e = (a, b, more, refl, refl, refl, cc e)
+
+fits_first : (o : ℕ) (os : List ℕ) → o < 256 → ((i : ℕ) → slice_index os i < 256) → (i : ℕ) → slice_index (o ∷ os) i < 256
+fits_first o os lt fits zero = lt
+fits_first o os lt fits (suc i) = fits i
+
+pub hex_fits : (t os : List ℕ) → hex_octets t ≡ Some os → (i : ℕ) → slice_index os i < 256
+unfolding hex_octets
+hex_fits [] os e = let h : os ≡ [] = cc e in rw h (λ i. omega arith)
+hex_fits (c ∷ []) os e = cc e
+hex_fits (c ∷ d ∷ t) os e =
+    let (a, b, more, ha, hb, ho, parts) = octet_is (hex_digit c) (hex_digit d) (hex_octets t) os e in
+    let la = hex_digit_below c a ha in
+    let lb = hex_digit_below d b hb in
+    rw parts (fits_first (a * 16 + b) more (omega arith) (hex_fits t more ho))

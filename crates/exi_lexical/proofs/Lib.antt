@@ -8,3 +8,5 @@ pub mod Same
 pub mod Lists
 pub mod Graphic
 pub mod Joined
+pub mod Trims
+pub mod Again

@@ -1,7 +1,7 @@
 -- Base64 digits in groups of four, as the crate `base64` reads and writes them.
 use Rattle.std.proofs.Common.{◌≡◌, ℕ, zero, suc, ◌+◌, ◌-◌, ◌*◌, ◌/◌, ◌%◌, ◌<◌, ◌≤◌, Bool, true, false, not, cond, ◌==◌, ◌&&◌, nat_lt, nat_le, List, [], ◌∷◌, ◌++◌, length, replicate, Option, Some, None, Result, Ok, Err, ◌↔◌, refl, sym, ap, ◌∙◌, subst, inl, inr, arith}
 use Rattle.std.proofs.lemmas.List.{append-nil}
-use Rattle.std.proofs.lemmas.Bool.{and_parts, cases_Bool, cases_eq, eqb-true, ltb-true, false≢true}
+use Rattle.std.proofs.lemmas.Bool.{and_parts, cases_Bool, cases_eq, cases_lt, eqb-true, ltb-true, false≢true}
 use Rattle.std.proofs.lemmas.Bool.Decides.{nat_tests}
 use Rattle.std.specs.Prelude.{slice_index}
 use Rattle.base64.specs.Rfc4648.{encode_symbols, padding_len}
@@ -56,6 +56,24 @@ sign_back c n (Some m) h e =
 digit_of : (c n : ℕ) → c < 256 → base64_digit c ≡ Some n → (n < 64) × (base64_sign n ≡ c)
 unfolding all_below
 digit_of c n lt e = sign_back c n (base64_digit c) (at_below (λ k. is_sign_of k (base64_digit k)) 256 c refl lt) e
+
+no_digit : (c : ℕ) → 256 ≤ c → base64_digit c ≡ None
+no_digit c big =
+    let a : nat_le 65 c ≡ true = grind (arith, nat_tests) in
+    let b : nat_le c 90 ≡ false = grind (arith, nat_tests) in
+    let d : nat_le 97 c ≡ true = grind (arith, nat_tests) in
+    let e : nat_le c 122 ≡ false = grind (arith, nat_tests) in
+    let f : nat_le 48 c ≡ true = grind (arith, nat_tests) in
+    let g : nat_le c 57 ≡ false = grind (arith, nat_tests) in
+    let h : (c == 43) ≡ false = grind (arith, nat_tests) in
+    let k : (c == 47) ≡ false = grind (arith, nat_tests) in
+    rw (a, b, d, e, f, g, h, k) refl
+
+digit_any : (c n : ℕ) → base64_digit c ≡ Some n → (n < 64) × (base64_sign n ≡ c)
+digit_any c n e = elim (cases_lt c 256) [
+  | inl lt ↦ digit_of c n lt e
+  | inr big ↦ let none = sym (no_digit c big) ∙ e in cc none
+]
 
 -- ---- what is written is the crate's encoding
 rest_fits : (o : ℕ) (os : List ℕ) → IsBytes (o ∷ os) → IsBytes os
@@ -136,7 +154,8 @@ two_is (Some a) (Some b) (Some c) os e = elim (cases_Bool (c % 4 == 0)) [
   | inr h ↦ let k = rw h at e in cc k
 ]
 
-three_is : (p q r s : Option ℕ) (os : List ℕ) → three_octets p q r s ≡ Some os
+three_is : (p q r s : Option ℕ) (os : List ℕ)
+    → three_octets p q r s ≡ Some os
     → (a : ℕ) × (b : ℕ) × (c : ℕ) × (d : ℕ) × (p ≡ Some a) × (q ≡ Some b) × (r ≡ Some c) × (s ≡ Some d) × (os ≡ (a * 4 + b / 16) ∷ (b % 16 * 16 + c / 4) ∷ (c % 4 * 64 + d) ∷ [])
 three_is None q r s os e = cc e
 three_is (Some a) None r s os e = cc e
@@ -154,16 +173,19 @@ record Group (others : Bool) (a b c d : ℕ) (os : List ℕ) : Type 0 where
   written : (more : List ℕ) → (others ≡ false → more ≡ []) → base64_text (os ++ more) ≡ a ∷ b ∷ c ∷ d ∷ base64_text more
   fits : (more : List ℕ) → IsBytes more → IsBytes (os ++ more)
 
+none_fits : IsBytes []
+none_fits i = omega arith
+
 fit_first : (o : ℕ) (os : List ℕ) → o < 256 → IsBytes os → IsBytes (o ∷ os)
 fit_first o os lt fits zero = lt
 fit_first o os lt fits (suc i) = fits i
 
-one_group : (a b : ℕ) (os : List ℕ) → a < 256 → b < 256 → one_octet (base64_digit a) (base64_digit b) ≡ Some os → Group false a b filler filler os
+one_group : (a b : ℕ) (os : List ℕ) → one_octet (base64_digit a) (base64_digit b) ≡ Some os → Group false a b filler filler os
 unfolding base64_text
-one_group a b os fa fb e =
+one_group a b os e =
     let (x, y, dx, dy, zero_bits, parts) = one_is (base64_digit a) (base64_digit b) os e in
-    let (lx, sx) = digit_of a x fa dx in
-    let (ly, sy) = digit_of b y fb dy in
+    let (lx, sx) = digit_any a x dx in
+    let (ly, sy) = digit_any b y dy in
     let ex : (x * 4 + y / 16) / 4 ≡ x = omega arith in
     let ey : (x * 4 + y / 16) % 4 * 16 ≡ y = omega arith in
     record {
@@ -171,13 +193,13 @@ one_group a b os fa fb e =
       fits = λ more fit. rw parts (fit_first (x * 4 + y / 16) more (omega arith) fit);
     }
 
-two_group : (a b c : ℕ) (os : List ℕ) → a < 256 → b < 256 → c < 256 → two_octets (base64_digit a) (base64_digit b) (base64_digit c) ≡ Some os → Group false a b c filler os
+two_group : (a b c : ℕ) (os : List ℕ) → two_octets (base64_digit a) (base64_digit b) (base64_digit c) ≡ Some os → Group false a b c filler os
 unfolding base64_text
-two_group a b c os fa fb fc e =
+two_group a b c os e =
     let (x, y, z, dx, dy, dz, zero_bits, parts) = two_is (base64_digit a) (base64_digit b) (base64_digit c) os e in
-    let (lx, sx) = digit_of a x fa dx in
-    let (ly, sy) = digit_of b y fb dy in
-    let (lz, sz) = digit_of c z fc dz in
+    let (lx, sx) = digit_any a x dx in
+    let (ly, sy) = digit_any b y dy in
+    let (lz, sz) = digit_any c z dz in
     let ex : (x * 4 + y / 16) / 4 ≡ x = omega arith in
     let ey : (x * 4 + y / 16) % 4 * 16 + (y % 16 * 16 + z / 4) / 16 ≡ y = omega arith in
     let ez : (y % 16 * 16 + z / 4) % 16 * 4 ≡ z = omega arith in
@@ -186,15 +208,15 @@ two_group a b c os fa fb fc e =
       fits = λ more fit. rw parts (fit_first (x * 4 + y / 16) ((y % 16 * 16 + z / 4) ∷ more) (omega arith) (fit_first (y % 16 * 16 + z / 4) more (omega arith) fit));
     }
 
-three_group : (others : Bool) (a b c d : ℕ) (os : List ℕ) → a < 256 → b < 256 → c < 256 → d < 256
+three_group : (others : Bool) (a b c d : ℕ) (os : List ℕ)
     → three_octets (base64_digit a) (base64_digit b) (base64_digit c) (base64_digit d) ≡ Some os → Group others a b c d os
 unfolding base64_text
-three_group others a b c d os fa fb fc fd e =
+three_group others a b c d os e =
     let (x, y, z, w, dx, dy, dz, dw, parts) = three_is (base64_digit a) (base64_digit b) (base64_digit c) (base64_digit d) os e in
-    let (lx, sx) = digit_of a x fa dx in
-    let (ly, sy) = digit_of b y fb dy in
-    let (lz, sz) = digit_of c z fc dz in
-    let (lw, sw) = digit_of d w fd dw in
+    let (lx, sx) = digit_any a x dx in
+    let (ly, sy) = digit_any b y dy in
+    let (lz, sz) = digit_any c z dz in
+    let (lw, sw) = digit_any d w dw in
     let ex : (x * 4 + y / 16) / 4 ≡ x = omega arith in
     let ey : (x * 4 + y / 16) % 4 * 16 + (y % 16 * 16 + z / 4) / 16 ≡ y = omega arith in
     let ez : (y % 16 * 16 + z / 4) % 16 * 4 + (z % 4 * 64 + w) / 64 ≡ z = omega arith in
@@ -205,17 +227,17 @@ three_group others a b c d os fa fb fc fd e =
         (fit_first (y % 16 * 16 + z / 4) ((z % 4 * 64 + w) ∷ more) (omega arith) (fit_first (z % 4 * 64 + w) more (omega arith) fit)));
     }
 
-group_is : (others : Bool) (a b c d : ℕ) (os : List ℕ) → a < 256 → b < 256 → c < 256 → d < 256 → group_octets others a b c d ≡ Some os → Group others a b c d os
-group_is true a b c d os fa fb fc fd e = three_group true a b c d os fa fb fc fd e
-group_is false a b c d os fa fb fc fd e = elim (cases_Bool (d == filler)) [
+group_is : (others : Bool) (a b c d : ℕ) (os : List ℕ) → group_octets others a b c d ≡ Some os → Group others a b c d os
+group_is true a b c d os e = three_group true a b c d os e
+group_is false a b c d os e = elim (cases_Bool (d == filler)) [
   | inl last ↦
       let k = rw last at e in
       let dd : d ≡ filler = eqb-true d filler last in
       elim (cases_Bool (c == filler)) [
-        | inl two ↦ let cd : c ≡ filler = eqb-true c filler two in rw (dd, cd) (one_group a b os fa fb (rw two at k))
-        | inr one ↦ rw dd (two_group a b c os fa fb fc (rw one at k))
+        | inl two ↦ let cd : c ≡ filler = eqb-true c filler two in rw (dd, cd) (one_group a b os (rw two at k))
+        | inr one ↦ rw dd (two_group a b c os (rw one at k))
       ]
-  | inr other ↦ three_group false a b c d os fa fb fc fd (rw other at e)
+  | inr other ↦ three_group false a b c d os (rw other at e)
 ]
 
 none_more : (t more : List ℕ) → base64_octets t ≡ Some more → is_some_text t ≡ false → more ≡ []
@@ -223,16 +245,16 @@ unfolding base64_octets
 none_more [] more e h = cc e
 none_more (c ∷ t) more e h = absurd (false≢true (sym h))
 
-pub text_is : (t os : List ℕ) → IsBytes t → base64_octets t ≡ Some os → (t ≡ base64_text os) × IsBytes os
+pub text_is : (t os : List ℕ) → base64_octets t ≡ Some os → (t ≡ base64_text os) × IsBytes os
 unfolding base64_octets base64_text
-text_is [] os fits e = let h : os ≡ [] = cc e in rw h (refl, fits)
-text_is (a ∷ []) os fits e = cc e
-text_is (a ∷ b ∷ []) os fits e = cc e
-text_is (a ∷ b ∷ c ∷ []) os fits e = cc e
-text_is (a ∷ b ∷ c ∷ d ∷ t) os fits e =
+text_is [] os e = let h : os ≡ [] = cc e in rw h (refl, none_fits)
+text_is (a ∷ []) os e = cc e
+text_is (a ∷ b ∷ []) os e = cc e
+text_is (a ∷ b ∷ c ∷ []) os e = cc e
+text_is (a ∷ b ∷ c ∷ d ∷ t) os e =
     let (first, more, group, rest, parts) = before_is (group_octets (is_some_text t) a b c d) (base64_octets t) os e in
-    let g = group_is (is_some_text t) a b c d first (fits 0) (fits 1) (fits 2) (fits 3) group in
-    let m = text_is t more (λ i. fits (suc (suc (suc (suc i))))) rest in
+    let g = group_is (is_some_text t) a b c d first group in
+    let m = text_is t more rest in
     let end : is_some_text t ≡ false → more ≡ [] = λ h. none_more t more rest h in
     rw parts (ap (λ (u : List ℕ). a ∷ b ∷ c ∷ d ∷ u) m.0 ∙ sym (g.written more end), g.fits more m.1)
 
@@ -240,7 +262,7 @@ refused_by : (t : List ℕ) (o : Option (List ℕ)) (d : _) → IsBytes t → ba
     → ((b : List ℕ) → IsBytes b → (decode_of standard t ≡ Ok b) ↔ (t ≡ encode_of standard b)) → None ≡ o
 refused_by t None d fits e failed strict = refl
 refused_by t (Some os) d fits e failed strict =
-    let m = text_is t os fits e in
+    let m = text_is t os e in
     let same : t ≡ encode_of standard os = m.0 ∙ sym (standard_is os m.1) in
     let read = (strict os m.1).1 same in
     cc (sym failed ∙ read)

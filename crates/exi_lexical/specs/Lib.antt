@@ -3,3 +3,4 @@ pub mod Binaries
 pub mod Equality
 pub mod Stubs
 pub mod Values
+pub mod Laws

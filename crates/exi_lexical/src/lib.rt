@@ -4,5 +4,6 @@
 mod binaries;
 mod canonical;
 mod equality;
+pub mod laws;
 mod spaces;
 mod values;
