@@ -1,4 +1,5 @@
 ghost use Rattle.std.specs.Prelude.{◌≡◌, ◌++◌, OnOk, OnErr, string_bytes};
+ghost use Rattle.exi_digits.specs.Digits.{has_any};
 ghost use Rattle.exi_digits.specs.Pushed.{HoldsFront};
 ghost use Rattle.exi_numerals.specs.Decimals.{decimal_text, decimal_value, fraction_digits, whole_digits};
 ghost use Rattle.exi_numerals.specs.Integers.{has_minus};
@@ -32,6 +33,13 @@ pub fn split_decimal(text: &[u8]) -> (bool, &[u8], &[u8])
     }
 }
 
+/// Whether there is a digit on either side of the point.
+pub fn has_digits(whole: &[u8], fraction: &[u8]) -> bool
+    ensures { result ≡ has_any (whole.now ++ fraction.now) }
+{
+    !whole.is_empty() || !fraction.is_empty()
+}
+
 /// The value of a decimal's text: an optional sign, and digits with an optional point, one digit at least.
 /// Nothing where the text is another, or where the part before the point, or the number of the fraction's digits
 /// in reverse, is not below 2^128.
@@ -39,7 +47,7 @@ pub fn decimal_of(text: &[u8]) -> Option<Decimal>
     ensures { result ≡ decimal_value text.now }
 {
     let (minus, whole, fraction) = split_decimal(text);
-    if whole.is_empty() && fraction.is_empty() {
+    if !has_digits(whole, fraction) {
         return None;
     }
     let whole = number_behind(0, whole)?;

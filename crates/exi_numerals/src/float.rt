@@ -1,11 +1,11 @@
-ghost use Rattle.std.specs.Prelude.{◌≡◌, ◌++◌, pos, ◌-ℤ◌, OnOk, OnErr, string_bytes, option_copied};
+ghost use Rattle.std.specs.Prelude.{◌≡◌, ◌++◌, pos, ◌-ℤ◌, ◌<◌, ◌^◌, OnOk, OnErr, string_bytes, option_copied};
 ghost use Rattle.std.specs.Fmt.{signed_decimal};
 ghost use Rattle.exi_digits.specs.Pushed.{HoldsFront};
 ghost use Rattle.exi_names.specs.Wholes.{number};
 ghost use Rattle.exi_numerals.specs.Floats.{exponent_in, float_text, float_value, held, is_exponent, is_mantissa, mantissa_in, no_number, number_value, special_text};
 ghost use Rattle.exi_numerals.specs.Integers.{int_of};
 
-use crate::decimal::split_decimal;
+use crate::decimal::{has_digits, split_decimal};
 use crate::integer::wide_of;
 use exi_digits::{number_behind, split_at_either};
 use exi_names::Whole;
@@ -47,13 +47,22 @@ fn mantissa_of(text: &[u8]) -> Option<(i64, usize)>
     ensures { result ≡ mantissa_in text.now }
 {
     let (minus, whole, fraction) = split_decimal(text);
-    if whole.is_empty() && fraction.is_empty() {
+    if !has_digits(whole, fraction) {
         return None;
     }
     let whole = number_behind(0, whole)?;
     let size = number_behind(whole, fraction)?;
     let mantissa = signed(minus, size)?;
     Some((mantissa, fraction.len()))
+}
+
+/// The number.
+fn int_of(whole: Whole) -> i128
+    requires near { whole.size < 2 ^ 127 }
+    ensures { result ≡ int_of whole }
+{
+    let size = whole.size as i128;
+    if whole.minus { -size } else { size }
 }
 
 /// The written exponent less the number of the fraction's digits, where it is from -16383 to 16383.
@@ -63,8 +72,7 @@ fn less(written: Whole, count: usize) -> Option<i16>
     if written.size > 1 << 65 {
         return None;
     }
-    let size = written.size as i128;
-    let exponent = if written.minus { -size } else { size } - count as i128;
+    let exponent = int_of(written) - count as i128;
     if -16383 <= exponent && exponent <= 16383 {
         Some(exponent as i16)
     } else {

@@ -46,19 +46,19 @@ pub fn unsigned_of(text: &[u8]) -> Option<Whole>
     if whole.minus { None } else { Some(whole) }
 }
 
-/// How far the number is above `least`; nothing where it is below it, or 2^128 or more above it.
-fn distance(least: i128, whole: Whole) -> Option<u128> {
+/// Whether the number is one of the `count` numbers from `least` on.
+fn is_small(least: i128, count: u16, whole: Whole) -> bool
+    requires wide { whole.size < 2 ^ 128 }
+    ensures { result ≡ is_small least count whole }
+{
     let start = least.unsigned_abs();
-    if least < 0 {
-        if whole.minus {
-            start.checked_sub(whole.size)
-        } else {
-            start.checked_add(whole.size)
-        }
+    let count = u128::from(count);
+    if least >= 0 {
+        !whole.minus && start <= whole.size && whole.size - start < count
     } else if whole.minus {
-        None
+        whole.size <= start && start - whole.size < count
     } else {
-        whole.size.checked_sub(start)
+        whole.size < count && start + whole.size < count
     }
 }
 
@@ -68,9 +68,10 @@ pub fn small_of(text: &[u8], least: i128, count: u16) -> Option<Whole>
     ensures { result ≡ integer_in (is_small least count) text.now }
 {
     let whole = wide_of(text)?;
-    match distance(least, whole) {
-        Some(steps) if steps < u128::from(count) => Some(whole),
-        _ => None,
+    if is_small(least, count, whole) {
+        Some(whole)
+    } else {
+        None
     }
 }
 
