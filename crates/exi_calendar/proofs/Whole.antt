@@ -10,7 +10,7 @@ use Rattle.exi_calendar.specs.Parts.{IsFraction, IsInRanges, layout}
 use Rattle.exi_calendar.specs.Forms.{Spells, SpellsFraction, SpellsZone, field_text, fraction_text, moment_text, year_text, zone_text}
 use Rattle.exi_calendar.specs.Forms.SpellsZone.{absent, utc, east, west}
 use Rattle.exi_calendar.specs.Reading.{◌>>=◌, field_at, fraction_at, moment_value, year_at, zone_of}
-use Rattle.exi_calendar.specs.Laws.{CanonicalTextHasItsValue, IsValueOf, ValueComesBack, ValueIsByForm}
+use Rattle.exi_calendar.specs.Laws.{CanonicalTextHasItsValue, IsValueOf, ValueComesBack, ValueIsByForm, ValueIsOne}
 use Rattle.exi_calendar.proofs.Fields.{field_back, field_front, some, some_is, zone_back, zone_front}
 use Rattle.exi_calendar.proofs.Years.{ends, year_back, year_front}
 use Rattle.exi_calendar.proofs.Fractions.{fraction_back, fraction_front}
@@ -131,3 +131,6 @@ pub value_again : ValueComesBack
 value_again k text m e =
     let v = value_back k text m e in
     subst (λ (kind : MomentKind). moment_value kind (moment_text m) ≡ some m) v.kind_is (canonical_value m v.ranges)
+
+pub one_value : ValueIsOne
+one_value k text m n v w = some_is m n (sym ((value_by_form k text m).1 v) ∙ (value_by_form k text n).1 w)

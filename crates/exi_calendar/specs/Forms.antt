@@ -1,6 +1,6 @@
 -- The texts of a date or a time (XML Schema 1.0 Part 2, sections 3.2.7 to 3.2.14): its fields one after another,
 -- as its form writes them; and the one of these texts that is written.
-use Rattle.std.specs.Prelude.{◌≡◌, IsTrue, ℕ, zero, suc, ◌/◌, ◌%◌, Bool, true, false, List, [], ◌∷◌, ◌++◌, Option, Some, None, ℤ, pos, negsuc, neg_ℤ}
+use Rattle.std.specs.Prelude.{◌≡◌, IsTrue, ℕ, zero, suc, ◌/◌, ◌%◌, Bool, true, false, List, [], ◌∷◌, ◌++◌, Option, Some, None, ℤ, pos, negsuc, neg_ℤ, ◌&&◌, nat_lt}
 use Rattle.exi_names.specs.declared.moment.Moment.{Moment}
 use Rattle.exi_digits.specs.Digits.{back_of, fraction_of, is_numeral, padded}
 use Rattle.exi_calendar.specs.Parts.{colon, hyphen, layout, letter_z, plus, point}
@@ -63,3 +63,8 @@ zone_text (Some (negsuc n)) = hyphen ∷ offset_text (suc n)
 
 unfoldable pub moment_text : Moment → List ℕ
 moment_text m = date_text m ++ time_text m ++ fraction_text m.fraction ++ zone_text m.zone
+
+-- each is a character that can be seen, from 33 to 126: neither white space nor beyond ASCII
+abbrev pub all_visible : List ℕ → Bool
+all_visible [] = true
+all_visible (c ∷ text) = nat_lt 32 c && nat_lt c 127 && all_visible text

@@ -1,9 +1,9 @@
 -- The laws between the texts of a date or a time and their value.
-use Rattle.std.specs.Prelude.{◌≡◌, ◌↔◌, Some, List, ℕ}
+use Rattle.std.specs.Prelude.{◌≡◌, ◌↔◌, IsTrue, Some, List, ℕ}
 use Rattle.exi_names.specs.declared.moment.Moment.{Moment}
 use Rattle.exi_names.specs.declared.moment.MomentKind.{MomentKind}
 use Rattle.exi_calendar.specs.Parts.{IsInRanges}
-use Rattle.exi_calendar.specs.Forms.{Spells, moment_text}
+use Rattle.exi_calendar.specs.Forms.{Spells, all_visible, moment_text}
 use Rattle.exi_calendar.specs.Reading.{moment_value}
 
 -- the value is of the kind, in its ranges, and the text is one of its texts
@@ -23,3 +23,11 @@ CanonicalTextHasItsValue = (m : Moment) → IsInRanges m → moment_value m.kind
 -- so every value that a text has comes back from its canonical text
 abbrev pub ValueComesBack : Type 0
 ValueComesBack = (k : MomentKind) (text : List ℕ) (m : Moment) → moment_value k text ≡ Some m → moment_value k (moment_text m) ≡ Some m
+
+-- the canonical text can be seen: no white space, nothing beyond ASCII
+abbrev pub CanonicalTextIsVisible : Type 0
+CanonicalTextIsVisible = (m : Moment) → IsInRanges m → IsTrue (all_visible (moment_text m))
+
+-- a text has one value at most
+abbrev pub ValueIsOne : Type 0
+ValueIsOne = (k : MomentKind) (text : List ℕ) (m n : Moment) → IsValueOf k text m → IsValueOf k text n → m ≡ n

@@ -1,7 +1,10 @@
-//! x
-ghost use Rattle.exi_calendar.specs.Laws.{CanonicalTextHasItsValue, ValueComesBack, ValueIsByForm};
+//! What holds between the texts of a date or a time and its value. Each law is a function that does nothing: what
+//! it ensures is the law.
 
-/// A text has a value exactly where it is one of the texts of that value, in its form and its ranges.
+ghost use Rattle.exi_calendar.specs.Laws.{CanonicalTextHasItsValue, CanonicalTextIsVisible, ValueIsOne, ValueComesBack, ValueIsByForm};
+
+/// A text has a value exactly where it is one of the texts of that value: its fields one after another, as the form
+/// of the kind writes them, each in its range.
 pub fn value_is_by_form()
     ensures { ValueIsByForm }
 {}
@@ -14,4 +17,14 @@ pub fn canonical_text_has_its_value()
 /// Every value that a text has comes back from its canonical text.
 pub fn value_comes_back()
     ensures { ValueComesBack }
+{}
+
+/// No text is one of the texts of two dates or times of a kind.
+pub fn value_is_one()
+    ensures { ValueIsOne }
+{}
+
+/// The canonical text of a date or a time in its ranges has no white space, and ASCII characters alone.
+pub fn canonical_text_is_visible()
+    ensures { CanonicalTextIsVisible }
 {}

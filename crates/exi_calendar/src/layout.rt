@@ -1,7 +1,8 @@
 //! Which fields a kind has, and the marks that stand in front of each.
 
-ghost use Rattle.std.specs.Prelude.{◌≡◌};
+ghost use Rattle.std.specs.Prelude.{◌≡◌, IfSome, IsTrue};
 ghost use Rattle.std.specs.Option.{option_copied};
+ghost use Rattle.exi_calendar.specs.Forms.{all_visible};
 ghost use Rattle.exi_calendar.specs.Parts.{layout};
 
 use exi_names::MomentKind;
@@ -19,7 +20,8 @@ pub fn has_year(kind: MomentKind) -> bool
 
 /// The marks in front of the month, where the kind has one.
 pub fn month_marks(kind: MomentKind) -> Option<&'static str>
-    ensures { option_copied result ≡ (layout kind).month }
+    ensures marks { option_copied result ≡ (layout kind).month }
+    ensures visible { IfSome (option_copied result) (λ m. IsTrue (all_visible m)) }
 {
     match kind {
         MomentKind::GYearMonth | MomentKind::Date | MomentKind::DateTime => Some("-"),
@@ -30,7 +32,8 @@ pub fn month_marks(kind: MomentKind) -> Option<&'static str>
 
 /// The marks in front of the day, where the kind has one.
 pub fn day_marks(kind: MomentKind) -> Option<&'static str>
-    ensures { option_copied result ≡ (layout kind).day }
+    ensures marks { option_copied result ≡ (layout kind).day }
+    ensures visible { IfSome (option_copied result) (λ m. IsTrue (all_visible m)) }
 {
     match kind {
         MomentKind::Date | MomentKind::DateTime | MomentKind::GMonthDay => Some("-"),
@@ -41,7 +44,8 @@ pub fn day_marks(kind: MomentKind) -> Option<&'static str>
 
 /// The marks in front of the hour, where the kind has a time of day.
 pub fn hour_marks(kind: MomentKind) -> Option<&'static str>
-    ensures { option_copied result ≡ (layout kind).hour }
+    ensures marks { option_copied result ≡ (layout kind).hour }
+    ensures visible { IfSome (option_copied result) (λ m. IsTrue (all_visible m)) }
 {
     match kind {
         MomentKind::DateTime => Some("T"),
@@ -59,6 +63,7 @@ pub fn hour_marks(kind: MomentKind) -> Option<&'static str>
 pub fn minute_marks(kind: MomentKind) -> Option<&'static str>
     ensures minute { option_copied result ≡ (layout kind).minute }
     ensures second { option_copied result ≡ (layout kind).second }
+    ensures visible { IfSome (option_copied result) (λ m. IsTrue (all_visible m)) }
 {
     match kind {
         MomentKind::DateTime | MomentKind::Time => Some(":"),

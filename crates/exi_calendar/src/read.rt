@@ -1,4 +1,4 @@
-//! Texts to values.
+//! From a text to its value: field by field, each behind the one before it.
 
 ghost use Rattle.std.specs.Prelude.{◌≡◌, ◌≤◌, ◌-◌, length, MatchOption, IfSome, option_map, pos};
 ghost use Rattle.std.specs.Option.{option_copied};
@@ -182,7 +182,12 @@ fn zone(text: &[u8]) -> Option<Option<i16>>
     }
 }
 
-/// The date or the time of a kind that a text stands for.
+/// The date or the time of a kind that a text stands for (XML Schema 1.0 Part 2, sections 3.2.7 to 3.2.14), or `None`
+/// where the text has not the form of the kind or a field is out of its range. The text has no white space around it.
+///
+/// The year fits 64 bits. Day 31 is taken in any month, any minute in hour 24, and second 60; the zone is at most
+/// 14 hours either way. The digits of a fraction, read backwards, are a number below 2^128. A field that the kind does
+/// not have is 0 in the value. Takes no memory.
 #[tactic(auto, unfolding(crate::specs::Reading::moment_value))]
 pub fn moment(kind: MomentKind, text: &[u8]) -> Option<Moment>
     ensures { result ≡ moment_value kind text.now }
