@@ -1,21 +1,21 @@
 -- Texts of graphic characters of ASCII, as all canonical texts are but those of strings and lists.
-use Rattle.std.proofs.Common.{◌≡◌, ℕ, zero, suc, ◌+◌, ◌-◌, ◌*◌, ◌/◌, ◌%◌, ◌<◌, ◌≤◌, Bool, true, false, not, cond, ◌&&◌, nat_le, List, [], ◌∷◌, ◌++◌, length, get_or, refl, sym, ap, ◌∙◌, subst, inl, inr, arith}
+use Rattle.std.proofs.Common.{◌≡◌, ℕ, zero, suc, ◌+◌, ◌-◌, ◌*◌, ◌/◌, ◌%◌, ◌<◌, ◌≤◌, Bool, true, false, not, cond, ◌&&◌, nat_lt, List, [], ◌∷◌, ◌++◌, length, get_or, refl, sym, ap, ◌∙◌, subst, inl, inr, arith}
 use Rattle.std.proofs.lemmas.Bool.{and_parts, cases_Bool, false≢true}
 use Rattle.std.proofs.lemmas.Bool.Decides.{nat_tests}
 use Rattle.std.proofs.lemmas.Str.{encodes-IsAscii}
 use Rattle.std.specs.Prelude.{slice_index}
 use lib.Utf8.{encodes}
+use Rattle.exi_calendar.specs.Forms.{all_visible}
 use Rattle.exi_lexical.specs.Spaces.{all_ascii, has_no_space, is_space}
 use Rattle.exi_lexical.specs.Binaries.{base64_sign, base64_text, filler, hex_sign, hex_text}
 use Rattle.exi_lexical.specs.Values.{binary_text, boolean_text}
 use Rattle.exi_lexical.proofs.Tables.{all_below, at_below}
 
 abbrev pub is_graphic : ℕ → Bool
-is_graphic c = nat_le 33 c && nat_le c 126
+is_graphic c = nat_lt 32 c && nat_lt c 127
 
 abbrev pub all_graphic : List ℕ → Bool
-all_graphic [] = true
-all_graphic (c ∷ cs) = is_graphic c && all_graphic cs
+all_graphic cs = all_visible cs
 
 pub graphic_append : (xs ys : List ℕ) → all_graphic xs ≡ true → all_graphic ys ≡ true → all_graphic (xs ++ ys) ≡ true
 graphic_append [] ys h k = k

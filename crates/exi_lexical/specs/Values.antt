@@ -1,8 +1,9 @@
 -- The value of a text under a datatype, and the canonical text of a value (XML Schema 1.0 Part 2, section 3, for the
 -- forms; which of its texts is the canonical one is our own where a datatype has several texts for one value).
-use Rattle.std.specs.Prelude.{ℕ, ◌&&◌, nat_le, Bool, true, false, if◌then◌else◌, List, [], ◌∷◌, length, codes, Option, Some, None, option_map}
+use Rattle.std.specs.Prelude.{ℕ, ℤ, ◌&&◌, nat_le, Bool, true, false, if◌then◌else◌, List, [], ◌∷◌, length, codes, Option, Some, None, option_map}
 use Rattle.std.specs.Str.{bytes_eq}
 use Rattle.std.specs.List.{join_with_byte}
+use Rattle.exi_names.specs.Wholes.{Number}
 use Rattle.exi_names.specs.Seen.{Value, Values, boolean, integer, decimal, float, moment, binary, items, no_more, and, values_of}
 use Rattle.exi_names.specs.Seen as shape
 use Rattle.exi_names.specs.Datatypes.{Representation, small, unsigned, list, choice, chars}
@@ -10,7 +11,13 @@ use Rattle.exi_names.specs.Datatypes as form
 use Rattle.exi_lexical.specs.Spaces.{all_ascii, squeezed, trimmed, words}
 use Rattle.exi_lexical.specs.Binaries.{base64_octets, base64_text, hex_octets, hex_text}
 use Rattle.exi_lexical.specs.Equality.{equal}
-use Rattle.exi_lexical.specs.Stubs.{small_value, unsigned_value, integer_value, moment_value, integer_text, decimal_text, float_text, moment_text}
+use Rattle.exi_calendar.specs.Forms.{moment_text}
+use Rattle.exi_calendar.specs.Reading.{moment_value}
+use Rattle.exi_numerals.specs.Decimals.{decimal_text, decimal_value}
+use Rattle.exi_numerals.specs.Floats.{float_text, float_value}
+use Rattle.exi_numerals.specs.Integers.{integer_in, integer_text, is_integer, is_small, is_unsigned, is_wide}
+use Rattle.exi_numerals.specs.declared.decimal.Decimal.{Decimal}
+use Rattle.exi_numerals.specs.declared.float.Float.{Float}
 
 -- ---- Boolean
 -- one of four texts; only with a pattern a digit is told from a word
@@ -38,13 +45,26 @@ abbrev pub binary_text : Bool → List ℕ → List ℕ
 binary_text true octets = hex_text octets
 binary_text false octets = base64_text octets
 
+-- ---- Integers, Decimal, Float
+-- one of so many numbers from the least on, in the 128 bits and the sign that a value has (our own bound)
+abbrev pub is_within : ℤ → ℕ → Number → Bool
+is_within least count n = is_wide n && is_small least count n
+
+abbrev pub of_decimal : Decimal → Value
+of_decimal d = decimal d.minus d.whole d.back
+
+abbrev pub of_float : Float → Value
+of_float f = float f.mantissa f.exponent
+
 -- ---- the datatypes whose values are neither strings, lists, names nor enumerated
 abbrev pub form_value : Representation → List ℕ → Option Value
-form_value (small least count) t = option_map integer (small_value least count t)
-form_value unsigned t = option_map integer (unsigned_value t)
-form_value form.integer t = option_map integer (integer_value t)
+form_value (small least count) t = option_map integer (integer_in (is_within least count) t)
+form_value unsigned t = option_map integer (integer_in is_unsigned t)
+form_value form.integer t = option_map integer (integer_in is_integer t)
 form_value (form.boolean pattern) t = boolean_value pattern t
 form_value (form.binary hex) t = binary_value hex t
+form_value form.decimal t = option_map of_decimal (decimal_value t)
+form_value form.float t = option_map of_float (float_value t)
 form_value (form.moment kind) t = option_map moment (moment_value kind t)
 form_value other t = None
 
@@ -94,8 +114,8 @@ abbrev mutual
   canonical (shape.text t) = t
   canonical (boolean truth digit) = boolean_text truth digit
   canonical (integer n) = integer_text n
-  canonical (decimal minus whole back) = decimal_text minus whole back
-  canonical (float mantissa exponent) = float_text mantissa exponent
+  canonical (decimal minus whole back) = decimal_text (record { minus = minus; whole = whole; back = back })
+  canonical (float mantissa exponent) = float_text (record { mantissa = mantissa; exponent = exponent })
   canonical (moment m) = moment_text m
   canonical (binary hex octets) = binary_text hex octets
   -- with one space between

@@ -2,11 +2,17 @@
 
 ghost use Rattle.std.specs.Prelude.{◌≡◌, ◌==◌, if◌then◌else◌, [], ◌∷◌, ◌++◌, true, encode_utf8_all, IfOk, OnOk, string_bytes};
 ghost use Rattle.exi_names.specs.Seen.{seen, values_of, vals};
+ghost use Rattle.exi_calendar.specs.Forms.{moment_text};
+ghost use Rattle.exi_numerals.specs.Decimals.{decimal_text};
+ghost use Rattle.exi_numerals.specs.Floats.{float_text};
+ghost use Rattle.exi_numerals.specs.Integers.{integer_text};
 ghost use Rattle.exi_lexical.specs.Values.{all_have_text, binary_text, boolean_text, canonical, has_text, texts};
 ghost use Rattle.std.specs.List.{join_with_byte};
 
 use crate::binaries::{put_base64, put_hex};
-use exi_names::{Txt, Val, ValList};
+use exi_calendar::push_moment;
+use exi_names::{Moment, Txt, Val, ValList, Whole};
+use exi_numerals::{Decimal, Float, push_decimal, push_float, push_integer};
 use std::alloc::{AllocError, Global};
 
 /// Puts a boolean's word or digit at the end.
@@ -37,6 +43,34 @@ fn put_binary(
     }
 }
 
+/// Puts the digits of an integer at the end.
+fn put_integer(out: &mut String, whole: Whole) -> Result<(), AllocError>
+    ensures { OnOk result (string_bytes out.new ≡ string_bytes out.old ++ encode_utf8_all (integer_text whole)) }
+{
+    push_integer(out, whole)
+}
+
+/// Puts a decimal at the end.
+fn put_decimal(out: &mut String, decimal: Decimal) -> Result<(), AllocError>
+    ensures { OnOk result (string_bytes out.new ≡ string_bytes out.old ++ encode_utf8_all (decimal_text decimal)) }
+{
+    push_decimal(out, decimal)
+}
+
+/// Puts a float at the end.
+fn put_float(out: &mut String, float: Float) -> Result<(), AllocError>
+    ensures { OnOk result (string_bytes out.new ≡ string_bytes out.old ++ encode_utf8_all (float_text float)) }
+{
+    push_float(out, float)
+}
+
+/// Puts a date or a time at the end.
+fn put_moment(out: &mut String, moment: Moment) -> Result<(), AllocError>
+    ensures { OnOk result (string_bytes out.new ≡ string_bytes out.old ++ encode_utf8_all (moment_text moment)) }
+{
+    push_moment(out, &moment)
+}
+
 /// Puts a space at the end, in front of each item but the first.
 fn separate(out: &mut String, index: usize) -> Result<(), AllocError>
     ensures { OnOk result (string_bytes out.new ≡ string_bytes out.old ++ (if index == 0 then [] else 32 ∷ [])) }
@@ -57,8 +91,25 @@ fn put(alloc: Global, out: &mut String, value: &Val) -> Result<(), AllocError>
         Val::Text(text) => out.push_str(text.as_str()),
         Val::Bool { yes, digit } => put_boolean(out, *yes, *digit),
         Val::Bin { hex, octets } => put_binary(alloc, out, *hex, octets.as_slice()),
+        Val::Int(whole) => put_integer(out, *whole),
+        Val::Dec { minus, whole, back } => put_decimal(
+            out,
+            Decimal {
+                minus: *minus,
+                whole: *whole,
+                back: *back,
+            },
+        ),
+        Val::Flo { mantissa, exponent } => put_float(
+            out,
+            Float {
+                mantissa: *mantissa,
+                exponent: *exponent,
+            },
+        ),
+        Val::Mom(moment) => put_moment(out, *moment),
         Val::Items(list) => put_list(alloc, out, list),
-        _ => Ok(()),
+        Val::Name(_) => unreachable!(),
     }
 }
 
@@ -73,4 +124,14 @@ fn put_list(alloc: Global, out: &mut String, list: &ValList) -> Result<(), Alloc
         put(alloc, out, value)?;
     }
     Ok(())
+}
+
+/// The canonical text.
+pub fn canon(alloc: Global, value: &Val) -> Result<Txt, AllocError>
+    requires { has_text (seen value.now) ≡ true }
+    ensures { IfOk result (λ text. text ≡ canonical (seen value.now)) }
+{
+    let mut out = String::new(alloc);
+    put(alloc, &mut out, value)?;
+    Ok(Txt::from_string(out))
 }

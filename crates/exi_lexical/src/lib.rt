@@ -7,3 +7,6 @@ mod equality;
 pub mod laws;
 mod spaces;
 mod values;
+
+pub use canonical::canon;
+pub use values::value_of;

@@ -5,12 +5,16 @@ ghost use Rattle.std.specs.Option.{is_some};
 ghost use Rattle.std.specs.Str.{chars};
 ghost use Rattle.exi_names.specs.Datatypes.{represented};
 ghost use Rattle.exi_names.specs.Seen.{items, seen, vals, values_of};
-ghost use Rattle.exi_lexical.specs.Values.{binary_value, boolean_value, chosen, first_equal, form_value, list_value, scalar_value, value};
+ghost use Rattle.exi_numerals.specs.Decimals.{decimal_value};
+ghost use Rattle.exi_numerals.specs.Floats.{float_value};
+ghost use Rattle.exi_lexical.specs.Values.{of_decimal, of_float, binary_value, boolean_value, chosen, first_equal, form_value, list_value, scalar_value, value};
 
 use crate::binaries::{base64_value, hex_value};
 use crate::equality::same;
 use crate::spaces::{next_word, trim};
+use exi_calendar::moment;
 use exi_names::{Datatype, Txt, Val, ValList};
+use exi_numerals::{Decimal, Float, decimal_of, float_of, integer_of, small_of, unsigned_of};
 use std::alloc::{AllocError, Global};
 
 /// How many items a list may have.
@@ -54,14 +58,37 @@ fn binary(alloc: Global, hex: bool, text: &[u8]) -> Result<Option<Val>, AllocErr
     Ok(octets.map(|octets| Val::Bin { hex, octets }))
 }
 
+/// The value of a decimal's text, if the text is such.
+fn decimal(text: &[u8]) -> Option<Val>
+    ensures { option_map seen result ≡ option_map of_decimal (decimal_value text.now) }
+{
+    let Decimal { minus, whole, back } = decimal_of(text)?;
+    Some(Val::Dec { minus, whole, back })
+}
+
+/// The value of a float's text, if the text is such.
+fn float(text: &[u8]) -> Option<Val>
+    ensures { option_map seen result ≡ option_map of_float (float_value text.now) }
+{
+    let Float { mantissa, exponent } = float_of(text)?;
+    Some(Val::Flo { mantissa, exponent })
+}
+
 /// The value of an ASCII text in the form of a datatype whose values are neither strings, lists, names nor
 /// enumerated; none under any other.
 fn form(alloc: Global, kind: &Datatype, text: &str) -> Result<Option<Val>, AllocError>
     ensures { IfOk result (λ v. option_map seen v ≡ form_value (represented kind.now) text.now) }
 {
+    let bytes = text.as_bytes();
     match kind {
+        Datatype::Small { least, count } => Ok(small_of(bytes, *least, *count).map(Val::Int)),
+        Datatype::Unsigned => Ok(unsigned_of(bytes).map(Val::Int)),
+        Datatype::Integer => Ok(integer_of(bytes).map(Val::Int)),
         Datatype::Boolean { pattern } => Ok(boolean(*pattern, text)),
-        Datatype::Binary { hex } => binary(alloc, *hex, text.as_bytes()),
+        Datatype::Binary { hex } => binary(alloc, *hex, bytes),
+        Datatype::Decimal => Ok(decimal(bytes)),
+        Datatype::Float => Ok(float(bytes)),
+        Datatype::Moment(kind) => Ok(moment(*kind, bytes).map(Val::Mom)),
         _ => Ok(None),
     }
 }
@@ -86,6 +113,17 @@ fn is_among(value: &Val, values: &ValList) -> bool
         }
     }
     false
+}
+
+/// The value of the text.
+pub fn value_of(
+    alloc: Global,
+    kind: &Datatype,
+    text: &Txt,
+) -> Result<Option<Val>, AllocError>
+    ensures { IfOk result (λ v. option_map seen v ≡ value (represented kind.now) text.now) }
+{
+    value_in(alloc, kind, text.as_str())
 }
 
 /// The value of a text under a datatype, if it has one.
