@@ -1,6 +1,6 @@
 -- The canonical text of a value that a text has, has that value.
-use Rattle.std.proofs.Common.{◌≡◌, ◌↔◌, ℕ, zero, suc, ◌+◌, ◌*◌, ◌/◌, ◌%◌, ◌<◌, ◌≤◌, Bool, true, false, not, cond, if◌then◌else◌, ◌&&◌, ◌==◌, nat_le, List, [], ◌∷◌, ◌++◌, length, codes, lit<, Option, Some, None, option_map, refl, sym, ap, ◌∙◌, subst, inl, inr, arith}
-use Rattle.std.proofs.lemmas.Bool.{and_parts, cases_Bool, false≢true}
+use Rattle.std.proofs.Common.{◌≡◌, ◌↔◌, ℕ, ℤ, ◌^◌, zero, suc, ◌+◌, ◌*◌, ◌/◌, ◌%◌, ◌<◌, ◌≤◌, Bool, true, false, not, cond, if◌then◌else◌, ◌&&◌, ◌==◌, nat_le, List, [], ◌∷◌, ◌++◌, length, codes, lit<, Option, Some, None, option_map, refl, sym, ap, ◌∙◌, subst, inl, inr, arith}
+use Rattle.std.proofs.lemmas.Bool.{and_parts, cases_Bool, false≢true, ltb-true}
 use Rattle.std.proofs.lemmas.List.{append-nil}
 use Rattle.std.proofs.lemmas.Bool.Decides.{nat_tests}
 use Rattle.std.specs.Prelude.{slice_index}
@@ -10,10 +10,24 @@ use Rattle.exi_names.specs.Datatypes.{Representation, small, unsigned, list, cho
 use Rattle.exi_names.specs.Datatypes as form
 use Rattle.exi_names.specs.Seen.{Value, Values, boolean, integer, decimal, float, moment, binary, items, no_more, and, values_of}
 use Rattle.exi_names.specs.Seen as shape
+use Rattle.exi_names.specs.Wholes.{Number}
+use Rattle.exi_names.specs.declared.moment.Moment.{Moment}
+use Rattle.exi_names.specs.declared.moment.MomentKind.{MomentKind}
+use Rattle.exi_numerals.specs.declared.decimal.Decimal.{Decimal}
+use Rattle.exi_numerals.specs.declared.float.Float.{Float}
+use Rattle.exi_numerals.specs.Integers.{integer_in, integer_text, is_integer, is_small, is_unsigned, is_wide}
+use Rattle.exi_numerals.specs.Decimals.{decimal_value}
+use Rattle.exi_numerals.specs.Floats.{float_value}
+use Rattle.exi_numerals.specs.Laws.{IntegerIsKept}
+use Rattle.exi_numerals.proofs.Kept.{decimal_kept, float_kept, integer_kept, integer_near, unsigned_near}
+use Rattle.exi_calendar.specs.Forms.{moment_text}
+use Rattle.exi_calendar.proofs.Whole.{value_again as moment_again}
+use Rattle.exi_calendar.specs.Reading.{moment_value}
+use Rattle.exi_lexical.proofs.Visible.{graphic_decimals, graphic_float, graphic_integer, graphic_moment, long_decimals, long_float, long_integer, no_moment}
 use Rattle.exi_lexical.specs.Binaries.{base64_octets, base64_text, hex_digit, hex_octets, hex_text, octet_before}
 use Rattle.exi_lexical.specs.Equality.{equal}
 use Rattle.exi_lexical.specs.Spaces.{all_ascii, has_no_space, is_some_text, squeezed, trimmed, words}
-use Rattle.exi_lexical.specs.Values.{all_have_text, binary_text, binary_value, boolean_text, boolean_value, canonical, chosen, each_value, first_equal, form_value, has_text, list_value, scalar_value, texts, value, value_before}
+use Rattle.exi_lexical.specs.Values.{is_within, of_decimal, of_float, all_have_text, binary_text, binary_value, boolean_text, boolean_value, canonical, chosen, each_value, first_equal, form_value, has_text, list_value, scalar_value, texts, value, value_before}
 use Rattle.exi_lexical.proofs.Blanks.{squeezed_same, word_first}
 use Rattle.exi_lexical.proofs.Graphic.{all_graphic, graphic_ascii, graphic_binary, graphic_boolean, graphic_solid}
 use Rattle.exi_lexical.proofs.Hexes.{hex_fits, hex_read}
@@ -145,16 +159,71 @@ binary_kept false t v e =
       named = refl;
     }
 
+-- ---- numbers, dates and times
+abbrev number_given : Number → Option Number
+number_given n = Some n
+
+within_wide : (least : ℤ) (count : ℕ) (n : Number) → is_within least count n ≡ true → n.size < 2 ^ 128
+within_wide least count n h = ltb-true n.size (2 ^ 128) (and_parts (is_wide n) (is_small least count n) h).0
+
+-- of an integer datatype of that range
+whole_kept : (r : Representation) (range : Number → Bool) → ((u : List ℕ) → form_value r u ≡ option_map integer (integer_in range u)) → IntegerIsKept range
+    → (t : List ℕ) (v : Value) → form_value r t ≡ Some v → FormKept r t v
+whole_kept r range form kept t v e =
+    let f = found integer (integer_in range t) v (sym (form t) ∙ e) in
+    rw (← f.whole) record {
+      again = form (integer_text f.part) ∙ ap (λ (o : Option Number). option_map integer o) (kept t f.part f.there);
+      graphic = graphic_integer f.part;
+      long = λ _. long_integer f.part;
+      named = refl;
+    }
+
+decimals_kept : (t : List ℕ) (v : Value) → form_value form.decimal t ≡ Some v → FormKept form.decimal t v
+decimals_kept t v e =
+    let f = found of_decimal (decimal_value t) v e in
+    rw (← f.whole) record {
+      again = ap (λ (o : Option Decimal). option_map of_decimal o) (decimal_kept t f.part f.there);
+      graphic = graphic_decimals f.part;
+      long = λ _. long_decimals f.part;
+      named = refl;
+    }
+
+floats_kept : (t : List ℕ) (v : Value) → form_value form.float t ≡ Some v → FormKept form.float t v
+floats_kept t v e =
+    let f = found of_float (float_value t) v e in
+    rw (← f.whole) record {
+      again = ap (λ (o : Option Float). option_map of_float o) (float_kept t f.part f.there);
+      graphic = graphic_float f.part;
+      long = λ _. long_float f.part;
+      named = refl;
+    }
+
+some_characters : (k : MomentKind) (m : Moment) (t : List ℕ) → moment_value k t ≡ Some m → 0 < length t
+some_characters k m [] e = let none = sym (no_moment k) ∙ e in cc none
+some_characters k m (c ∷ t) e = omega arith
+
+moments_kept : (kind : MomentKind) (t : List ℕ) (v : Value) → form_value (form.moment kind) t ≡ Some v → FormKept (form.moment kind) t v
+moments_kept kind t v e =
+    let f = found moment (moment_value kind t) v e in
+    let back = moment_again kind t f.part f.there in
+    rw (← f.whole) record {
+      again = ap (λ (o : Option Moment). option_map moment o) back;
+      graphic = graphic_moment f.part;
+      long = λ _. some_characters kind f.part (moment_text f.part) back;
+      named = refl;
+    }
+
 -- ---- each form
 form_kept : (r : Representation) (t : List ℕ) (v : Value) → form_value r t ≡ Some v → FormKept r t v
-form_kept (small least count) t v e = ?
-form_kept unsigned t v e = ?
-form_kept form.integer t v e = ?
+form_kept (small least count) t v e =
+    whole_kept (small least count) (is_within least count) (λ u. refl) (integer_kept (is_within least count) (λ n h. within_wide least count n h)) t v e
+form_kept unsigned t v e = whole_kept unsigned is_unsigned (λ u. refl) (integer_kept is_unsigned unsigned_near) t v e
+form_kept form.integer t v e = whole_kept form.integer is_integer (λ u. refl) (integer_kept is_integer integer_near) t v e
 form_kept (form.boolean pattern) t v e = boolean_kept pattern t v e
 form_kept (form.binary hex) t v e = binary_kept hex t v e
-form_kept form.decimal t v e = ?
-form_kept form.float t v e = ?
-form_kept (form.moment kind) t v e = ?
+form_kept form.decimal t v e = decimals_kept t v e
+form_kept form.float t v e = floats_kept t v e
+form_kept (form.moment kind) t v e = moments_kept kind t v e
 form_kept (list item) t v e = cc e
 form_kept (choice base values) t v e = cc e
 form_kept form.text t v e = cc e

@@ -7,6 +7,7 @@ pub mod Sixes
 pub mod Same
 pub mod Lists
 pub mod Graphic
+pub mod Visible
 pub mod Joined
 pub mod Trims
 pub mod Again

@@ -89,7 +89,11 @@ fn form(alloc: Global, kind: &Datatype, text: &str) -> Result<Option<Val>, Alloc
         Datatype::Decimal => Ok(decimal(bytes)),
         Datatype::Float => Ok(float(bytes)),
         Datatype::Moment(kind) => Ok(moment(*kind, bytes).map(Val::Mom)),
-        _ => Ok(None),
+        Datatype::List(_)
+        | Datatype::Choice { base: _, values: _ }
+        | Datatype::Text
+        | Datatype::Chars(_)
+        | Datatype::Name { prefixes: _ } => Ok(None),
     }
 }
 
