@@ -79,15 +79,15 @@ unfolding boolean_value
 boolean_is pattern t v e = elim (cases_Bool (bytes_eq t (codes "true"))) [
   | inl a ↦ record { truth = true; digit = false; only = λ _. refl; is = given_is (boolean true false) v (rw a at e) }
   | inr a ↦ elim (cases_Bool (bytes_eq t (codes "false"))) [
-      | inl b ↦ record { truth = false; digit = false; only = λ _. refl; is = given_is (boolean false false) v (rw (a, b) at e) }
-      | inr b ↦ elim (cases_Bool (bytes_eq t (codes "1"))) [
-          | inl c ↦ record { truth = true; digit = pattern; only = λ h. h; is = given_is (boolean true pattern) v (rw (a, b, c) at e) }
-          | inr c ↦ elim (cases_Bool (bytes_eq t (codes "0"))) [
-              | inl d ↦ record { truth = false; digit = pattern; only = λ h. h; is = given_is (boolean false pattern) v (rw (a, b, c, d) at e) }
-              | inr d ↦ let k = rw (a, b, c, d) at e in absurd cc
-            ]
-        ]
+    | inl b ↦ record { truth = false; digit = false; only = λ _. refl; is = given_is (boolean false false) v (rw (a, b) at e) }
+    | inr b ↦ elim (cases_Bool (bytes_eq t (codes "1"))) [
+      | inl c ↦ record { truth = true; digit = pattern; only = λ h. h; is = given_is (boolean true pattern) v (rw (a, b, c) at e) }
+      | inr c ↦ elim (cases_Bool (bytes_eq t (codes "0"))) [
+        | inl d ↦ record { truth = false; digit = pattern; only = λ h. h; is = given_is (boolean false pattern) v (rw (a, b, c, d) at e) }
+        | inr d ↦ let k = rw (a, b, c, d) at e in absurd cc
+      ]
     ]
+  ]
 ]
 
 long_boolean : (truth digit : Bool) → 0 < length (boolean_text truth digit)

@@ -88,8 +88,13 @@ graphic_base64 (a ∷ b ∷ c ∷ os) fits =
     let la : a < 256 = fits 0 in
     let lb : b < 256 = fits 1 in
     let lc : c < 256 = fits 2 in
-    rw (base64_sign_graphic (a / 4) (omega arith), base64_sign_graphic (a % 4 * 16 + b / 16) (omega arith), base64_sign_graphic (b % 16 * 4 + c / 64) (omega arith), base64_sign_graphic (c % 64) (omega arith),
-      graphic_base64 os (λ i. fits (suc (suc (suc i))))) refl
+    rw (
+      base64_sign_graphic (a / 4) (omega arith),
+      base64_sign_graphic (a % 4 * 16 + b / 16) (omega arith),
+      base64_sign_graphic (b % 16 * 4 + c / 64) (omega arith),
+      base64_sign_graphic (c % 64) (omega arith),
+      graphic_base64 os (λ i. fits (suc (suc (suc i)))),
+    ) refl
 
 pub graphic_binary : (hex : Bool) (os : List ℕ) → ((i : ℕ) → slice_index os i < 256) → all_graphic (binary_text hex os) ≡ true
 graphic_binary true os fits = graphic_hex os fits

@@ -11,3 +11,5 @@ pub mod Visible
 pub mod Joined
 pub mod Trims
 pub mod Again
+pub mod Named
+pub mod Worked

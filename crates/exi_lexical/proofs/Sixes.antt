@@ -224,7 +224,7 @@ three_group others a b c d os e =
     record {
       written = λ more none. rw (parts, ex, ey, ez, ew, sx, sy, sz, sw) refl;
       fits = λ more fit. rw parts (fit_first (x * 4 + y / 16) ((y % 16 * 16 + z / 4) ∷ (z % 4 * 64 + w) ∷ more) (omega arith)
-        (fit_first (y % 16 * 16 + z / 4) ((z % 4 * 64 + w) ∷ more) (omega arith) (fit_first (z % 4 * 64 + w) more (omega arith) fit)));
+          (fit_first (y % 16 * 16 + z / 4) ((z % 4 * 64 + w) ∷ more) (omega arith) (fit_first (z % 4 * 64 + w) more (omega arith) fit)));
     }
 
 group_is : (others : Bool) (a b c d : ℕ) (os : List ℕ) → group_octets others a b c d ≡ Some os → Group others a b c d os

@@ -122,24 +122,24 @@ back_parts (c ∷ cs) =
     let b = back_parts cs in
     elim (cases_Bool (is_some_text (without_back cs))) [
       | inl some ↦ record {
-          back = b.back;
-          parts = ap (λ (ds : List ℕ). c ∷ ds) b.parts ∙ sym (ap (λ (ds : List ℕ). ds ++ b.back) (before_some c (without_back cs) some));
-          blank = b.blank;
-        }
+        back = b.back;
+        parts = ap (λ (ds : List ℕ). c ∷ ds) b.parts ∙ sym (ap (λ (ds : List ℕ). ds ++ b.back) (before_some c (without_back cs) some));
+        blank = b.blank;
+      }
       | inr none ↦
           let empty = nothing_left (without_back cs) none in
           let rest : cs ≡ b.back = b.parts ∙ ap (λ (ds : List ℕ). ds ++ b.back) empty in
           elim (cases_Bool (is_space c)) [
             | inl s ↦ record {
-                back = c ∷ b.back;
-                parts = ap (λ (ds : List ℕ). c ∷ ds) rest ∙ sym (ap (λ (ds : List ℕ). before_rest c ds ++ c ∷ b.back) empty ∙ rw s refl);
-                blank = rw (s, b.blank) refl;
-              }
+              back = c ∷ b.back;
+              parts = ap (λ (ds : List ℕ). c ∷ ds) rest ∙ sym (ap (λ (ds : List ℕ). before_rest c ds ++ c ∷ b.back) empty ∙ rw s refl);
+              blank = rw (s, b.blank) refl;
+            }
             | inr s ↦ record {
-                back = b.back;
-                parts = ap (λ (ds : List ℕ). c ∷ ds) rest ∙ sym (ap (λ (ds : List ℕ). before_rest c ds ++ b.back) empty ∙ rw s refl);
-                blank = b.blank;
-              }
+              back = b.back;
+              parts = ap (λ (ds : List ℕ). c ∷ ds) rest ∙ sym (ap (λ (ds : List ℕ). before_rest c ds ++ b.back) empty ∙ rw s refl);
+              blank = b.blank;
+            }
           ]
     ]
 

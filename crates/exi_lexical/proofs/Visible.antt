@@ -100,12 +100,12 @@ pub long_decimals : (d : Decimal) → 0 < length (decimal_text d)
 long_decimals d = omega (arith, length-append (sign_text d.minus ++ decimal d.whole) (46 ∷ fraction_of d.back))
 
 graphic_special : (m : ℤ) → all_graphic (special_text m) ≡ true
-graphic_special (pos n) = elim (cases_Bool (n == 1)) [ | inl h ↦ rw h refl | inr h ↦ rw h refl ]
-graphic_special (negsuc n) = elim (cases_Bool (n == 0)) [ | inl h ↦ rw h refl | inr h ↦ rw h refl ]
+graphic_special (pos n) = elim (cases_Bool (n == 1)) [ inl h ↦ rw h refl | inr h ↦ rw h refl ]
+graphic_special (negsuc n) = elim (cases_Bool (n == 0)) [ inl h ↦ rw h refl | inr h ↦ rw h refl ]
 
 long_special : (m : ℤ) → 0 < length (special_text m)
-long_special (pos n) = elim (cases_Bool (n == 1)) [ | inl h ↦ rw h (lit< tt) | inr h ↦ rw h (lit< tt) ]
-long_special (negsuc n) = elim (cases_Bool (n == 0)) [ | inl h ↦ rw h (lit< tt) | inr h ↦ rw h (lit< tt) ]
+long_special (pos n) = elim (cases_Bool (n == 1)) [ inl h ↦ rw h (lit< tt) | inr h ↦ rw h (lit< tt) ]
+long_special (negsuc n) = elim (cases_Bool (n == 0)) [ inl h ↦ rw h (lit< tt) | inr h ↦ rw h (lit< tt) ]
 
 pub graphic_float : (f : Float) → all_graphic (float_text f) ≡ true
 graphic_float f = elim (cases_Bool (is_special f.exponent)) [
@@ -165,9 +165,9 @@ graphic_moment m =
     let c = and_parts (graphic_marks k.month && graphic_marks k.day) (graphic_marks k.hour) b.0 in
     let d = and_parts (graphic_marks k.month) (graphic_marks k.day) c.0 in
     let date = graphic_append (year_text k.year m.year ++ field_text k.month m.month) (field_text k.day m.day)
-      (graphic_append (year_text k.year m.year) (field_text k.month m.month) (graphic_year k.year m.year) (graphic_field k.month m.month d.0)) (graphic_field k.day m.day d.1) in
+    (graphic_append (year_text k.year m.year) (field_text k.month m.month) (graphic_year k.year m.year) (graphic_field k.month m.month d.0)) (graphic_field k.day m.day d.1) in
     let time = graphic_append (field_text k.hour m.hour ++ field_text k.minute m.minute) (field_text k.second m.second)
-      (graphic_append (field_text k.hour m.hour) (field_text k.minute m.minute) (graphic_field k.hour m.hour c.1) (graphic_field k.minute m.minute b.1)) (graphic_field k.second m.second a.1) in
+    (graphic_append (field_text k.hour m.hour) (field_text k.minute m.minute) (graphic_field k.hour m.hour c.1) (graphic_field k.minute m.minute b.1)) (graphic_field k.second m.second a.1) in
     graphic_append (date_text m ++ time_text m ++ fraction_text m.fraction) (zone_text m.zone)
     (graphic_append (date_text m ++ time_text m) (fraction_text m.fraction) (graphic_append (date_text m) (time_text m) date time) (graphic_fractions m.fraction)) (graphic_zone m.zone)
 

@@ -53,7 +53,10 @@ fn is_solid(text: &[u8]) -> bool
 fn squeeze(alloc: Global, text: &[u8]) -> Result<Vec<u8>, AllocError>
     ensures { IfOk result (λ digits. digits.items ≡ squeezed text.now) }
 {
-    text.iter().copied().filter(|byte| !is_white(*byte)).collect(alloc)
+    text.iter()
+        .copied()
+        .filter(|byte| !is_white(*byte))
+        .collect(alloc)
 }
 
 /// The octets of base64 digits, white space dropped, if the text is such. Only a text with white space is copied.

@@ -28,12 +28,7 @@ fn put_boolean(out: &mut String, yes: bool, digit: bool) -> Result<(), AllocErro
 }
 
 /// Puts octets as digits at the end.
-fn put_binary(
-    alloc: Global,
-    out: &mut String,
-    hex: bool,
-    octets: &[u8],
-) -> Result<(), AllocError>
+fn put_binary(alloc: Global, out: &mut String, hex: bool, octets: &[u8]) -> Result<(), AllocError>
     ensures { OnOk result (string_bytes out.new ≡ string_bytes out.old ++ encode_utf8_all (binary_text hex octets.now)) }
 {
     if hex {
@@ -126,7 +121,24 @@ fn put_list(alloc: Global, out: &mut String, list: &ValList) -> Result<(), Alloc
     Ok(())
 }
 
-/// The canonical text.
+/// The canonical text of a value: the one of its texts that is written.
+///
+/// - an integer: its digits, behind `-` where it is negative;
+/// - a boolean: `true` or `false`, or `1` or `0` where it is told by a digit;
+/// - a decimal: always with a point, and a digit at least on either side;
+/// - a float: mantissa, `E`, exponent; with the exponent -16384 `INF`, `-INF` or `NaN`;
+/// - a date or a time: the form of its kind, with a year of at least four digits, a fraction only where it has one,
+///   and `Z` for the zone 0;
+/// - octets: hex digits in upper case, or base64 with fillers;
+/// - a string: itself;
+/// - a list: its items with one space between.
+///
+/// A text that has a value has it again in its canonical text (`laws::canonical_text_has_its_value`). The value may
+/// be no name, nor a list that holds one at any depth: what [`value_of`](crate::value_of) gives never is.
+///
+/// # Errors
+///
+/// `AllocError` where memory is refused.
 pub fn canon(alloc: Global, value: &Val) -> Result<Txt, AllocError>
     requires { has_text (seen value.now) ≡ true }
     ensures { IfOk result (λ text. text ≡ canonical (seen value.now)) }

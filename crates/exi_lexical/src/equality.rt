@@ -4,20 +4,23 @@ ghost use Rattle.std.specs.Prelude.{◌≡◌};
 ghost use Rattle.exi_names.specs.Seen.{seen, values_of, vals};
 ghost use Rattle.exi_lexical.specs.Equality.{all_equal, equal, same_moments, same_names, same_numbers};
 
-use exi_names::{Moment, QName, Txt, Val, ValList, Whole};
+use exi_names::{Moment, QName, Val, ValList, Whole};
 
+/// Whether two whole numbers are the same.
 fn same_numbers(a: Whole, b: Whole) -> bool
     ensures { result ≡ same_numbers a b }
 {
     a.minus == b.minus && a.size == b.size
 }
 
+/// Whether two dates or times are of one kind and have the same fields.
 fn same_moments(a: &Moment, b: &Moment) -> bool
     ensures { result ≡ same_moments a.now b.now }
 {
     *a == *b
 }
 
+/// Whether two names are the same, prefix included.
 fn same_names(a: &QName, b: &QName) -> bool
     ensures { result ≡ same_names a.now b.now }
 {
@@ -29,7 +32,7 @@ fn same_names(a: &QName, b: &QName) -> bool
     a.uri.same(&b.uri) && a.local.same(&b.local) && same_prefix
 }
 
-/// Whether two values are the same.
+/// Whether two values are of one kind, and the same in each part.
 #[cycle(same)]
 pub fn same(a: &Val, b: &Val) -> bool
     ensures { result ≡ equal (seen a.now) (seen b.now) }
@@ -40,7 +43,10 @@ pub fn same(a: &Val, b: &Val) -> bool
             _ => false,
         },
         Val::Bool { yes, digit } => match b {
-            Val::Bool { yes: truth, digit: other } => *yes == *truth && *digit == *other,
+            Val::Bool {
+                yes: truth,
+                digit: other,
+            } => *yes == *truth && *digit == *other,
             _ => false,
         },
         Val::Int(number) => match b {
@@ -48,15 +54,18 @@ pub fn same(a: &Val, b: &Val) -> bool
             _ => false,
         },
         Val::Dec { minus, whole, back } => match b {
-            Val::Dec { minus: sign, whole: part, back: digits } => {
-                *minus == *sign && *whole == *part && *back == *digits
-            }
+            Val::Dec {
+                minus: sign,
+                whole: part,
+                back: digits,
+            } => { *minus == *sign && *whole == *part && *back == *digits }
             _ => false,
         },
         Val::Flo { mantissa, exponent } => match b {
-            Val::Flo { mantissa: digits, exponent: power } => {
-                *mantissa == *digits && *exponent == *power
-            }
+            Val::Flo {
+                mantissa: digits,
+                exponent: power,
+            } => { *mantissa == *digits && *exponent == *power }
             _ => false,
         },
         Val::Mom(moment) => match b {
@@ -64,9 +73,10 @@ pub fn same(a: &Val, b: &Val) -> bool
             _ => false,
         },
         Val::Bin { hex, octets } => match b {
-            Val::Bin { hex: other, octets: bytes } => {
-                *hex == *other && octets.as_slice() == bytes.as_slice()
-            }
+            Val::Bin {
+                hex: other,
+                octets: bytes,
+            } => { *hex == *other && octets.as_slice() == bytes.as_slice() }
             _ => false,
         },
         Val::Items(list) => match b {

@@ -1,13 +1,13 @@
 //! The value of a text.
 
-ghost use Rattle.std.specs.Prelude.{◌≡◌, IfOk, option_map};
+ghost use Rattle.std.specs.Prelude.{◌≡◌, true, IfOk, IfSome, option_map};
 ghost use Rattle.std.specs.Option.{is_some};
 ghost use Rattle.std.specs.Str.{chars};
 ghost use Rattle.exi_names.specs.Datatypes.{represented};
 ghost use Rattle.exi_names.specs.Seen.{items, seen, vals, values_of};
 ghost use Rattle.exi_numerals.specs.Decimals.{decimal_value};
 ghost use Rattle.exi_numerals.specs.Floats.{float_value};
-ghost use Rattle.exi_lexical.specs.Values.{of_decimal, of_float, binary_value, boolean_value, chosen, first_equal, form_value, list_value, scalar_value, value};
+ghost use Rattle.exi_lexical.specs.Values.{of_decimal, of_float, binary_value, boolean_value, chosen, first_equal, form_value, has_text, list_value, scalar_value, value};
 
 use crate::binaries::{base64_value, hex_value};
 use crate::equality::same;
@@ -119,13 +119,37 @@ fn is_among(value: &Val, values: &ValList) -> bool
     false
 }
 
-/// The value of the text.
-pub fn value_of(
-    alloc: Global,
-    kind: &Datatype,
-    text: &Txt,
-) -> Result<Option<Val>, AllocError>
-    ensures { IfOk result (λ v. option_map seen v ≡ value (represented kind.now) text.now) }
+/// The value that a text has under a datatype, if it has one. White space at either end is dropped, except under
+/// `Text` and `Chars`; white space is tab, line feed, carriage return and space.
+///
+/// - `Small`, `Unsigned`, `Integer`: an optional `+` or `-` and digits, where the number is one that the datatype
+///   can spell; `-0` is 0.
+/// - `Boolean`: `true`, `false`, `1`, `0`. Only where the datatype has a pattern the value tells a digit from a word.
+/// - `Decimal`: an optional sign, and digits with an optional point, one digit at least. The sign is kept, also on a
+///   zero. The part before the point, and the number of the fraction's digits in reverse, are below 2^128.
+/// - `Float`: a decimal, and perhaps `E` or `e` with an integer; or `INF`, `-INF`, `NaN`. The mantissa is the number
+///   of all its digits and fits an `i64`; the exponent is the written one less the number of the fraction's digits,
+///   from -16383 to 16383.
+/// - `Moment`: the form of the kind, as [`exi_calendar::moment`] says.
+/// - `Binary`: pairs of hex digits of either case; or groups of four base64 digits, with fillers in the last group
+///   and unused bits 0, in which white space may stand anywhere.
+/// - `List`: words between white space, at most 65,536, each with a value.
+/// - `Choice`: the first enumerated value that equals the value under the base. Two values are equal where they are
+///   the same as data: `1.50E1` and `15E0` are different floats, though the numbers are the same.
+/// - `Text`, `Chars`: the text itself. Which characters it has is not asked here.
+/// - `Name`: none, since a name takes the namespaces in scope.
+///
+/// The forms are those of XML Schema 1.0 Part 2, section 3; that all of a base's texts are taken, the bounds, and
+/// what `Choice` compares are our own. The text is gone over a few times, never back.
+///
+/// # Errors
+///
+/// `AllocError` where memory is refused.
+pub fn value_of(alloc: Global, kind: &Datatype, text: &Txt) -> Result<Option<Val>, AllocError>
+    // the value of the text, exactly where it has one
+    ensures value { IfOk result (λ v. option_map seen v ≡ value (represented kind.now) text.now) }
+    // so that `canon` may be called on it
+    ensures text { IfOk result (λ v. IfSome v (λ v. has_text (seen v) ≡ true)) }
 {
     value_in(alloc, kind, text.as_str())
 }

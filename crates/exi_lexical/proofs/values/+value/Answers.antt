@@ -28,7 +28,7 @@ list-returns-in_default-2 t c =
     let f : List ℕ → Option Value = λ w. value (represented c.args.item.now) w in
     let text = chars c.args.text.now in
     let e : each_value f (words text) ≡ behind (vals c.loop-word.items) (each_value f (chars c.in-Some.word.now ∷ words (chars c.in-Some.after.now)))
-        = c.loop-word.invariant.1 ∙ ap (λ (ws : List (List ℕ)). behind (vals c.loop-word.items) (each_value f ws)) c.in-Some.ensures.words in
+    = c.loop-word.invariant.1 ∙ ap (λ (ws : List (List ℕ)). behind (vals c.loop-word.items) (each_value f ws)) c.in-Some.ensures.words in
     let one : f (chars c.in-Some.word.now) ≡ None = sym c.in_ok-value.ensures ∙ ap (λ (o : Option Val). option_map seen o) c.in_default-2.is in
     sym (none_listed f text (each_none f (vals c.loop-word.items) (chars c.in-Some.word.now) (words (chars c.in-Some.after.now)) (each_value f (words text)) e one))
 
@@ -37,7 +37,7 @@ list-loop-word-preserved t c =
     let f : List ℕ → Option Value = λ w. value (represented c.args.item.now) w in
     let text = chars c.args.text.now in
     let e : each_value f (words text) ≡ behind (vals c.loop-word.items) (each_value f (chars c.in-Some.word.now ∷ words (chars c.in-Some.after.now)))
-        = c.loop-word.invariant.1 ∙ ap (λ (ws : List (List ℕ)). behind (vals c.loop-word.items) (each_value f ws)) c.in-Some.ensures.words in
+    = c.loop-word.invariant.1 ∙ ap (λ (ws : List (List ℕ)). behind (vals c.loop-word.items) (each_value f ws)) c.in-Some.ensures.words in
     let one : f (chars c.in-Some.word.now) ≡ Some (seen c.in-Some-2.value) = sym c.in_ok-value.ensures ∙ ap (λ (o : Option Val). option_map seen o) c.in-Some-2.is in
     let few : length (vals c.loop-word.items) ≢ 65_536 = λ h. c.if-len-eq-MOST_ITEMS.false (c.len.ensures ∙ sym (length_vals c.loop-word.items) ∙ h) in
     let first : length (words (chars c.loop-word.rest.now)) ≡ suc (length (words (chars c.in-Some.after.now))) = ap length c.in-Some.ensures.words in
