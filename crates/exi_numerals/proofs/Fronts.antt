@@ -1,6 +1,6 @@
 -- A text that is added in pieces, of which the last one holds a front.
-use Rattle.std.proofs.Common.{◌≡◌, ℕ, List, [], ◌∷◌, ◌++◌, refl, sym, ap, ◌∙◌, append_assoc, Result, Ok, Err}
-use Rattle.std.specs.Prelude.{OnOk, OnErr}
+use Rattle.std.proofs.Common.{◌≡◌, ℕ, List, ◌++◌, refl, sym, ap, ◌∙◌, append_assoc, Result, Ok, Err}
+use Rattle.std.specs.Prelude.{OnErr}
 use Rattle.exi_digits.specs.Pushed.{HoldsFront}
 
 pub front_behind : (old first text middle new : List ℕ) → middle ≡ old ++ first → HoldsFront middle text new → HoldsFront old (first ++ text) new

@@ -1,21 +1,21 @@
 -- The canonical text of a value that a text has, has that value.
-use Rattle.std.proofs.Common.{◌≡◌, ◌⊎◌, ℕ, zero, suc, ◌+◌, ◌*◌, ◌-◌, ◌^◌, ◌<◌, ◌≤◌, Bool, true, false, ◌&&◌, List, [], ◌∷◌, ◌++◌, length, refl, sym, ap, ◌∙◌, subst, append_assoc, arith, inl, inr, Option, Some, None, ℤ, pos, negsuc, leb, ltb, eqb}
-use Rattle.std.specs.Prelude.{neg_ℤ, if◌then◌else◌, ◌==◌, not, ◌-ℤ◌, decimal, codes, bytes_eq, unwrap_or, FitsSigned, int_le, int_lt, IsAscii}
+use Rattle.std.proofs.Common.{◌≡◌, ℕ, zero, suc, ◌^◌, ◌<◌, ◌≤◌, Bool, true, false, ◌&&◌, List, [], ◌∷◌, ◌++◌, length, refl, sym, ap, ◌∙◌, subst, append_assoc, arith, inl, inr, Option, Some, None, ℤ, pos, negsuc, leb, ltb, eqb}
+use Rattle.std.specs.Prelude.{◌==◌, not, ◌-ℤ◌, decimal, codes, bytes_eq, unwrap_or, FitsSigned, int_le}
 use Rattle.std.specs.Fmt.{signed_decimal}
 use Rattle.std.specs.Int.{w128}
 use Rattle.std.proofs.lemmas.Int.{ints}
 use Rattle.std.proofs.lemmas.List.{append-nil}
-use Rattle.std.proofs.lemmas.Bool.{cases_Bool, cases_lt, lt-ltb, le-ltb, ltb-true, leb-true, and_parts, and_from, ne_eqb, or_from}
+use Rattle.std.proofs.lemmas.Bool.{cases_Bool, lt-ltb, ltb-true, leb-true, and_parts, ne_eqb, or_from}
 use Rattle.std.proofs.lemmas.Slice.Eq.{bytes_eq-Decides}
-use Rattle.exi_digits.specs.Digits.{is_digit, all_digits, has_any, is_numeral, number_of, back_of, fraction_of}
+use Rattle.exi_digits.specs.Digits.{is_digit, all_digits, has_any, number_of, fraction_of}
 use Rattle.exi_digits.specs.Splits.{before, behind, is_either, is_mark}
-use Rattle.exi_digits.proofs.Decimals.{all_digits-decimal, all_digits-fraction_of, back_of-fraction_of, decimal_any, has_any-decimal, has_any_of, number_of-decimal}
+use Rattle.exi_digits.proofs.Decimals.{all_digits-decimal, all_digits-fraction_of, back_of-fraction_of, decimal_any, has_any-decimal, number_of-decimal}
 use Rattle.exi_digits.proofs.Splitting.{before_all, before_mark, behind_mark, behind_none, digits_pass_none, none_passes}
 use Rattle.exi_names.specs.Wholes.{Number, number}
 use Rattle.exi_numerals.specs.declared.decimal.Decimal.{Decimal}
 use Rattle.exi_numerals.specs.declared.float.Float.{Float}
-use Rattle.exi_numerals.specs.Integers.{behind_sign, has_minus, in_range, int_of, integer_in, integer_of, integer_text, integer_value, is_integer, is_integer_text, is_small, is_unsigned, is_wide, sign_text}
-use Rattle.exi_numerals.specs.Decimals.{decimal_of, decimal_text, decimal_value, fraction_digits, is_decimal_text, is_narrow, whole_digits}
+use Rattle.exi_numerals.specs.Integers.{behind_sign, has_minus, in_range, int_of, integer_of, integer_value, is_integer, is_integer_text, is_small, is_unsigned, sign_text}
+use Rattle.exi_numerals.specs.Decimals.{decimal_of, decimal_value, fraction_digits, is_decimal_text, is_narrow, whole_digits}
 use Rattle.exi_numerals.specs.Floats.{exponent_in, exponent_part, float_text, float_value, held, is_exponent, is_mantissa, is_special, joined, mantissa_in, mantissa_of, mantissa_part, no_number, number_value, shifted, with_exponent, written_exponent, written_of}
 use Rattle.exi_numerals.specs.Laws.{DecimalIsKept, FloatIsKept, IntegerIsKept, SmallIsKept}
 use Rattle.exi_numerals.proofs.Parts.{in_range_is, in_range_some, int_of-number}
@@ -110,8 +110,7 @@ pointed minus whole fraction any all =
     let start = starts_before whole (46 ∷ fraction) any (digits_start whole all) in
     let none = digits_pass_none (is_mark 46) whole no_point all in
     let text = append_assoc (sign_text minus) whole (46 ∷ fraction) in
-    let rest : behind_sign (sign_text minus ++ whole ++ 46 ∷ fraction) ≡ whole ++ 46 ∷ fraction = ap behind_sign text ∙ behind_sign_of minus (whole ++ 46 ∷ fraction) start in
-    (
+    let rest : behind_sign (sign_text minus ++ whole ++ 46 ∷ fraction) ≡ whole ++ 46 ∷ fraction = ap behind_sign text ∙ behind_sign_of minus (whole ++ 46 ∷ fraction) start in (
       ap has_minus text ∙ minus_of minus (whole ++ 46 ∷ fraction) start,
       ap (before (is_mark 46)) rest ∙ before_mark (is_mark 46) whole 46 fraction none refl,
       ap (λ (t : List ℕ). unwrap_or (behind (is_mark 46) t) []) rest ∙ ap (λ (o : Option (List ℕ)). unwrap_or o []) (behind_mark (is_mark 46) whole 46 fraction none refl),
@@ -249,7 +248,6 @@ mantissa_is text m e =
       | inr form ↦ let k : mantissa_in text ≡ None = rw form refl in absurd (cc)
     ]
 
-
 with_is : (m : ℤ) (o : Option ℤ) (f : Float) → with_exponent m o ≡ Some f → (m ≡ f.mantissa) × (o ≡ Some f.exponent)
 with_is m None f e = absurd (let k : None ≡ Some f = e in cc)
 with_is m (Some x) f e =
@@ -286,10 +284,10 @@ float_kept text f e =
     elim (cases_Bool (bytes_eq text (codes "INF"))) [
       | inl inf ↦ special_kept (pos 1) f refl (rw inf at e)
       | inr not_inf ↦ elim (cases_Bool (bytes_eq text (codes "-INF"))) [
-          | inl inf ↦ special_kept (negsuc 0) f refl (rw (not_inf, inf) at e)
-          | inr not_minus ↦ elim (cases_Bool (bytes_eq text (codes "NaN"))) [
-              | inl nan ↦ special_kept (pos 0) f refl (rw (not_inf, not_minus, nan) at e)
-              | inr not_nan ↦ number_written text f (rw (not_inf, not_minus, not_nan) at e)
-            ]
+        | inl inf ↦ special_kept (negsuc 0) f refl (rw (not_inf, inf) at e)
+        | inr not_minus ↦ elim (cases_Bool (bytes_eq text (codes "NaN"))) [
+          | inl nan ↦ special_kept (pos 0) f refl (rw (not_inf, not_minus, nan) at e)
+          | inr not_nan ↦ number_written text f (rw (not_inf, not_minus, not_nan) at e)
         ]
+      ]
     ]

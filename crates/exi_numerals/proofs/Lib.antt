@@ -1,4 +1,5 @@
 pub mod Parts
 pub mod Fronts
 pub mod Kept
+pub mod Plain
 pub mod Worked

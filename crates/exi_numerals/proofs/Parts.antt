@@ -1,12 +1,11 @@
 -- What the numbers of the parts tell of a text.
-use Rattle.std.proofs.Common.{◌≡◌, ◌⊎◌, ℕ, zero, suc, ◌+◌, ◌*◌, ◌-◌, ◌^◌, ◌<◌, ◌≤◌, Bool, true, false, ◌&&◌, List, [], ◌∷◌, ◌++◌, length, refl, sym, ap, ◌∙◌, subst, arith, inl, inr, Option, Some, None, ℤ, pos, negsuc}
-use Rattle.std.specs.Prelude.{neg_ℤ, if◌then◌else◌, nat_lt, ◌==◌, not, ◌-ℤ◌}
-use Rattle.std.proofs.lemmas.Bool.{cases_Bool, cases_lt, lt-ltb, le-ltb, and_right, and_left, ne_eqb}
+use Rattle.std.proofs.Common.{◌≡◌, ◌⊎◌, ℕ, zero, suc, ◌+◌, ◌*◌, ◌^◌, ◌<◌, ◌≤◌, Bool, true, false, List, [], ◌∷◌, ◌++◌, length, refl, sym, ap, ◌∙◌, subst, arith, inl, inr, Option, Some, None, ℤ, pos, negsuc}
+use Rattle.std.specs.Prelude.{neg_ℤ, if◌then◌else◌, ◌==◌, not, ◌-ℤ◌}
+use Rattle.std.proofs.lemmas.Bool.{cases_Bool, lt-ltb, le-ltb, ne_eqb}
 use Rattle.std.proofs.Math.Nat.{mul-le-mul_right, mul_comm}
 use Rattle.exi_digits.specs.Digits.{all_digits, has_any, number_of, back_of, kept, number_behind, back_in}
-use Rattle.exi_digits.proofs.Numbers.{all_digits-append, behind_no_digits, kept_is, kept_not, number_of-append, ten_pos}
+use Rattle.exi_digits.proofs.Numbers.{behind_no_digits, kept_is, kept_not, number_of-append, ten_pos}
 use Rattle.exi_names.specs.Wholes.{Number, number}
-use Rattle.exi_numerals.specs.declared.decimal.Decimal.{Decimal}
 use Rattle.exi_numerals.specs.Integers.{has_minus, in_range, int_of, integer_in, integer_value, is_wide}
 use Rattle.exi_numerals.specs.Decimals.{decimal_of, decimal_value, fraction_digits, is_decimal_text, is_narrow, whole_digits}
 use Rattle.exi_numerals.specs.Floats.{exponent_in, held, is_exponent, is_mantissa, is_special, mantissa_in, mantissa_of, shifted, written_of}

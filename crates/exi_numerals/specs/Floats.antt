@@ -6,7 +6,7 @@ use Rattle.std.specs.Fmt.{signed_decimal}
 use Rattle.exi_digits.specs.Digits.{number_of}
 use Rattle.exi_digits.specs.Splits.{before, behind, is_either}
 use Rattle.exi_names.specs.Wholes.{Number, number}
-use Rattle.exi_numerals.specs.Integers.{has_minus, in_range, int_of, integer_value}
+use Rattle.exi_numerals.specs.Integers.{has_minus, int_of, integer_value}
 use Rattle.exi_numerals.specs.Decimals.{fraction_digits, is_decimal_text, whole_digits}
 use Rattle.exi_numerals.specs.declared.float.Float.{Float}
 

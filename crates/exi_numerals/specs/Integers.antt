@@ -1,6 +1,6 @@
 -- Integers as text (XML Schema Part 2, section 3.3.13): "a finite-length sequence of decimal digits with an
 -- optional leading sign". A text is the list of its code points, without white space around it.
-use Rattle.std.specs.Prelude.{ℕ, ◌^◌, Bool, true, false, ◌&&◌, ◌||◌, not, ◌==◌, nat_lt, nat_le, List, [], ◌∷◌, ◌++◌, decimal, Option, Some, None, if◌then◌else◌, ℤ, pos, neg_ℤ, ◌+ℤ◌, int_le, int_lt}
+use Rattle.std.specs.Prelude.{ℕ, ◌^◌, Bool, false, ◌&&◌, ◌||◌, not, ◌==◌, nat_lt, nat_le, List, [], ◌∷◌, ◌++◌, decimal, Option, Some, None, if◌then◌else◌, ℤ, pos, neg_ℤ, ◌+ℤ◌, int_le, int_lt}
 use Rattle.exi_digits.specs.Digits.{is_numeral, number_of}
 use Rattle.exi_names.specs.Wholes.{Number, number}
 

@@ -33,8 +33,16 @@ pub fn integer_of(text: &[u8]) -> Option<Whole>
     ensures { result ≡ integer_in is_integer text.now }
 {
     let whole = wide_of(text)?;
-    let bound = if whole.minus { 1 << 127 } else { (1 << 127) - 1 };
-    if whole.size <= bound { Some(whole) } else { None }
+    let bound = if whole.minus {
+        1 << 127
+    } else {
+        (1 << 127) - 1
+    };
+    if whole.size <= bound {
+        Some(whole)
+    } else {
+        None
+    }
 }
 
 /// The value of an integer's text that is not below zero: an optional sign, and digits, one at least. Nothing

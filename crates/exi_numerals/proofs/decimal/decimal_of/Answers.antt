@@ -1,4 +1,4 @@
-use Rattle.std.proofs.Common.{◌≡◌, ◌++◌, Bool, true, List, ℕ, Some, Option, ap, sym, ◌∙◌}
+use Rattle.std.proofs.Common.{◌≡◌, ◌++◌, true, Some}
 use Rattle.exi_digits.specs.Digits.{back_in, has_any, number_behind}
 use Rattle.exi_numerals.specs.Decimals.{fraction_digits, whole_digits}
 use Rattle.exi_numerals.proofs.Parts.{decimal_some}

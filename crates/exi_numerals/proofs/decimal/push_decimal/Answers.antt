@@ -1,4 +1,4 @@
-use Rattle.std.proofs.Common.{◌≡◌, ◌++◌, ◌∷◌, [], List, ℕ, ap, sym, ◌∙◌, append_assoc, arith}
+use Rattle.std.proofs.Common.{◌≡◌, ◌++◌, ◌∷◌, [], List, ℕ, ap, ◌∙◌, append_assoc, arith}
 use Rattle.std.specs.Prelude.{string_bytes, decimal}
 use Rattle.exi_digits.specs.Digits.{fraction_of}
 use Rattle.exi_digits.specs.Pushed.{HoldsFront}
@@ -19,4 +19,4 @@ returns-clause-err c =
     let first : counted ≡ old ++ (sign ++ whole) = c.in_ok-push_number.ensures.ok ∙ ap (λ (t : List ℕ). t ++ whole) c.in_ok-push_sign.ensures.ok ∙ append_assoc old sign whole in
     let point : pointed ≡ counted ++ 46 ∷ [] = c.in_ok-push.ensures.bytes ∙ ap (λ (t : List ℕ). counted ++ t) (c.in_ok-push.ensures.ascii (omega arith)) in
     on_err c.push_fraction.result c.push_fraction.ensures.err (λ (h : HoldsFront pointed fraction new).
-      front_behind old (sign ++ whole) (46 ∷ fraction) counted new first (front_behind counted (46 ∷ []) fraction pointed new point h))
+    front_behind old (sign ++ whole) (46 ∷ fraction) counted new first (front_behind counted (46 ∷ []) fraction pointed new point h))

@@ -1,4 +1,4 @@
-use Rattle.std.proofs.Common.{◌≡◌, ◌++◌, Bool, true, List, ℕ, Some, None, Option, ap, sym, ◌∙◌, length, rules, ℤ}
+use Rattle.std.proofs.Common.{◌≡◌, ◌++◌, Bool, true, List, ℕ, Some, None, ap, sym, ◌∙◌, length, rules}
 use Rattle.std.proofs.lemmas.Int.{to_z-of_z}
 use mir.Val.{SFits}
 use Rattle.std.specs.Int.{w64}
@@ -6,7 +6,7 @@ use Rattle.exi_digits.specs.Digits.{has_any, number_behind}
 use Rattle.exi_names.specs.Wholes.{number}
 use Rattle.exi_numerals.specs.Decimals.{fraction_digits, whole_digits}
 use Rattle.exi_numerals.specs.Integers.{has_minus, int_of}
-use Rattle.exi_numerals.specs.Floats.{held, is_mantissa, mantissa_in}
+use Rattle.exi_numerals.specs.Floats.{held, is_mantissa}
 use Rattle.exi_numerals.proofs.Parts.{fraction_fails, mantissa_some, sign_fails, whole_fails}
 use Rattle.exi_numerals.proofs.float.mantissa_of.Goals as goal
 

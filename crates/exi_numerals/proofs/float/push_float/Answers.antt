@@ -1,4 +1,4 @@
-use Rattle.std.proofs.Common.{◌≡◌, ◌++◌, ◌∷◌, [], List, ℕ, Bool, false, ap, sym, ◌∙◌, append_assoc, subst, refl, arith, rules, ℤ}
+use Rattle.std.proofs.Common.{◌≡◌, ◌++◌, ◌∷◌, [], List, ℕ, false, ap, sym, ◌∙◌, subst, refl, arith, rules, ℤ}
 use mir.Val.{of_z, SFits}
 use Rattle.std.proofs.lemmas.Int.{to_z-of_z}
 use Rattle.std.specs.Int.{w16, w64}
@@ -24,5 +24,5 @@ returns-clause-err c =
     let first : numbered ≡ old ++ mantissa = c.in_ok-push_signed.ensures.ok ∙ ap (λ (z : ℤ). old ++ signed_decimal z) (to_z-of_z w64 c.args.float.mantissa fits) in
     let mark : marked ≡ numbered ++ 69 ∷ [] = c.in_ok-push.ensures.bytes ∙ ap (λ (t : List ℕ). numbered ++ t) (c.in_ok-push.ensures.ascii (omega arith)) in
     on_err c.push_signed-2.result c.push_signed-2.ensures.err (λ (h : new ≡ marked).
-      subst (λ (t : List ℕ). HoldsFront old t new) (sym text)
-      (front_behind old mantissa (69 ∷ exponent) numbered new first (none_behind numbered (69 ∷ []) exponent new (h ∙ mark))))
+    subst (λ (t : List ℕ). HoldsFront old t new) (sym text)
+    (front_behind old mantissa (69 ∷ exponent) numbered new first (none_behind numbered (69 ∷ []) exponent new (h ∙ mark))))
