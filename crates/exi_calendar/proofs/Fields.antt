@@ -1,13 +1,12 @@
 -- Fields of two digits behind their marks, both ways; and the zone.
-use Rattle.std.proofs.Common.{◌≡◌, ◌⊎◌, ℕ, zero, suc, zero-le, ◌+◌, ◌-◌, ◌*◌, ◌/◌, ◌%◌, ◌<◌, ◌≤◌, Bool, true, false, ◌&&◌, cond, eqb, ltb, leb, List, [], ◌∷◌, ◌++◌, length, take, drop, replicate, Option, Some, None, refl, sym, ap, ◌∙◌, subst, inl, inr, append_assoc, arith}
-use Rattle.std.proofs.lemmas.Bool.{cases_Bool, cases_lt, cases_eq, eq-eqb, eqb-true, ne_eqb, le-leb, leb-true, lt-ltb, ltb-true, and_parts}
-use Rattle.std.proofs.lemmas.Nat.{div-mul-add, mod-mul-add}
+use Rattle.std.proofs.Common.{◌≡◌, ℕ, zero, suc, zero-le, ◌+◌, ◌-◌, ◌*◌, ◌/◌, ◌%◌, ◌<◌, ◌≤◌, Bool, true, false, ◌&&◌, cond, eqb, leb, List, [], ◌∷◌, ◌++◌, Option, Some, None, refl, sym, ap, ◌∙◌, subst, inl, inr, append_assoc, arith}
+use Rattle.std.proofs.lemmas.Bool.{cases_Bool, cases_lt, eq-eqb, eqb-true, le-leb, leb-true, and_parts}
 use Rattle.std.proofs.lemmas.List.{append-nil}
 use Rattle.std.proofs.lemmas.Fmt.{decimal_digit, decimal_step}
 use Rattle.std.proofs.lemmas.Option.{cond_some}
-use Rattle.std.specs.Prelude.{decimal, option_map, option_and_then, not, ℤ, pos, negsuc, neg_ℤ, IfSome, unsigned_abs}
+use Rattle.std.specs.Prelude.{decimal, option_map, not, ℤ, pos, neg_ℤ, IfSome, unsigned_abs}
 use Rattle.exi_digits.specs.Digits.{has_any, is_digit, padded}
-use Rattle.exi_calendar.specs.Parts.{IsIn, colon, hyphen, letter_z, no_mark, one_mark, plus, point}
+use Rattle.exi_calendar.specs.Parts.{IsIn, colon, hyphen, letter_z, no_mark, one_mark, plus}
 use Rattle.exi_calendar.specs.Forms.{SpellsZone, field_text, offset_text}
 use Rattle.exi_calendar.specs.Forms.SpellsZone.{absent, utc, east, west}
 use Rattle.exi_calendar.specs.Reading.{◌>>=◌, field_at, offset_of, past, two_digits_at, two_digits_of, within, zone_of}

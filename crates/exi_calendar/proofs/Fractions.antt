@@ -1,5 +1,5 @@
 -- The fraction of a second at the front of a text, both ways.
-use Rattle.std.proofs.Common.{◌≡◌, ℕ, ◌+◌, ◌^◌, ◌<◌, ◌≤◌, Bool, true, false, ◌&&◌, cond, eqb, List, [], ◌∷◌, ◌++◌, length, take, drop, Option, Some, None, refl, sym, ap, ◌∙◌, subst, arith}
+use Rattle.std.proofs.Common.{◌≡◌, ℕ, ◌^◌, ◌<◌, true, cond, eqb, List, [], ◌∷◌, ◌++◌, Option, Some, None, refl, sym, ap, ◌∙◌, subst, arith}
 use Rattle.std.proofs.lemmas.Bool.{and_parts}
 use Rattle.std.proofs.lemmas.List.{take-append-drop}
 use Rattle.std.specs.Prelude.{option_map, not, IfSome}
@@ -9,7 +9,7 @@ use Rattle.exi_calendar.specs.Parts.{IsFraction, point}
 use Rattle.exi_calendar.specs.Forms.{SpellsFraction}
 use Rattle.exi_calendar.specs.Reading.{after_lead, fraction_at, fraction_digits_at, lead, lead_width, optional_fraction_at, past}
 use Rattle.exi_calendar.proofs.Fields.{cond_some_of, map_some, past_back, past_front, some, some_is}
-use Rattle.exi_calendar.proofs.Years.{ends, lead_digits, lead_front, not_true}
+use Rattle.exi_calendar.proofs.Years.{ends, lead_front, not_true}
 
 given_front : (front digits behind rest : List ℕ) (back : ℕ) → front ≡ digits → behind ≡ rest → has_any digits ≡ true → back_in digits ≡ some back → cond (has_any front) (option_map {U = Option ℕ × List ℕ} (λ (b : ℕ). (some b, behind)) (back_in front)) None ≡ some (some back, rest)
 given_front front digits behind rest back f b any value =
@@ -50,8 +50,7 @@ digits_back fraction text rest e =
     let k = cond_some_of (all_digits (lead text)) (kept (back_of (lead text))) m.0 m.1 in
     let n = kept_is (back_of (lead text)) m.0 k.1 in
     let numeral : is_numeral (lead text) ≡ true = rw (g.0, k.0) refl in
-    let low : m.0 < 2 ^ 128 = omega arith in
-    (
+    let low : m.0 < 2 ^ 128 = omega arith in (
       lead text,
       sym (take-append-drop (lead_width text) text) ∙ ap (λ (t : List ℕ). lead text ++ t) behind,
       subst (λ (f : Option ℕ). SpellsFraction f (point ∷ lead text)) value (lead text, refl, numeral, n.0),

@@ -1,7 +1,7 @@
 -- Texts without white space and within ASCII.
-use Rattle.std.proofs.Common.{◌≡◌, ℕ, zero, suc, ◌+◌, ◌*◌, ◌/◌, ◌%◌, ◌^◌, ◌<◌, ◌≤◌, Bool, true, false, ◌&&◌, ltb, List, [], ◌∷◌, ◌++◌, Option, Some, None, refl, arith}
+use Rattle.std.proofs.Common.{◌≡◌, ℕ, zero, suc, ◌*◌, ◌/◌, ◌%◌, ◌^◌, ◌<◌, ◌≤◌, Bool, true, false, ◌&&◌, ltb, List, [], ◌∷◌, ◌++◌, Option, Some, None, refl, arith}
 use Rattle.std.proofs.lemmas.Bool.{and_from, and_parts, lt-ltb}
-use Rattle.std.specs.Prelude.{ℤ, pos, negsuc, unsigned_abs, IfSome, reverse}
+use Rattle.std.specs.Prelude.{ℤ, pos, negsuc, unsigned_abs, IfSome}
 use Rattle.exi_digits.specs.Digits.{all_digits, fraction_of, is_digit, padded}
 use Rattle.exi_digits.proofs.Decimals.{all_digits-fraction_of, all_digits-padded}
 use Rattle.exi_names.specs.declared.moment.Moment.{Moment}

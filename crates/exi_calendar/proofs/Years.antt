@@ -1,12 +1,12 @@
 -- The year at the front of a text, both ways.
-use Rattle.std.proofs.Common.{◌≡◌, ℕ, zero, suc, ◌+◌, ◌-◌, ◌*◌, ◌^◌, ◌<◌, ◌≤◌, Bool, true, false, ◌&&◌, cond, eqb, ltb, leb, List, [], ◌∷◌, ◌++◌, length, get_or, take, drop, replicate, Option, Some, None, refl, sym, ap, ◌∙◌, subst, inl, inr, append_assoc, arith}
+use Rattle.std.proofs.Common.{◌≡◌, ℕ, zero, suc, ◌-◌, ◌^◌, ◌<◌, ◌≤◌, Bool, true, false, ◌&&◌, cond, eqb, ltb, leb, List, [], ◌∷◌, ◌++◌, length, get_or, Option, Some, None, refl, sym, ap, ◌∙◌, subst, inl, inr, arith}
 use Rattle.std.proofs.lemmas.Bool.{cases_Bool, cases_lt, cases_eq, eq-eqb, eqb-true, eqb-false, ne_eqb, le-leb, leb-true, lt-ltb, ltb-true, and_parts}
 use Rattle.std.proofs.lemmas.List.{take_at, drop_at, take-append-drop}
-use Rattle.std.proofs.lemmas.Fmt.{decimal_digit, decimal-digits_value}
+use Rattle.std.proofs.lemmas.Fmt.{decimal-digits_value}
 use Rattle.std.proofs.lemmas.Str.Parse.{IsDigitsTest, IsNumeralModel, WeighsDigits, numerals_by_weight}
 use Rattle.std.proofs.lemmas.Option.{cond_some}
-use Rattle.std.specs.Prelude.{decimal, option_map, not, ℤ, pos, negsuc, neg_ℤ, ◌||◌}
-use Rattle.exi_digits.specs.Digits.{all_digits, has_any, is_digit, is_numeral, kept, number_in, number_of, padded}
+use Rattle.std.specs.Prelude.{decimal, not, ℤ, pos, negsuc}
+use Rattle.exi_digits.specs.Digits.{all_digits, is_digit, is_numeral, kept, number_in, number_of, padded}
 use Rattle.exi_digits.proofs.Numbers.{kept_is}
 use Rattle.exi_digits.proofs.Decimals.{all_digits-padded, decimal_long, decimal_short, first_digit, length-padded, number_in-padded, number_of_below, padded_any, padded_long}
 use Rattle.exi_calendar.specs.Parts.{IsYear, hyphen, point}

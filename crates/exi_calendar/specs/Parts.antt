@@ -1,6 +1,6 @@
 -- The fields of dates and times, the characters in front of each, and their ranges (XML Schema 1.0 Part 2,
 -- sections 3.2.7 to 3.2.14). A text is the list of its code points.
-use Rattle.std.specs.Prelude.{◌≡◌, IsTrue, IfSome, ℕ, ◌<◌, ◌≤◌, ◌^◌, ◌*◌, Bool, true, false, List, [], ◌∷◌, Option, Some, None, is_some, ℤ, pos, negsuc, unsigned_abs}
+use Rattle.std.specs.Prelude.{◌≡◌, IfSome, ℕ, ◌<◌, ◌≤◌, ◌^◌, ◌*◌, Bool, true, false, List, [], ◌∷◌, Option, Some, None, ℤ, pos, negsuc, unsigned_abs}
 use Rattle.exi_names.specs.declared.moment.Moment.{Moment}
 use Rattle.exi_names.specs.declared.moment.MomentKind.{MomentKind}
 use Rattle.exi_names.specs.declared.moment.MomentKind.TheVariants as form

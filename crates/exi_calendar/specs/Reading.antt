@@ -1,6 +1,7 @@
 -- How the value of a text follows from its form: field by field, each behind the one before it. Nothing where the
 -- text has not the form, or where a field is out of its range (XML Schema 1.0 Part 2, sections 3.2.7 to 3.2.14).
-use Rattle.std.specs.Prelude.{Option, Some, None, option_and_then, option_map, ℕ, zero, suc, ◌+◌, ◌-◌, ◌*◌, ◌^◌, ◌==◌, ◌&&◌, ◌||◌, nat_lt, nat_le, if◌then◌else◌, Bool, true, false, List, [], ◌∷◌, length, take, drop, slice_index, not, ℤ, pos, neg_ℤ}
+use Rattle.std.specs.Prelude.{◌≡◌, Option, Some, None, option_and_then, option_map, ℕ, suc, ◌+◌, ◌-◌, ◌*◌, ◌^◌, ◌==◌, ◌&&◌, ◌||◌, nat_lt, nat_le, if◌then◌else◌, Bool, true, false, List, [], ◌∷◌, length, take, drop, slice_index, not, ℤ, pos, neg_ℤ}
+use Rattle.std.specs.Borrow.{Bor}
 use Rattle.exi_names.specs.declared.moment.Moment.{Moment}
 use Rattle.exi_names.specs.declared.moment.MomentKind.{MomentKind}
 use Rattle.exi_digits.specs.Digits.{back_in, has_any, is_digit, number_in}
@@ -10,6 +11,11 @@ use Rattle.exi_calendar.specs.Parts.{colon, hyphen, layout, letter_z, no_mark, o
 infixl 10 ◌>>=◌
 abbrev pub ◌>>=◌ : {A B : Type 0} → Option A → (A → Option B) → Option B
 o >>= f = option_and_then f o
+
+-- what was answered, with the text that is left, is what the reading gives
+abbrev pub Reads : {X : Type 0} → Option (X × Bor (List ℕ)) → Option (X × List ℕ) → Type 0
+Reads None read = read ≡ None
+Reads (Some found) read = read ≡ Some (found.0, found.1.now)
 
 -- ---- pieces of a text
 -- what stands behind these marks, where the text begins with them

@@ -1,12 +1,17 @@
-//! What holds between the texts of a date or a time and its value. Each law is a function that does nothing: what
-//! it ensures is the law.
+//! What holds between the texts of a date or a time and its value. Each law is a function that does
+//! nothing: what it ensures is the law.
 
-ghost use Rattle.exi_calendar.specs.Laws.{CanonicalTextHasItsValue, CanonicalTextIsVisible, ValueIsOne, ValueComesBack, ValueIsByForm};
+ghost use Rattle.exi_calendar.specs.Laws.{CanonicalTextHasItsValue, CanonicalTextIsVisible, ValueComesBack, ValueIsByForm, ValueIsOne};
 
-/// A text has a value exactly where it is one of the texts of that value: its fields one after another, as the form
-/// of the kind writes them, each in its range.
+/// A text has a value exactly where it is one of the texts of that value: its fields one after
+/// another, as the form of the kind writes them, each in its range.
 pub fn value_is_by_form()
     ensures { ValueIsByForm }
+{}
+
+/// No text is one of the texts of two dates or times of a kind.
+pub fn value_is_one()
+    ensures { ValueIsOne }
 {}
 
 /// The canonical text of a date or a time in its ranges has that date or time as its value.
@@ -19,12 +24,7 @@ pub fn value_comes_back()
     ensures { ValueComesBack }
 {}
 
-/// No text is one of the texts of two dates or times of a kind.
-pub fn value_is_one()
-    ensures { ValueIsOne }
-{}
-
-/// The canonical text of a date or a time in its ranges has no white space, and ASCII characters alone.
+/// The canonical text of a date or a time in its ranges has no white space, and ASCII alone.
 pub fn canonical_text_is_visible()
     ensures { CanonicalTextIsVisible }
 {}

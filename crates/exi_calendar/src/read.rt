@@ -1,8 +1,8 @@
 //! From a text to its value: field by field, each behind the one before it.
 
-ghost use Rattle.std.specs.Prelude.{◌≡◌, ◌≤◌, ◌-◌, length, MatchOption, IfSome, option_map, pos};
+ghost use Rattle.std.specs.Prelude.{◌≡◌, ◌≤◌, ◌-◌, length, option_map, pos};
 ghost use Rattle.std.specs.Option.{option_copied};
-ghost use Rattle.exi_calendar.specs.Reading.{after_lead, digits_year_at, field_at, fraction_at, fraction_digits_at, is_long_enough, lead, lead_width, moment_value, offset_of, past, signed_year, two_digits_at, two_digits_of, year_at, year_of, zone_of};
+ghost use Rattle.exi_calendar.specs.Reading.{Reads, after_lead, digits_year_at, field_at, fraction_at, fraction_digits_at, is_long_enough, lead, lead_width, moment_value, offset_of, past, signed_year, two_digits_at, two_digits_of, year_at, year_of, zone_of};
 
 use crate::layout::{day_marks, has_year, hour_marks, minute_marks, month_marks};
 use exi_names::{Moment, MomentKind};
@@ -51,19 +51,20 @@ fn two_digits(least: u8, most: u8, tens: u8, ones: u8) -> Option<u8>
     }
 }
 
-/// The number of the two digits that a text begins with, within these bounds, and what stands behind them.
+/// The number of the two digits that a text begins with, within these bounds, and what stands behind
+/// them.
 fn two_digits_in_front(least: u8, most: u8, text: &[u8]) -> Option<(u8, &[u8])>
-    ensures { MatchOption result (two_digits_at least most text.now ≡ None) (λ p. two_digits_at least most text.now ≡ Some (p.0, p.1.now)) }
+    ensures { Reads result (two_digits_at least most text.now) }
 {
     let (digits, rest) = text.split_at_checked(2)?;
     Some((two_digits(least, most, digits[0], digits[1])?, rest))
 }
 
-/// The field behind its marks, within these bounds, and what stands behind it; 0 where the kind does not have
-/// the field.
+/// The field behind its marks, within these bounds, and what stands behind it; 0 where the kind does
+/// not have the field.
 #[tactic(auto, unfolding(crate::specs::Reading::field_at))]
 fn field<'a>(marks: Option<&str>, least: u8, most: u8, text: &'a [u8]) -> Option<(u8, &'a [u8])>
-    ensures { MatchOption result (field_at (option_copied marks.entry) least most text.now ≡ None) (λ p. field_at (option_copied marks.entry) least most text.now ≡ Some (p.0, p.1.now)) }
+    ensures { Reads result (field_at (option_copied marks.entry) least most text.now) }
 {
     let Some(marks) = marks else {
         return Some((0, text));
@@ -105,7 +106,7 @@ fn year_of(minus: bool, digits: &[u8]) -> Option<i64>
 /// The year of a sign and the digits that a text begins with, and what stands behind them.
 #[tactic(auto, unfolding(crate::specs::Reading::digits_year_at))]
 fn digits_year(minus: bool, text: &[u8]) -> Option<(i64, &[u8])>
-    ensures { MatchOption result (digits_year_at minus text.now ≡ None) (λ p. digits_year_at minus text.now ≡ Some (p.0, p.1.now)) }
+    ensures { Reads result (digits_year_at minus text.now) }
 {
     let (digits, rest) = split_digits(text);
     Some((year_of(minus, digits)?, rest))
@@ -114,7 +115,7 @@ fn digits_year(minus: bool, text: &[u8]) -> Option<(i64, &[u8])>
 /// The year that a text begins with, and what stands behind it; 0 where the kind does not have one.
 #[tactic(auto, unfolding(crate::specs::Reading::year_at))]
 fn year(counts: bool, text: &[u8]) -> Option<(i64, &[u8])>
-    ensures { MatchOption result (year_at counts text.now ≡ None) (λ p. year_at counts text.now ≡ Some (p.0, p.1.now)) }
+    ensures { Reads result (year_at counts text.now) }
 {
     if !counts {
         return Some((0, text));
@@ -128,7 +129,7 @@ fn year(counts: bool, text: &[u8]) -> Option<(i64, &[u8])>
 /// The fraction's digits behind its point, one at least, and what stands behind them.
 #[tactic(auto, unfolding(crate::specs::Reading::fraction_digits_at))]
 fn fraction_digits(text: &[u8]) -> Option<(Option<u128>, &[u8])>
-    ensures { MatchOption result (fraction_digits_at text.now ≡ None) (λ p. fraction_digits_at text.now ≡ Some (p.0, p.1.now)) }
+    ensures { Reads result (fraction_digits_at text.now) }
 {
     let (digits, rest) = split_digits(text);
     if digits.is_empty() {
@@ -137,10 +138,11 @@ fn fraction_digits(text: &[u8]) -> Option<(Option<u128>, &[u8])>
     Some((Some(exi_digits::back(digits)?), rest))
 }
 
-/// The fraction that a text begins with, where seconds stand in front of it, and what stands behind it.
+/// The fraction that a text begins with, where seconds stand in front of it, and what stands behind
+/// it.
 #[tactic(auto, unfolding(crate::specs::Reading::fraction_at))]
 fn fraction<'a>(marks: Option<&str>, text: &'a [u8]) -> Option<(Option<u128>, &'a [u8])>
-    ensures { MatchOption result (fraction_at (option_copied marks.entry) text.now ≡ None) (λ p. fraction_at (option_copied marks.entry) text.now ≡ Some (p.0, p.1.now)) }
+    ensures { Reads result (fraction_at (option_copied marks.entry) text.now) }
 {
     if marks.is_none() {
         return Some((None, text));
@@ -182,12 +184,13 @@ fn zone(text: &[u8]) -> Option<Option<i16>>
     }
 }
 
-/// The date or the time of a kind that a text stands for (XML Schema 1.0 Part 2, sections 3.2.7 to 3.2.14), or `None`
-/// where the text has not the form of the kind or a field is out of its range. The text has no white space around it.
+/// The date or the time of a kind that a text stands for (XML Schema 1.0 Part 2, sections 3.2.7 to
+/// 3.2.14), or `None` where the text has not the form of the kind or a field is out of its range. The
+/// text has no white space around it. Takes no memory.
 ///
-/// The year fits 64 bits. Day 31 is taken in any month, any minute in hour 24, and second 60; the zone is at most
-/// 14 hours either way. The digits of a fraction, read backwards, are a number below 2^128. A field that the kind does
-/// not have is 0 in the value. Takes no memory.
+/// The year fits 64 bits. Day 31 is taken in any month, any minute in hour 24, and second 60; the
+/// zone is at most 14 hours either way. The digits of a fraction, read backwards, are a number below
+/// 2^128. A field that the kind does not have is 0 in the value.
 #[tactic(auto, unfolding(crate::specs::Reading::moment_value))]
 pub fn moment(kind: MomentKind, text: &[u8]) -> Option<Moment>
     ensures { result ≡ moment_value kind text.now }
