@@ -1,13 +1,13 @@
 //! The value of a text.
 
-ghost use Rattle.std.specs.Prelude.{◌≡◌, true, IfOk, IfSome, option_map};
+ghost use Rattle.std.specs.Prelude.{◌≡◌, true, Some, IfOk, IfSome, option_map};
 ghost use Rattle.std.specs.Option.{is_some};
 ghost use Rattle.std.specs.Str.{chars};
 ghost use Rattle.exi_names.specs.Datatypes.{represented};
 ghost use Rattle.exi_names.specs.Seen.{items, seen, vals, values_of};
 ghost use Rattle.exi_numerals.specs.Decimals.{decimal_value};
 ghost use Rattle.exi_numerals.specs.Floats.{float_value};
-ghost use Rattle.exi_lexical.specs.Values.{of_decimal, of_float, binary_value, boolean_value, chosen, first_equal, form_value, has_text, list_value, scalar_value, value};
+ghost use Rattle.exi_lexical.specs.Values.{of_decimal, of_float, binary_value, boolean_value, canonical, chosen, first_equal, form_value, has_text, list_value, scalar_value, value};
 
 use crate::binaries::{base64_value, hex_value};
 use crate::equality::same;
@@ -150,6 +150,8 @@ pub fn value_of(alloc: Global, kind: &Datatype, text: &Txt) -> Result<Option<Val
     ensures value { IfOk result (λ v. option_map seen v ≡ value (represented kind.now) text.now) }
     // so that `canon` may be called on it
     ensures text { IfOk result (λ v. IfSome v (λ v. has_text (seen v) ≡ true)) }
+    // its canonical text has it again
+    ensures again { IfOk result (λ v. IfSome v (λ v. value (represented kind.now) (canonical (seen v)) ≡ Some (seen v))) }
 {
     value_in(alloc, kind, text.as_str())
 }
@@ -157,7 +159,7 @@ pub fn value_of(alloc: Global, kind: &Datatype, text: &Txt) -> Result<Option<Val
 /// The value of a text under a datatype, if it has one.
 #[cycle(value)]
 #[tactic(auto, unfolding(crate::specs::Values::value))]
-pub fn value_in(alloc: Global, kind: &Datatype, text: &str) -> Result<Option<Val>, AllocError>
+fn value_in(alloc: Global, kind: &Datatype, text: &str) -> Result<Option<Val>, AllocError>
     ensures { IfOk result (λ v. option_map seen v ≡ value (represented kind.now) (chars text.now)) }
 {
     match kind {
