@@ -9,6 +9,8 @@
 //! read DATATYPE ALIGN SKIP HEX  VALUE BIT, or fault KIND BIT
 //! chars SET ALIGN COUNT SKIP HEX    text HEX BIT, or fault KIND BIT
 //! wchars SET ALIGN SKIP TEXT    HEX BITS
+//! value DATATYPE TEXT           VALUE, or none
+//! write DATATYPE ALIGN SKIP TEXT    HEX BITS, or none
 //! ```
 //!
 //! `HEX` is pairs of hex digits, `-` where empty; a text is the hex of its UTF-8. `SKIP` is a number of
@@ -18,6 +20,7 @@
 mod fields;
 mod reads;
 mod show;
+mod texts;
 mod writes;
 
 use std::alloc::{AllocError, Global};
@@ -39,6 +42,8 @@ fn answer(alloc: Global, line: &str) -> Result<Option<String>, AllocError> {
             reads::chars(alloc, set, align, count, skip, hex)
         }
         ["wchars", set, align, skip, text] => writes::chars(alloc, set, align, skip, text),
+        ["value", kind, text] => texts::value(alloc, kind, text),
+        ["write", kind, align, skip, text] => texts::write(alloc, kind, align, skip, text),
         _ => Ok(None),
     }
 }

@@ -78,7 +78,7 @@ fn stops(read: Result<Val, Fault>) -> Result<Val, Stop> {
 }
 
 /// The kind of dates or times of that name.
-fn moment_kind(name: &str) -> Option<MomentKind> {
+pub fn moment_kind(name: &str) -> Option<MomentKind> {
     match name {
         "gYear" => Some(MomentKind::GYear),
         "gYearMonth" => Some(MomentKind::GYearMonth),
@@ -136,7 +136,7 @@ pub fn value(
         },
     };
     match read {
-        Ok(value) => show::value(alloc, &value, input.at()),
+        Ok(value) => show::read(alloc, &value, input.at()),
         Err(stop) => show::stop(alloc, stop),
     }
 }

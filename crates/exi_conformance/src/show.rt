@@ -1,8 +1,12 @@
 //! What is printed.
 
-use base64::engine::general_purpose::STANDARD;
+ghost use Rattle.std.specs.Prelude.{◌≡◌, true, IfSome};
+ghost use Rattle.exi_names.specs.Seen.{seen};
+ghost use Rattle.exi_lexical.specs.Values.{has_text};
+
 use exi_bits::{BitOut, Fault, Stop};
-use exi_names::{Moment, MomentKind, Val};
+use exi_lexical::canon;
+use exi_names::Val;
 use std::alloc::{AllocError, Global};
 
 /// Bytes as hex digits, `-` where there are none.
@@ -35,141 +39,43 @@ pub fn stop(alloc: Global, stop: Stop) -> Result<Option<String>, AllocError> {
     }
 }
 
-/// Octets: hexadecimal in upper case, or base64; `-` where there are none.
-fn octets(alloc: Global, hex: bool, octets: &[u8]) -> Result<String, AllocError> {
-    if octets.is_empty() {
-        return String::from_str(alloc, "-");
-    }
-    if hex {
-        hex::encode_upper(alloc, octets)
-    } else {
-        STANDARD.encode(alloc, octets)
-    }
-}
-
-/// The digits of a number in reverse, at most 39.
-fn reversed(alloc: Global, number: u128) -> Result<String, AllocError> {
-    let mut text = String::new(alloc);
-    let mut rest = number;
-    for _ in 0..39u32 {
-        text.push((b'0' + (rest % 10) as u8) as char)?;
-        rest /= 10;
-        if rest == 0 {
-            break;
-        }
-    }
-    Ok(text)
-}
-
-/// A float: its mantissa and exponent, or the word for what is no number.
-fn float(alloc: Global, mantissa: i64, exponent: i16) -> Result<String, AllocError> {
-    if exponent > -16384 {
-        return format!(in alloc; "{mantissa}E{exponent}");
-    }
-    String::from_str(
-        alloc,
-        match mantissa {
-            1 => "INF",
-            -1 => "-INF",
-            _ => "NaN",
-        },
-    )
-}
-
-/// The year, month and day of a kind, as far as it has them.
-fn date_text(alloc: Global, moment: &Moment) -> Result<String, AllocError> {
-    let sign = if moment.year < 0 { "-" } else { "" };
-    let year = moment.year.unsigned_abs();
-    let month = moment.month;
-    let day = moment.day;
-    match moment.kind {
-        MomentKind::GYear => format!(in alloc; "{sign}{year:04}"),
-        MomentKind::GYearMonth => format!(in alloc; "{sign}{year:04}-{month:02}"),
-        MomentKind::Date => format!(in alloc; "{sign}{year:04}-{month:02}-{day:02}"),
-        MomentKind::DateTime => format!(in alloc; "{sign}{year:04}-{month:02}-{day:02}T"),
-        MomentKind::GMonth => format!(in alloc; "--{month:02}"),
-        MomentKind::GMonthDay => format!(in alloc; "--{month:02}-{day:02}"),
-        MomentKind::GDay => format!(in alloc; "---{day:02}"),
-        MomentKind::Time => Ok(String::new(alloc)),
+/// The word of a value's kind; none for strings, lists and names.
+fn word(value: &Val) -> Option<&'static str>
+    ensures { IfSome result (λ _. has_text (seen value.now) ≡ true) }
+{
+    match value {
+        Val::Bool { yes: _, digit: _ } => Some("bool"),
+        Val::Int(_) => Some("int"),
+        Val::Dec {
+            minus: _,
+            whole: _,
+            back: _,
+        } => Some("dec"),
+        Val::Flo {
+            mantissa: _,
+            exponent: _,
+        } => Some("flo"),
+        Val::Mom(_) => Some("mom"),
+        Val::Bin { hex, octets: _ } => Some(if *hex { "hex" } else { "base64" }),
+        _ => None,
     }
 }
 
-/// The time of day, with its fraction.
-fn time_text(alloc: Global, moment: &Moment) -> Result<String, AllocError> {
-    let hour = moment.hour;
-    let minute = moment.minute;
-    let second = moment.second;
-    match moment.fraction {
-        None => format!(in alloc; "{hour:02}:{minute:02}:{second:02}"),
-        Some(digits) => {
-            let fraction = reversed(alloc, digits)?;
-            format!(in alloc; "{hour:02}:{minute:02}:{second:02}.{fraction}")
-        }
-    }
-}
-
-/// The zone, `Z` where it is none.
-fn zone_text(alloc: Global, zone: i16) -> Result<String, AllocError> {
-    if zone == 0 {
-        return String::from_str(alloc, "Z");
-    }
-    let sign = if zone < 0 { "-" } else { "+" };
-    let minutes = zone.unsigned_abs();
-    let hour = minutes / 60;
-    let minute = minutes % 60;
-    format!(in alloc; "{sign}{hour:02}:{minute:02}")
-}
-
-/// A date or a time as XML Schema writes it.
-fn moment_text(alloc: Global, moment: &Moment) -> Result<String, AllocError> {
-    let date = date_text(alloc, moment)?;
-    let time = match moment.kind {
-        MomentKind::DateTime | MomentKind::Time => time_text(alloc, moment)?,
-        _ => String::new(alloc),
+/// A value's kind and canonical text, `-` where that is empty.
+pub fn value(alloc: Global, value: &Val) -> Result<Option<String>, AllocError> {
+    let Some(word) = word(value) else {
+        return Ok(None);
     };
-    let zone = match moment.zone {
-        None => String::new(alloc),
-        Some(zone) => zone_text(alloc, zone)?,
-    };
-    format!(in alloc; "{date}{time}{zone}")
+    let text = canon(alloc, value)?;
+    let text = text.as_str();
+    let text = if text.is_empty() { "-" } else { text };
+    Ok(Some(format!(in alloc; "{word} {text}")?))
 }
 
 /// A value's kind and canonical text, and the place behind it.
-pub fn value(alloc: Global, value: &Val, bit: u64) -> Result<Option<String>, AllocError> {
-    let text = match value {
-        Val::Bool { yes, digit } => {
-            let word = match (*yes, *digit) {
-                (false, false) => "false",
-                (true, false) => "true",
-                (false, true) => "0",
-                (true, true) => "1",
-            };
-            format!(in alloc; "bool {word} {bit}")?
-        }
-        Val::Int(whole) => {
-            let sign = if whole.minus { "-" } else { "" };
-            let size = whole.size;
-            format!(in alloc; "int {sign}{size} {bit}")?
-        }
-        Val::Dec { minus, whole, back } => {
-            let sign = if *minus { "-" } else { "" };
-            let fraction = reversed(alloc, *back)?;
-            format!(in alloc; "dec {sign}{whole}.{fraction} {bit}")?
-        }
-        Val::Flo { mantissa, exponent } => {
-            let shown = float(alloc, *mantissa, *exponent)?;
-            format!(in alloc; "flo {shown} {bit}")?
-        }
-        Val::Bin { hex, octets: bytes } => {
-            let word = if *hex { "hex" } else { "base64" };
-            let shown = octets(alloc, *hex, bytes.as_slice())?;
-            format!(in alloc; "{word} {shown} {bit}")?
-        }
-        Val::Mom(moment) => {
-            let shown = moment_text(alloc, moment)?;
-            format!(in alloc; "mom {shown} {bit}")?
-        }
-        _ => return Ok(None),
-    };
-    Ok(Some(text))
+pub fn read(alloc: Global, found: &Val, bit: u64) -> Result<Option<String>, AllocError> {
+    match value(alloc, found)? {
+        Some(shown) => Ok(Some(format!(in alloc; "{shown} {bit}")?)),
+        None => Ok(None),
+    }
 }

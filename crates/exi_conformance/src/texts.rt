@@ -1,0 +1,111 @@
+//! The cases of texts and their values.
+
+ghost use Rattle.std.specs.Prelude.{◌≡◌, true};
+ghost use Rattle.exi_bits.specs.Written.{IsWholeBytes};
+ghost use Rattle.exi_names.specs.Seen.{float};
+ghost use Rattle.exi_scalar.specs.Scalars.{IsFloat, IsInteger};
+
+use crate::fields::{align_of, text_of, zeros};
+use crate::reads::moment_kind;
+use crate::show;
+use exi_bits::{Align, BitOut};
+use exi_lexical::value_of;
+use exi_moment::{is_moment, write_moment};
+use exi_names::{Datatype, Val, Whole};
+use exi_scalar::{write_binary, write_boolean, write_decimal, write_float, write_integer};
+use std::alloc::{AllocError, Global};
+
+/// The datatype of that name.
+fn datatype(name: &str) -> Option<Datatype> {
+    match name {
+        "integer" => Some(Datatype::Integer),
+        "boolean" => Some(Datatype::Boolean { pattern: false }),
+        "boolean-pattern" => Some(Datatype::Boolean { pattern: true }),
+        "decimal" => Some(Datatype::Decimal),
+        "float" => Some(Datatype::Float),
+        "hex" => Some(Datatype::Binary { hex: true }),
+        "base64" => Some(Datatype::Binary { hex: false }),
+        _ => moment_kind(name).map(Datatype::Moment),
+    }
+}
+
+/// `value DATATYPE TEXT`
+pub fn value(alloc: Global, kind: &str, text: &str) -> Result<Option<String>, AllocError> {
+    let (Some(kind), Some(text)) = (datatype(kind), text_of(alloc, text)?) else {
+        return Ok(None);
+    };
+    match value_of(alloc, &kind, &text)? {
+        Some(found) => show::value(alloc, &found),
+        None => Ok(Some(String::from_str(alloc, "none")?)),
+    }
+}
+
+/// Whether an Integer has a spelling: from -2^127 to 2^127 - 1.
+fn is_integer(whole: Whole) -> bool
+    ensures { result ≡ true → IsInteger whole }
+{
+    whole.size < 1 << 127 || (whole.minus && whole.size == 1 << 127)
+}
+
+/// Whether a Float has a spelling: an exponent of 15 bits, and one of three mantissas with the least of them.
+fn is_float(mantissa: i64, exponent: i16) -> bool
+    ensures { result ≡ true → IsFloat (float mantissa exponent) }
+{
+    if exponent == -16384 {
+        mantissa == 1 || mantissa == -1 || mantissa == 0
+    } else {
+        -16384 < exponent && exponent < 16384
+    }
+}
+
+/// Writes a value by its kind's writer; false where it has no spelling there.
+fn put(out: &mut BitOut, pattern: bool, value: &Val, align: Align) -> Result<bool, AllocError>
+    requires { IsWholeBytes align out.old }
+{
+    match value {
+        Val::Int(whole) if is_integer(*whole) => write_integer(out, *whole, align)?,
+        Val::Bool { yes: _, digit } if pattern || !*digit => {
+            write_boolean(out, value, pattern, align)?;
+        }
+        Val::Dec {
+            minus: _,
+            whole: _,
+            back: _,
+        } => write_decimal(out, value, align)?,
+        Val::Flo { mantissa, exponent } if is_float(*mantissa, *exponent) => {
+            write_float(out, value, align)?;
+        }
+        Val::Mom(moment) if is_moment(moment) => write_moment(out, moment, align)?,
+        Val::Bin { hex: _, octets: _ } => write_binary(out, value, align)?,
+        _ => return Ok(false),
+    }
+    Ok(true)
+}
+
+/// `write DATATYPE ALIGN SKIP TEXT`
+pub fn write(
+    alloc: Global,
+    kind: &str,
+    align: &str,
+    skip: &str,
+    text: &str,
+) -> Result<Option<String>, AllocError> {
+    let (Some(align), Ok(skip)) = (align_of(align), skip.parse::<u64>()) else {
+        return Ok(None);
+    };
+    let (Some(kind), Some(text)) = (datatype(kind), text_of(alloc, text)?) else {
+        return Ok(None);
+    };
+    let Some(mut out) = zeros(alloc, align, skip)? else {
+        return Ok(None);
+    };
+    let Some(value) = value_of(alloc, &kind, &text)? else {
+        return Ok(Some(String::from_str(alloc, "none")?));
+    };
+    let pattern = matches!(kind, Datatype::Boolean { pattern: true });
+    if put(&mut out, pattern, &value, align)? {
+        show::bits(alloc, &out)
+    } else {
+        Ok(None)
+    }
+}

@@ -1,0 +1,15 @@
+pub mod Blanks
+pub mod Letters
+pub mod Tables
+pub mod Appends
+pub mod Hexes
+pub mod Sixes
+pub mod Same
+pub mod Lists
+pub mod Graphic
+pub mod Visible
+pub mod Joined
+pub mod Trims
+pub mod Again
+pub mod Named
+pub mod Worked
