@@ -7,6 +7,7 @@ use Rattle.exi_builtin.specs.declared.learnable.Learnable.TheVariants as learnab
 use Rattle.exi_builtin.specs.declared.learnable.Learned.{Learned}
 use Rattle.exi_builtin.specs.declared.learnable.Learned.TheVariants as learned
 
+-- names are told apart by the least places of their texts: whoever asks has looked them up
 abbrev pub same_name : NameId → NameId → Bool
 same_name a b = (a.uri == b.uri) && (a.local == b.local)
 
@@ -35,7 +36,7 @@ is_known_type (learnable.Known name attribute) = attribute && is_type name
 is_known_type other = false
 
 -- CH, EE and AT(xsi:type) are added once only: not where the state has a production of one part for them.
--- Any other attribute, and every element, is added at each use
+-- Any other attribute is added at each use of AT(*), and an element at each use of SE(*)
 abbrev pub stands_already : Learned → List Learnable → Bool
 stands_already (learned.Se name) firsts = false
 stands_already (learned.At name) firsts = is_type name && list_any is_known_type firsts

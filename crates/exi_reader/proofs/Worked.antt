@@ -111,6 +111,9 @@ byte_aligned = switched 8
 abbrev prefixed : Setting
 prefixed = switched 128
 
+abbrev aligned_prefixed : Setting
+aligned_prefixed = switched 136
+
 abbrev strict : Setting
 strict = switched 1
 
@@ -250,3 +253,33 @@ too_deep = refl
 prefixes_by_place : walk 40 prefixed (limited prefixed stream_bounds (0x80 ∷ 0x00 ∷ 0x5D ∷ 0x40 ∷ 0x98 ∷ 0x54 ∷ 0x01 ∷ 0x70 ∷ 0xA8 ∷ 0x01 ∷ 0x71 ∷ 0x38 ∷ 0x04 ∷ 0xC7 ∷ 0x24 ∷ 0x09 ∷ 0xAC ∷ 0x0A ∷ 0x00 ∷ [])) ≡ reached (sd ∷ se (record { uri = codes "u"; local = codes "a"; prefix = None }) ∷ ns (codes "u") (codes "p") true ∷ ns (codes "u") (codes "q") false ∷ se (record { uri = codes "u"; local = codes "c"; prefix = Some (codes "q") }) ∷ at (record { uri = []; local = codes "k"; prefix = Some [] }) (text []) ∷ ee ∷ ee ∷ ed ∷ []) (done 147) 9 10 2
 unfolding one any_element_at known_element_at characters_at any_attribute_at known_attribute_at declaration_event_at comment_at instruction_at document_type_at entity_at string_at type_at name_value_at code_at second_at member_at part_at name_at name_under known_at local_at indexed_at literal_at missed_at hit_at charged_at value_at declaration_at chars_at in_set_at char_code_at times is_xml_char text_charge place_at field_at unsigned_at narrow_groups_at groups_at number_at value_of bits number_bits le_value width_from
 prefixes_by_place = refl
+
+-- in whole bytes a number may be too large for its bits
+number_too_large : walk 40 byte_aligned (limited byte_aligned stream_bounds (0x80 ∷ 0x04 ∷ [])) ≡ reached (sd ∷ []) (wrong kind.BadPlace 8) 2 0 1
+unfolding one any_element_at known_element_at characters_at any_attribute_at known_attribute_at declaration_event_at comment_at instruction_at document_type_at entity_at string_at type_at name_value_at code_at second_at member_at part_at name_at name_under known_at local_at indexed_at literal_at missed_at hit_at charged_at value_at declaration_at chars_at in_set_at char_code_at times is_xml_char text_charge place_at field_at unsigned_at narrow_groups_at groups_at number_at value_of bits number_bits le_value width_from
+number_too_large = refl
+
+-- in whole bytes the flag of a declaration may be neither 0 nor 1
+flag_too_large : walk 40 aligned_prefixed (limited aligned_prefixed stream_bounds (0x80 ∷ 0x01 ∷ 0x02 ∷ 0x61 ∷ 0x02 ∷ 0x01 ∷ 0x01 ∷ 0x02 ∷ [])) ≡ reached (sd ∷ se (record { uri = []; local = codes "a"; prefix = Some [] }) ∷ []) (wrong kind.BadPlace 56) 3 1 1
+unfolding one any_element_at known_element_at characters_at any_attribute_at known_attribute_at declaration_event_at comment_at instruction_at document_type_at entity_at string_at type_at name_value_at code_at second_at member_at part_at name_at name_under known_at local_at indexed_at literal_at missed_at hit_at charged_at value_at declaration_at chars_at in_set_at char_code_at times is_xml_char text_charge place_at field_at unsigned_at narrow_groups_at groups_at number_at value_of bits number_bits le_value width_from
+flag_too_large = refl
+
+-- a URI that is spelled out again goes on as its least place, whose local names are found
+second_uri : walk 40 default_setting (limited default_setting stream_bounds (0x80 ∷ 0x00 ∷ 0x5D ∷ 0x40 ∷ 0x98 ∷ 0x60 ∷ 0x02 ∷ 0xEA ∷ 0x01 ∷ 0x50 ∷ 0x27 ∷ 0xA0 ∷ [])) ≡ reached (sd ∷ se (record { uri = codes "u"; local = codes "a"; prefix = None }) ∷ se (record { uri = codes "u"; local = codes "a"; prefix = None }) ∷ []) (wrong kind.Short 85) 4 43 2
+unfolding one any_element_at known_element_at characters_at any_attribute_at known_attribute_at declaration_event_at comment_at instruction_at document_type_at entity_at string_at type_at name_value_at code_at second_at member_at part_at name_at name_under known_at local_at indexed_at literal_at missed_at hit_at charged_at value_at declaration_at chars_at in_set_at char_code_at times is_xml_char text_charge place_at field_at unsigned_at narrow_groups_at groups_at number_at value_of bits number_bits le_value width_from
+second_uri = refl
+
+-- elements of one name learn together, also while one is open in another
+nested : walk 40 default_setting (limited default_setting stream_bounds (0x80 ∷ 0x40 ∷ 0x98 ∷ 0x64 ∷ 0x01 ∷ 0x30 ∷ 0x37 ∷ 0x60 ∷ 0x01 ∷ 0x40 ∷ [])) ≡ reached (sd ∷ se (record { uri = []; local = codes "a"; prefix = None }) ∷ se (record { uri = []; local = codes "a"; prefix = None }) ∷ se (record { uri = []; local = codes "a"; prefix = None }) ∷ ee ∷ ch (text (codes "v")) ∷ ch (text (codes "v")) ∷ ee ∷ ee ∷ ed ∷ []) (done 74) 10 5 3
+unfolding one any_element_at known_element_at characters_at any_attribute_at known_attribute_at declaration_event_at comment_at instruction_at document_type_at entity_at string_at type_at name_value_at code_at second_at member_at part_at name_at name_under known_at local_at indexed_at literal_at missed_at hit_at charged_at value_at declaration_at chars_at in_set_at char_code_at times is_xml_char text_charge place_at field_at unsigned_at narrow_groups_at groups_at number_at value_of bits number_bits le_value width_from
+nested = refl
+
+-- a value that another name added is told among all, and stands not among the own
+other_value : walk 40 default_setting (limited default_setting stream_bounds (0x80 ∷ 0x40 ∷ 0x98 ∷ 0x54 ∷ 0x09 ∷ 0xAC ∷ 0x0D ∷ 0xDB ∷ 0x80 ∷ 0xE0 ∷ 0x00 ∷ [])) ≡ reached (sd ∷ se (record { uri = []; local = codes "a"; prefix = None }) ∷ at (record { uri = []; local = codes "k"; prefix = None }) (text (codes "v")) ∷ ch (text (codes "v")) ∷ []) (wrong kind.BadPlace 83) 5 4 1
+unfolding one any_element_at known_element_at characters_at any_attribute_at known_attribute_at declaration_event_at comment_at instruction_at document_type_at entity_at string_at type_at name_value_at code_at second_at member_at part_at name_at name_under known_at local_at indexed_at literal_at missed_at hit_at charged_at value_at declaration_at chars_at in_set_at char_code_at times is_xml_char text_charge place_at field_at unsigned_at narrow_groups_at groups_at number_at value_of bits number_bits le_value width_from
+other_value = refl
+
+-- of three prefixes no fourth is told
+third_prefix : walk 40 prefixed (limited prefixed stream_bounds (0x80 ∷ 0x00 ∷ 0x5D ∷ 0x40 ∷ 0x98 ∷ 0x54 ∷ 0x01 ∷ 0x70 ∷ 0x28 ∷ 0x01 ∷ 0x71 ∷ 0x28 ∷ 0x00 ∷ 0xB9 ∷ 0x1C ∷ 0x02 ∷ 0x6B ∷ 0xC0 ∷ [])) ≡ reached (sd ∷ se (record { uri = codes "u"; local = codes "a"; prefix = None }) ∷ ns (codes "u") (codes "p") false ∷ ns (codes "u") (codes "q") false ∷ ns (codes "u") (codes "r") false ∷ []) (wrong kind.BadPlace 136) 6 10 2
+unfolding one any_element_at known_element_at characters_at any_attribute_at known_attribute_at declaration_event_at comment_at instruction_at document_type_at entity_at string_at type_at name_value_at code_at second_at member_at part_at name_at name_under known_at local_at indexed_at literal_at missed_at hit_at charged_at value_at declaration_at chars_at in_set_at char_code_at times is_xml_char text_charge place_at field_at unsigned_at narrow_groups_at groups_at number_at value_of bits number_bits le_value width_from
+third_prefix = refl

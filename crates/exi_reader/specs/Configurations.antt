@@ -25,7 +25,8 @@ use Rattle.exi_names.specs.StartTables.{Names}
 use Rattle.exi_tables.specs.Partitions.{Partitions, first_partitions}
 use Rattle.exi_typed.specs.Courses.{Course}
 
--- what a stream is read by: its options, and the first string tables
+-- what a stream is read by: its options, and the first string tables. The string tables of values are unbounded, and
+-- the options have no conflict: both are for whoever makes a setting
 pub record Setting : Type 0 where
   pub options : Options
   pub names : Names

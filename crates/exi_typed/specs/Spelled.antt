@@ -93,7 +93,7 @@ pub record SpellsName (keep : Bool) (a : Align) (n : Named) (w v : Beside) (text
   pub uri : SpellsUri a n.name.uri w between first
   pub under : SpellsNameUnder keep a (place_in (uris between.tables) n.name.uri) n.name.uri n between v second
 
--- no bits, and the texts of a name that the event code tells are charged
+-- no bits, and the texts of a name that the event code tells are charged (own)
 pub record IsPaid (n : Named) (w v : Beside) (text : List Bool) : Type 0 where
   pub bits : text ≡ []
   pub between : Beside

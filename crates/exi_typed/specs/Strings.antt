@@ -128,7 +128,7 @@ name_at keep a c = do
   uri ← uri_at a c
   name_under keep a (place_in (uris uri.1.beside.tables) uri.0) uri.0 uri.1
 
--- the texts of a name that the event code tells, charged as if they were coded, and its prefix
+-- the texts of a name that the event code tells, charged as if they were coded (own), and its prefix
 unfoldable pub known_at : Bool → Align → NameId → Courser Named
 known_at keep a id c = do
   uri ← placed_at c.spot (live_at (uris c.beside.tables) id.uri) c
