@@ -14,6 +14,8 @@ mod schema;
 mod second;
 mod table;
 mod terminal;
+#[cfg(test)]
+mod tests;
 mod write;
 
 pub use book::{Book, read_code, write_code};
