@@ -11,7 +11,7 @@
 //! Boolean      1                          true                               true
 //! Moment       2014-02-11T09:30:00+00:00  its fields, zone 0                 2014-02-11T09:30:00Z
 //! Binary       00ff                       00 FF                              00FF
-//! Binary       + d R 9                    F9 D4 7D                           +dR9
+//! Binary       A A = =                    00                                 AA==
 //! List         ` 1  2 3 `                 1, 2, 3                            1 2 3
 //! ```
 //!
