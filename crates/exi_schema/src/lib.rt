@@ -8,7 +8,6 @@ use exi_gram::{Grammar, Items, Production, Schema, Terminal};
 use exi_names::StartNames;
 use std::alloc::{AllocError, Global};
 
-
 /// A production that opens no grammar of a schema.
 fn plain(on: Terminal, to: u32) -> Production
     ensures { result ≡ record { on = on; to = to; inner = None } }
