@@ -1,0 +1,7 @@
+pub mod CodeItems
+pub mod CodeLaws
+pub mod CodeLists
+pub mod Reading
+pub mod TableLists
+pub mod WithoutSchema
+pub mod Writing

@@ -26,7 +26,7 @@ pub record Productions (X : Type 0) : Type 0 where
   pub seconds : List (Second X)
 
 -- ---- pruning (section 8.3): what the options switch off is taken away, and the other codes close up
-abbrev group_unless_empty : {X : Type 0} → List X → List (Second X)
+abbrev pub group_unless_empty : {X : Type 0} → List X → List (Second X)
 group_unless_empty [] = []
 group_unless_empty (x ∷ xs) = group (x ∷ xs) ∷ []
 

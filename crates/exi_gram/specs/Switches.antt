@@ -1,5 +1,5 @@
 -- The options of a stream (W3C EXI 1.0, section 5.4) as what they switch on.
-use Rattle.std.specs.Prelude.{ℕ, Bool, ◌==◌, if◌then◌else◌}
+use Rattle.std.specs.Prelude.{ℕ, Bool, ◌==◌, ◌&&◌, ◌||◌, if◌then◌else◌}
 use Rattle.std.specs.Int.RustNames.{bit_and}
 use Rattle.exi_bits.specs.declared.align.Align.{Align}
 use Rattle.exi_bits.specs.declared.align.Align.TheVariants as align
@@ -40,3 +40,8 @@ prefixes o = is_on 128 o
 -- how the numbers of the stream lie
 abbrev pub align_of : Options → Align
 align_of o = if byte_aligned o then align.Bytes else align.Bits
+
+-- options that may not be on together: strict with what it leaves out, and self-contained elements with prefixes (the
+-- second is the codec's own)
+abbrev pub conflicts : Options → Bool
+conflicts o = (strict o && (dtd o || prefixes o || comments o || processing_instructions o || self_contained o)) || (self_contained o && prefixes o)

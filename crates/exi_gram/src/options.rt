@@ -1,4 +1,8 @@
+ghost use Rattle.std.specs.Prelude.{◌≡◌};
+ghost use Rattle.exi_gram.specs.Switches.{align_of, conflicts};
+
 use bitflags::{Flag, Flags, bitflag_items};
+use exi_bits::Align;
 use exi_names::Txt;
 
 /// Which options of the stream are on (EXI 1.0, section 5.4).
@@ -25,8 +29,7 @@ impl Flags for OptionFlags {
 
     ghost exact = { ⊤ };
 
-    ghost table = {
-        (codes "STRICT", 1)
+    ghost table = { (codes "STRICT", 1)
         ∷ (codes "FRAGMENT", 2)
         ∷ (codes "SELF_CONTAINED", 4)
         ∷ (codes "BYTES", 8)
@@ -34,8 +37,7 @@ impl Flags for OptionFlags {
         ∷ (codes "PIS", 32)
         ∷ (codes "DTD", 64)
         ∷ (codes "PREFIXES", 128)
-        ∷ []
-    };
+        ∷ [] };
 
     ghost set_of = { λ f. f.0 };
 
@@ -76,4 +78,34 @@ pub struct Options {
     pub most: Option<u128>,
     /// How many values the string tables hold (valuePartitionCapacity); unbounded where absent.
     pub capacity: Option<u128>,
+}
+
+impl Options {
+    /// How the numbers of the stream lie.
+    pub fn align(&self) -> Align
+        ensures { result ≡ align_of self.now }
+    {
+        if self.flags.contains(OptionFlags::BYTES) {
+            Align::Bytes
+        } else {
+            Align::Bits
+        }
+    }
+
+    /// Whether options are on that may not be on together: strict with comments, processing
+    /// instructions, DTDs, prefixes or self-contained elements, or these elements with prefixes.
+    pub fn conflicts(&self) -> bool
+        ensures { result ≡ conflicts self.now }
+    {
+        let flags = self.flags;
+        let strict = flags.contains(OptionFlags::STRICT);
+        let prefixes = flags.contains(OptionFlags::PREFIXES);
+        let self_contained = flags.contains(OptionFlags::SELF_CONTAINED);
+        let kept = flags.contains(OptionFlags::DTD)
+            || prefixes
+            || flags.contains(OptionFlags::COMMENTS)
+            || flags.contains(OptionFlags::PIS)
+            || self_contained;
+        (strict && kept) || (self_contained && prefixes)
+    }
 }

@@ -1,0 +1,44 @@
+-- A book: what is read and written by, for one schema and the options of one stream.
+use Rattle.std.specs.Prelude.{◌≡◌, ℕ, ◌<◌, Bool, true, false, List, [], ◌∷◌, length, map, get_or}
+use Rattle.exi_gram.specs.declared.grammar.Production.{Production}
+use Rattle.exi_gram.specs.declared.options.Options.{Options}
+use Rattle.exi_gram.specs.Codes.{Productions, pruned}
+use Rattle.exi_gram.specs.Document.{document}
+use Rattle.exi_gram.specs.Outlines.{Outline}
+use Rattle.exi_gram.specs.Switches.{conflicts}
+use Rattle.exi_gram.specs.Tables.{no_productions}
+use Rattle.exi_gram.specs.Terminals.{is_left}
+
+pub record Contents : Type 0 where
+  pub options : Options
+  pub schema : Outline
+  -- of each grammar and state the productions, by the parts of their codes
+  pub states : List (List (Productions Production))
+
+-- what the options leave of a state
+abbrev pub left_of : Options → Productions Production → Productions Production
+left_of o p = pruned (λ p. is_left o p.on) p
+
+-- The states are those of the schema's grammars under the options. Where there is no schema this is the Document
+-- grammar alone (W3C EXI 1.0, section 8.4.1). The grammars of a schema (section 8.5.4) will be the other case; until
+-- then there is no book for a schema.
+abbrev pub HoldsStates : Bool → Options → List (List (Productions Production)) → Type 0
+HoldsStates false o states = states ≡ map (left_of o) document ∷ []
+HoldsStates true o states = ⊥
+
+-- what holds of every book
+pub record IsBook (b : Contents) : Type 0 where
+  pub no_conflict : conflicts b.options ≡ false
+  pub states : HoldsStates b.schema.known b.options b.states
+
+-- the states of a grammar, and a state's productions
+abbrev pub states_in : Contents → ℕ → List (Productions Production)
+states_in b grammar = get_or b.states grammar []
+
+abbrev pub state_at : Contents → ℕ → ℕ → Productions Production
+state_at b grammar state = get_or (states_in b grammar) state no_productions
+
+-- there is such a state
+pub record IsStateOf (b : Contents) (grammar state : ℕ) : Type 0 where
+  pub grammar_is : grammar < length b.states
+  pub state_is : state < length (states_in b grammar)

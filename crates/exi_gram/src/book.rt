@@ -1,0 +1,156 @@
+ghost use Rattle.std.specs.Prelude.{◌≡◌, ◌<◌, ◌++◌, IfOk, OnOk, OnErr};
+ghost use Rattle.exi_bits.specs.Bits.{IsAligned};
+ghost use Rattle.exi_bits.specs.Unsigned.{Reads};
+ghost use Rattle.exi_bits.specs.Written.{IsWholeBytes};
+ghost use Rattle.exi_items.specs.Fronts.{HoldsFront};
+ghost use Rattle.exi_gram.specs.Books.{IsBook, IsStateOf, state_at};
+ghost use Rattle.exi_gram.specs.Codes.{code_at, code_bits};
+ghost use Rattle.exi_gram.specs.Laws.{codes, placed};
+ghost use Rattle.exi_gram.specs.Switches.{align_of};
+ghost use Rattle.exi_gram.specs.Tables.{parts_at, size};
+
+use crate::items::Items;
+use crate::options::Options;
+use crate::schema::Schema;
+use crate::table::CodeTable;
+use exi_bits::{BitIn, BitOut, Fault};
+use std::alloc::AllocError;
+use std::marker::Model;
+
+/// What a stream is read and written by: its options, its schema, and of each grammar and state the
+/// productions with their codes, as the options leave them.
+#[derive(Debug, Drop)]
+pub struct Book {
+    options: Options,
+    schema: Schema,
+    states: Items<Items<CodeTable>>,
+}
+
+impl Model for Book {
+    ghost use Rattle.exi_gram.specs.Books.{Contents, IsBook};
+
+    ghost Value = { Contents };
+
+    ghost use Rattle.exi_names.specs.contracts.datatype.Datatype as datatype;
+    ghost use Rattle.std.specs.Coded.{codes};
+
+    ghost coded = { Prim.hlevel (codes, datatype.the_row.coded) };
+
+    ghost view = { λ b. record { options = b.options; schema = b.schema; states = b.states } };
+
+    ghost invariant = { λ b. IsBook (record { options = b.options; schema = b.schema; states = b.states }) };
+}
+
+impl Book {
+    /// The book of these options and this schema. The states have to be those of the schema's grammars
+    /// under the options, and the options may not conflict.
+    pub fn of(options: Options, schema: Schema, states: Items<Items<CodeTable>>) -> Book
+        requires book { IsBook (record { options = options; schema = schema; states = states }) }
+        ensures { result ≡ record { options = options; schema = schema; states = states } }
+    {
+        Book {
+            options,
+            schema,
+            states,
+        }
+    }
+
+    /// The options of the stream.
+    pub fn options(&self) -> &Options
+        ensures options { result.now ≡ self.now.options }
+        ensures book { IsBook self.now }
+    {
+        &self.options
+    }
+
+    /// The schema, or what stands for none.
+    pub fn schema(&self) -> &Schema
+        ensures schema { result.now ≡ self.now.schema }
+        ensures book { IsBook self.now }
+    {
+        &self.schema
+    }
+
+    /// The states of all grammars, each with its productions and their codes.
+    pub fn states(&self) -> &[Items<CodeTable>]
+        ensures states { result.now ≡ self.now.states }
+        ensures book { IsBook self.now }
+    {
+        self.states.as_slice()
+    }
+
+    /// The productions of a state of a grammar, which has to exist, with their codes.
+    pub fn table(&self, grammar: u32, state: u32) -> &CodeTable
+        requires exists { IsStateOf self.now grammar state }
+        ensures { result.now ≡ state_at self.now grammar state }
+    {
+        let states = self.states();
+        let tables = states[grammar as usize].as_slice();
+        &tables[state as usize]
+    }
+}
+
+/// Reads the code of a production in a state of a grammar, which has to exist (EXI 1.0, section 6.2).
+/// Answers the place of the production in the order of the state's codes. Under
+/// [`Align::Bytes`](exi_bits::Align) the place in the input has to be a whole byte.
+///
+/// # Errors
+///
+/// At the first bit of a part: `Short` where the bits end before the part does, and `NoCode` where the
+/// state has no production whose code goes on so. The place in the input is then unchanged.
+pub fn read_code(input: &mut BitIn<'_>, book: &Book, grammar: u32, state: u32) -> Result<u32, Fault>
+    requires exists { IsStateOf book.now grammar state }
+    requires aligned { IsAligned (align_of book.now.options) input.old }
+    ensures read { Reads
+        (λ x. x)
+        result
+        input.old
+        input.new
+        (code_at (align_of book.now.options) (placed (state_at book.now grammar state)) input.old) }
+    ensures below { IfOk result (λ place. place < size (state_at book.now grammar state)) }
+    ensures bytes { input.new.bytes ≡ input.old.bytes }
+    ensures aligned { IsAligned (align_of book.now.options) input.new }
+{
+    book.table(grammar, state)
+        .read(input, book.options().align())
+}
+
+/// Writes the code of the production at a place in a state of a grammar, as [`read_code`] reads it.
+/// Grammar, state and place have to exist. Under [`Align::Bytes`](exi_bits::Align) there have to be
+/// whole bytes of bits.
+///
+/// # Errors
+///
+/// `AllocError` where memory is refused. The bits then end with a front of the code, maybe none of it.
+pub fn write_code(
+    out: &mut BitOut,
+    book: &Book,
+    grammar: u32,
+    state: u32,
+    place: u32,
+) -> Result<(), AllocError>
+    requires exists { IsStateOf book.now grammar state }
+    requires there { place < size (state_at book.now grammar state) }
+    requires aligned { IsWholeBytes (align_of book.now.options) out.old }
+    ensures ok { OnOk
+        result
+        (out.new
+        ≡ out.old
+        ++ code_bits
+        (align_of book.now.options)
+        (codes (state_at book.now grammar state))
+        (parts_at (state_at book.now grammar state) place)) }
+    ensures err { OnErr
+        result
+        (HoldsFront
+        out.old
+        (code_bits
+        (align_of book.now.options)
+        (codes (state_at book.now grammar state))
+        (parts_at (state_at book.now grammar state) place))
+        out.new) }
+    ensures aligned { IsWholeBytes (align_of book.now.options) out.new }
+{
+    book.table(grammar, state)
+        .write(out, place, book.options().align())
+}

@@ -1,0 +1,41 @@
+//! What is spelled and what is read are the same. Each law is a function that does nothing: what it
+//! ensures is the law, for productions of any type.
+
+ghost use Rattle.exi_gram.specs.Document.{without_schema};
+ghost use Rattle.exi_gram.specs.Schemas.{IsSchema};
+ghost use Rattle.exi_gram.specs.Laws.{CodeIsNoPrefix, CodeIsRead, CodeIsSpelled, MappedIsRead, PlacedIsNumbered, PrunedIsClosedUp};
+
+/// The production that is read has a code of the state, and the bits of that code were taken.
+pub fn code_is_spelled<T>()
+    ensures { CodeIsSpelled T }
+{}
+
+/// The bits of a code tell its production, whatever follows.
+pub fn code_is_read<T>()
+    ensures { CodeIsRead T }
+{}
+
+/// No code's bits are a proper prefix of another's in the same state, and equal bits are of one code.
+pub fn code_is_no_prefix<T>()
+    ensures { CodeIsNoPrefix T }
+{}
+
+/// Where options switch productions off no group is left empty.
+pub fn pruned_is_closed_up<T>()
+    ensures { PrunedIsClosedUp T }
+{}
+
+/// With other things in the productions' place, what is read is what stands for the production.
+pub fn mapped_is_read<T, U>()
+    ensures { MappedIsRead T U }
+{}
+
+/// With places in the productions' place, the codes tell the places in their order.
+pub fn placed_is_numbered<T>()
+    ensures { PlacedIsNumbered T }
+{}
+
+/// The Document grammar alone is a schema, as every schema has to be: what there is without one.
+pub fn without_schema_is_schema()
+    ensures { IsSchema without_schema }
+{}
