@@ -5,9 +5,10 @@ use Rattle.std.proofs.lemmas.List.{append-nil, map-append, take_more, length-tak
 use Rattle.std.proofs.lemmas.List.Elements.{filter_more}
 use Rattle.std.proofs.lemmas.Option.{get_or_from_slice_get, slice_get_within}
 use Rattle.exi_gram.specs.Codes.{Coded, coded, coded_from, coded_seconds}
-use Rattle.exi_builtin.specs.declared.code_list.Code.{Code}
+use Rattle.exi_gram.specs.declared.code.Code.{Code}
 use Rattle.exi_builtin.specs.declared.learnable.Learnable.{Learnable}
-use Rattle.exi_builtin.specs.CodeParts.{coded_of, parts_of}
+use Rattle.exi_builtin.specs.CodeParts.{coded_of}
+use Rattle.exi_gram.specs.Tables.{parts_of}
 use Rattle.exi_builtin.specs.Layout.{grouped, laid_seconds}
 use Rattle.exi_builtin.proofs.Shapes.{shape}
 

@@ -1,13 +1,11 @@
--- Codes as the list of their parts.
-use Rattle.std.specs.Prelude.{ℕ, List, [], ◌∷◌, ◌++◌, option_to_list}
+-- The codes of productions, part by part.
+use Rattle.std.specs.Prelude.{ℕ, List, [], ◌∷◌}
 use Rattle.exi_gram.specs.Codes.{Coded}
-use Rattle.exi_builtin.specs.declared.code_list.Code.{Code}
+use Rattle.exi_gram.specs.declared.code.Code.{Code}
+use Rattle.exi_gram.specs.Tables.{parts_of}
 use Rattle.exi_builtin.specs.declared.code_list.Front.{Front}
 use Rattle.exi_builtin.specs.declared.code_list.Front.TheVariants as front
 use Rattle.exi_builtin.specs.declared.learnable.Learnable.{Learnable}
-
-abbrev pub parts_of : Code → List ℕ
-parts_of code = code.first ∷ option_to_list code.second ++ option_to_list code.third
 
 -- a code with its production
 abbrev pub coded_of : Code × Learnable → Coded Learnable

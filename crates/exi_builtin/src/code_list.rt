@@ -1,26 +1,16 @@
 ghost use Rattle.std.specs.Prelude.{◌≡◌, ◌+◌, ◌<◌, ◌≤◌, ◌^◌, [], ◌∷◌, ◌++◌, filter, length, map, IfOk, OnOk, OnErr};
 ghost use Rattle.exi_gram.specs.Codes.{coded, coded_from};
+ghost use Rattle.exi_gram.specs.Tables.{parts_of};
 ghost use Rattle.exi_builtin.specs.BuiltIn.{is_kept, left_of, written};
-ghost use Rattle.exi_builtin.specs.CodeParts.{coded_of, parts_before, parts_of};
+ghost use Rattle.exi_builtin.specs.CodeParts.{coded_of, parts_before};
 ghost use Rattle.exi_builtin.specs.Learning.{behind_learned};
 
 use crate::learnable::{Learnable, Room};
 use crate::learned_list::LearnedList;
 use crate::written::{as_written, is_kept};
-use exi_gram::Options;
+use exi_gram::{Code, Options};
 use std::alloc::{AllocError, Global};
 use std::marker::Model;
-
-/// The code of a production, part by part (EXI 1.0, section 6.2).
-#[derive(Clone, Copy, Debug, PartialEq, Eq)]
-pub struct Code {
-    /// The first part.
-    pub first: u32,
-    /// The second part, where there is one.
-    pub second: Option<u32>,
-    /// The third part, where there is one.
-    pub third: Option<u32>,
-}
 
 /// The parts of a code before the last.
 #[derive(Clone, Copy)]
@@ -66,7 +56,7 @@ pub struct CodeList {
 
 impl Model for CodeList {
     ghost use Rattle.std.specs.Prelude.{List};
-    ghost use Rattle.exi_builtin.specs.declared.code_list.Code.{Code};
+    ghost use Rattle.exi_gram.specs.declared.code.Code.{Code};
     ghost use Rattle.exi_builtin.specs.declared.learnable.Learnable.{Learnable};
 
     ghost Value = { List (Code × Learnable) };

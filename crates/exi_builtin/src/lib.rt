@@ -33,6 +33,6 @@ mod tests;
 mod uses;
 mod written;
 
-pub use code_list::{Code, CodeList};
+pub use code_list::CodeList;
 pub use learnable::{Learnable, Learned, Room};
 pub use overlay::Overlay;

@@ -10,7 +10,7 @@ ghost use Rattle.exi_builtin.specs.Learning.{behind_learned};
 
 use crate::learnable::{Learnable, Room};
 use crate::learned_list::LearnedList;
-use crate::written::{Written, align_of, as_written, is_kept};
+use crate::written::{Written, as_written, is_kept};
 use exi_bits::{BitIn, Fault};
 use exi_gram::{Options, read_part};
 
@@ -63,7 +63,7 @@ fn read_member(
     ensures bytes { input.new.bytes ≡ input.old.bytes }
     ensures aligned { IsAligned (align_of options.now) input.new }
 {
-    let third = read_part(input, kept_count(options, members), align_of(options))?;
+    let third = read_part(input, kept_count(options, members), options.align())?;
     Ok(kept_at(options, members, third).unwrap())
 }
 
@@ -86,7 +86,7 @@ fn read_longer(
     ensures bytes { input.new.bytes ≡ input.old.bytes }
     ensures aligned { IsAligned (align_of options.now) input.new }
 {
-    let second = read_part(input, second_count(options, written), align_of(options))?;
+    let second = read_part(input, second_count(options, written), options.align())?;
     match kept_at(options, written.singles, second) {
         Some(production) => Ok(production),
         None => read_member(input, written.members, options),
@@ -154,7 +154,7 @@ pub fn read_behind(
 {
     let written = as_written(room);
     let values = first_count(learned, &written, options);
-    let first = read_part(input, values, align_of(options))?;
+    let first = read_part(input, values, options.align())?;
     match first_at(learned, &written, first) {
         Some(production) => Ok(production),
         None => read_longer(input, &written, options),

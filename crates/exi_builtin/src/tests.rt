@@ -1,7 +1,7 @@
-use crate::{Code, CodeList, Learnable, Learned, Overlay, Room};
+use crate::{CodeList, Learnable, Learned, Overlay, Room};
 use bitflags::Flags;
 use exi_bits::{BitIn, Fault};
-use exi_gram::{OptionFlags, Options, SchemaWord};
+use exi_gram::{Code, OptionFlags, Options, SchemaWord};
 use exi_names::NameId;
 use std::alloc::AllocError;
 

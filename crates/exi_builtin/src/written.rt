@@ -1,11 +1,9 @@
 ghost use Rattle.std.specs.Prelude.{◌≡◌, ◌≤◌, length};
-ghost use Rattle.exi_gram.specs.Switches.{align_of};
 ghost use Rattle.exi_builtin.specs.BuiltIn.{is_kept, written};
 ghost use Rattle.exi_builtin.specs.Layout.{laid_out};
 
 use crate::learnable::{Learnable, Room};
 use bitflags::Flags;
-use exi_bits::Align;
 use exi_gram::{OptionFlags, Options};
 
 /// The productions of a state before anything is learned, by the number of their codes' parts
@@ -51,17 +49,6 @@ pub fn as_written(room: Room) -> Written
             singles: &[Learnable::Cm, Learnable::Pi],
             members: &[],
         },
-    }
-}
-
-/// How the numbers of the stream lie.
-pub fn align_of(options: &Options) -> Align
-    ensures { result ≡ align_of options.now }
-{
-    if options.flags.contains(OptionFlags::BYTES) {
-        Align::Bytes
-    } else {
-        Align::Bits
     }
 }
 

@@ -11,7 +11,7 @@ pub returns-in_err-second-clause-read : goal.returns-in_err-second-clause-read
 returns-in_err-second-clause-read c =
     let p = err_from_is_err_and c.from_residual.result c.from_residual.ensures.1 in
     rw (p.1, p.2)
-    (second_fails (align_of c.args.options.now) c.align_of.result _ c.second_count.result c.args.input.now c.in_err-second.field-0.0 c.align_of.ensures c.second_count.ensures c.in_err-second.ensures.read.0)
+    (second_fails (align_of c.args.options.now) c.align.result _ c.second_count.result c.args.input.now c.in_err-second.field-0.0 c.align.ensures c.second_count.ensures c.in_err-second.ensures.read.0)
 
 pub returns-in-Some-clause-read : goal.returns-in-Some-clause-read
 returns-in-Some-clause-read c =
@@ -19,7 +19,7 @@ returns-in-Some-clause-read c =
     let a = align_of c.args.options.now in
     let laid = kept_laid keep c.args.written.now.singles.now c.args.written.now.members.now in
     let seconds = kept_seconds keep (laid_seconds c.args.written.now.singles.now c.args.written.now.members.now) in
-    second_tells a c.align_of.result seconds c.second_count.result c.in_ok-second.second c.args.input.now c.read_part.new.input _ c.align_of.ensures c.second_count.ensures c.in_ok-second.ensures.read
+    second_tells a c.align.result seconds c.second_count.result c.in_ok-second.second c.args.input.now c.read_part.new.input _ c.align.ensures c.second_count.ensures c.in_ok-second.ensures.read
     (rw laid (tells_single a (filter keep c.args.written.now.singles.now) (filter keep c.args.written.now.members.now) c.in_ok-second.second c.in-Some.production c.read_part.new.input (sym c.in-Some.ensures)))
 
 pub returns-in-None-clause-read : goal.returns-in-None-clause-read
@@ -33,6 +33,6 @@ returns-in-None-clause-read c =
     let below : c.in_ok-second.second < c.second_count.result = c.in_ok-second.ensures.below in
     let within : c.in_ok-second.second < length (laid_seconds singles members) = rw (c.second_count.ensures, laid) at below in
     let read : second_at a seconds c.args.input.now ≡ member_at a members c.read_part.new.input
-    = second_tells a c.align_of.result seconds c.second_count.result c.in_ok-second.second c.args.input.now c.read_part.new.input _ c.align_of.ensures c.second_count.ensures c.in_ok-second.ensures.read
+    = second_tells a c.align.result seconds c.second_count.result c.in_ok-second.second c.args.input.now c.read_part.new.input _ c.align.ensures c.second_count.ensures c.in_ok-second.ensures.read
     (rw laid (tells_group a singles members c.in_ok-second.second c.read_part.new.input (sym c.in-None.ensures) within)) in
     rw read c.read_member.ensures.read
