@@ -20,11 +20,7 @@ fn plain(on: Terminal, to: u32) -> Production
 }
 
 /// Adds a production that the next second part tells, where it is kept.
-fn push_kept(
-    table: &mut CodeTable,
-    kept: bool,
-    production: Production,
-) -> Result<(), AllocError>
+fn push_kept(table: &mut CodeTable, kept: bool, production: Production) -> Result<(), AllocError>
     requires room { size table.old < 2 ^ 31 }
     ensures { OnOk result (table.new ≡ with_kept kept table.old production) }
 {

@@ -4,5 +4,7 @@
 
 mod document;
 mod make;
+#[cfg(test)]
+mod tests;
 
 pub use make::book;

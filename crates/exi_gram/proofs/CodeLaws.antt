@@ -53,12 +53,12 @@ group_behind {X} xs j ys e = let p : j ≡ 0 + j = omega arith in ap (λ (k : �
 spelled_at : {X : Type 0} (p : Productions X) (a : Align) (x : X) (parts : List ℕ) (text : List Bool) → Stands p (record { parts = parts; item = x }) → text ≡ code_bits a (codes p) parts → SpellsCode p a x text
 spelled_at p a x parts text s e = let k = place_of p (record { parts = parts; item = x }) s in record { place = k.place; parts = parts; there = k.there; bits = e }
 
-get_none : {X : Type 0} (xs : List X) (i : ℕ) → slice_get xs i ≡ None → length xs ≤ i
+pub get_none : {X : Type 0} (xs : List X) (i : ℕ) → slice_get xs i ≡ None → length xs ≤ i
 get_none [] i e = omega arith
 get_none (x ∷ xs) zero e = absurd cc
 get_none (x ∷ xs) (suc i) e = let h = get_none xs i e in omega arith
 
-longer_few : {X : Type 0} (xs : List (Second X)) → longer xs ≤ 1
+pub longer_few : {X : Type 0} (xs : List (Second X)) → longer xs ≤ 1
 longer_few [] = omega arith
 longer_few (x ∷ xs) = omega arith
 

@@ -182,7 +182,7 @@ pub first_count : {X : Type 0} (p : Productions X) → IsClosedUp p → values_o
 first_count p h = values_first p.firsts p.seconds h
 
 -- ---- what is left of the codes behind a part
-going-append : (part : ℕ) (xs ys : List (List ℕ)) → going_on part (xs ++ ys) ≡ going_on part xs ++ going_on part ys
+pub going-append : (part : ℕ) (xs ys : List (List ℕ)) → going_on part (xs ++ ys) ≡ going_on part xs ++ going_on part ys
 going-append part [] ys = refl
 going-append part ([] ∷ xs) ys = going-append part xs ys
 going-append part ((one ∷ more) ∷ xs) ys = elim (eqb part one) as (λ b. cond b (more ∷ going_on part (xs ++ ys)) (going_on part (xs ++ ys)) ≡ cond b (more ∷ going_on part xs) (going_on part xs) ++ going_on part ys) [
@@ -207,7 +207,7 @@ going_past part k (x ∷ xs) h =
     let e : part ≢ k = λ e. omega arith in
     rw (ne_eqb part k e) (going_past part (suc k) xs (omega arith))
 
-going_both : {X : Type 0} (part : ℕ) (front : List ℕ) (k : ℕ) (x : Second X) (xs : List (Second X)) → going_on part (parts_in (coded_seconds front k (x ∷ xs))) ≡ going_on part (parts_in (coded_second front k x)) ++ going_on part (parts_in (coded_seconds front (suc k) xs))
+pub going_both : {X : Type 0} (part : ℕ) (front : List ℕ) (k : ℕ) (x : Second X) (xs : List (Second X)) → going_on part (parts_in (coded_seconds front k (x ∷ xs))) ≡ going_on part (parts_in (coded_second front k x)) ++ going_on part (parts_in (coded_seconds front (suc k) xs))
 going_both {X} part front k x xs = ap (going_on part) (map-append (λ (c : Coded X). c.parts) (coded_second front k x) (coded_seconds front (suc k) xs)) ∙ going-append part (parts_in (coded_second front k x)) (parts_in (coded_seconds front (suc k) xs))
 
 going_second_into : {X : Type 0} (one : ℕ) (front : List ℕ) (k : ℕ) (x : Second X) → going_on one (parts_in (coded_second (one ∷ front) k x)) ≡ parts_in (coded_second front k x)

@@ -35,7 +35,7 @@ first_coded {X} firsts x =
     ∙ ap (λ (z : List (Coded X)). z ++ record { parts = length firsts ∷ []; item = x } ∷ []) (sym (append-nil (coded_from [] 0 firsts)))
 
 -- one more second part
-second_coded : {X : Type 0} (p : Productions X) (y : Second X) → coded (with_second p y) ≡ coded p ++ coded_second (length p.firsts ∷ []) (length p.seconds) y
+pub second_coded : {X : Type 0} (p : Productions X) (y : Second X) → coded (with_second p y) ≡ coded p ++ coded_second (length p.firsts ∷ []) (length p.seconds) y
 second_coded {X} p y =
     let e : 0 + length p.seconds ≡ length p.seconds = omega arith in
     ap (λ (z : List (Coded X)). coded_from [] 0 p.firsts ++ z)
@@ -53,12 +53,12 @@ member_coded {X} firsts front ys x =
     ∙ sym (append_assoc (coded (record { firsts = firsts; seconds = front })) (coded_from (length firsts ∷ length front ∷ []) 0 ys) (record { parts = length firsts ∷ length front ∷ length ys ∷ []; item = x } ∷ []))
     ∙ ap (λ (z : List (Coded X)). z ++ record { parts = length firsts ∷ length front ∷ length ys ∷ []; item = x } ∷ []) (sym (second_coded (record { firsts = firsts; seconds = front }) (group ys)))
 
-last_is : {X : Type 0} (front : List (Second X)) (ys : List X) (x : X) → last_joined (front ++ group ys ∷ []) x ≡ front ++ group (ys ++ x ∷ []) ∷ []
+pub last_is : {X : Type 0} (front : List (Second X)) (ys : List X) (x : X) → last_joined (front ++ group ys ∷ []) x ≡ front ++ group (ys ++ x ∷ []) ∷ []
 last_is [] ys x = refl
 last_is {X} (y ∷ []) ys x = refl
 last_is {X} (y ∷ z ∷ zs) ys x = ap (λ (w : List (Second X)). y ∷ w) (last_is (z ∷ zs) ys x)
 
-ends_is : {X : Type 0} (front : List (Second X)) (y : Second X) → ends_in_group (front ++ y ∷ []) ≡ ends_in_group (y ∷ [])
+pub ends_is : {X : Type 0} (front : List (Second X)) (y : Second X) → ends_in_group (front ++ y ∷ []) ≡ ends_in_group (y ∷ [])
 ends_is [] y = refl
 ends_is (z ∷ []) y = refl
 ends_is (z ∷ w ∷ ws) y = ends_is (w ∷ ws) y

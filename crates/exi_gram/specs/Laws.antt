@@ -1,11 +1,13 @@
 -- The laws of event codes: what is read is spelled so, and what is spelled so is read. They speak of the productions
 -- of a state in which no group is empty, as pruning leaves them.
-use Rattle.std.specs.Prelude.{◌≡◌, ℕ, suc, ◌+◌, Bool, Some, Ok, List, [], ◌∷◌, ◌++◌, length, map, slice_get}
+use Rattle.std.specs.Prelude.{◌≡◌, ℕ, zero, suc, ◌+◌, Bool, true, false, Some, Result, Ok, Err, if◌then◌else◌, List, [], ◌∷◌, ◌++◌, length, map, slice_get}
 use Rattle.exi_bits.specs.declared.align.Align.{Align}
+use Rattle.exi_bits.specs.declared.fault.Fault.{Fault}
 use Rattle.exi_bits.specs.Bits.{Spot}
+use Rattle.exi_bits.specs.Repeat.{Reader}
 use Rattle.exi_bits.specs.Unsigned.{◌>>=◌}
 use Rattle.exi_items.specs.Laws.{ReadIsSpelled, SpelledIsRead}
-use Rattle.exi_gram.specs.Codes.{Coded, IsClosedUp, Productions, Second, code_at, code_bits, coded, group, mapped, pruned, single}
+use Rattle.exi_gram.specs.Codes.{Coded, IsClosedUp, Productions, Second, code_at, code_bits, coded, going_on, group, mapped, part_at, pruned, single, values_of}
 
 -- all codes of a state, in their order
 abbrev pub codes : {X : Type 0} → Productions X → List (List ℕ)
@@ -29,6 +31,32 @@ CodeIsRead X = (p : Productions X) → IsClosedUp p → SpelledIsRead (SpellsCod
 -- no code's bits are a proper prefix of another's in the same state, and equal bits are of one code
 abbrev pub CodeIsNoPrefix : Type 0 → Type 0
 CodeIsNoPrefix X = (p : Productions X) → IsClosedUp p → (a : Align) (i j : ℕ) (c d : Coded X) (more : List Bool) → slice_get (coded p) i ≡ Some c → slice_get (coded p) j ≡ Some d → code_bits a (codes p) c.parts ≡ code_bits a (codes p) d.parts ++ more → (i ≡ j) × (c ≡ d) × (more ≡ [])
+
+-- ---- a code, part by part
+-- one of the codes has ended
+abbrev pub is_told : List (List ℕ) → Bool
+is_told [] = false
+is_told ([] ∷ codes) = true
+is_told ((part ∷ parts) ∷ codes) = is_told codes
+
+-- so many parts at most, up to the end of one of the codes: each part has as many values as these codes have in its
+-- place, and it leaves those that go on so
+unfoldable pub parts_read : ℕ → Align → List (List ℕ) → Reader (List ℕ)
+parts_read zero a codes s = Ok ([], s)
+parts_read (suc more) a codes s = if is_told codes then Ok ([], s) else (do
+  part ← part_at (values_of codes) a s
+  others ← parts_read more a (going_on part.0 codes) part.1
+  Ok (part.0 ∷ others.0, others.1))
+
+-- where reading goes on, or the fault
+abbrev pub ends : {X : Type 0} → Result (X × Spot) Fault → Result Spot Fault
+ends (Ok x) = Ok x.1
+ends (Err f) = Err f
+
+-- a code is read part by part as the codes of the state go on, so each fault is that of the first part that has none of
+-- its values, or whose bits are not there
+abbrev pub CodeIsParts : Type 0 → Type 0
+CodeIsParts X = (p : Productions X) → IsClosedUp p → (a : Align) (s : Spot) → ends (code_at a p s) ≡ ends (parts_read 3 a (codes p) s)
 
 -- pruning leaves no group empty
 abbrev pub PrunedIsClosedUp : Type 0 → Type 0

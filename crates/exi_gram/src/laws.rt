@@ -3,7 +3,7 @@
 
 ghost use Rattle.exi_gram.specs.Document.{without_schema};
 ghost use Rattle.exi_gram.specs.Schemas.{IsSchema};
-ghost use Rattle.exi_gram.specs.Laws.{CodeIsNoPrefix, CodeIsRead, CodeIsSpelled, MappedIsRead, PlacedIsNumbered, PrunedIsClosedUp};
+ghost use Rattle.exi_gram.specs.Laws.{CodeIsNoPrefix, CodeIsParts, CodeIsRead, CodeIsSpelled, MappedIsRead, PlacedIsNumbered, PrunedIsClosedUp};
 
 /// The production that is read has a code of the state, and the bits of that code were taken.
 pub fn code_is_spelled<T>()
@@ -38,4 +38,10 @@ pub fn placed_is_numbered<T>()
 /// The Document grammar alone is a schema, as every schema has to be: what there is without one.
 pub fn without_schema_is_schema()
     ensures { IsSchema without_schema }
+{}
+
+/// A code is read part by part as the codes of its state go on: each fault is that of the first part
+/// which none of them has there, or whose bits are not there, at the first bit of that part.
+pub fn code_is_parts<T>()
+    ensures { CodeIsParts T }
 {}

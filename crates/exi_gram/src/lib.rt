@@ -1,4 +1,24 @@
 //! Grammars, event codes and options of EXI 1.0.
+//!
+//! A stream tells each event by the code of a production in the state that the grammar is in. A code has
+//! one to three parts (section 6.2). The productions with codes of one part come first; the next number
+//! is the first part of all longer codes, whose second parts tell one production or a group:
+//!
+//! ```text
+//! DocContent with all options on         parts      bits
+//!
+//!   SE(*)                                0          0
+//!   DT                                   1 0        1 0
+//!   CM  one group, told apart by         1 1 0      1 1 0
+//!   PI  a third part                     1 1 1      1 1 1
+//! ```
+//!
+//! Each part is a number in the fewest bits that tell the values apart that it can have behind the parts
+//! before it, so a part with one value takes none. What the options switch off is taken away first, and
+//! the codes close up (section 8.3).
+//!
+//! [`CodeTable`] holds the productions of one state by their codes, [`Schema`] the grammars, and [`Book`]
+//! both, for the options of one stream. [`read_code`] and [`write_code`] go by a book.
 #![tactic(auto)]
 
 mod book;

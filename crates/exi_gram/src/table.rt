@@ -58,6 +58,7 @@ impl CodeTable {
     /// The productions with their codes, in the order of the codes.
     pub fn coded(&self) -> &[Coded]
         ensures codes { map coded_of result.now ≡ coded self.now }
+        ensures count { length result.now ≡ size self.now }
         ensures small { length result.now ≤ 2 ^ 31 }
     {
         self.coded.as_slice()
