@@ -1,9 +1,8 @@
 -- The canonical text of a value that a text has, has that value.
-use Rattle.std.proofs.Common.{◌≡◌, ◌↔◌, ℕ, ℤ, ◌^◌, zero, suc, ◌+◌, ◌*◌, ◌/◌, ◌%◌, ◌<◌, ◌≤◌, Bool, true, false, not, cond, if◌then◌else◌, ◌&&◌, ◌==◌, nat_le, List, [], ◌∷◌, ◌++◌, length, codes, lit<, Option, Some, None, option_map, refl, sym, ap, ◌∙◌, subst, inl, inr, arith}
-use Rattle.std.proofs.lemmas.Bool.{and_parts, cases_Bool, false≢true, ltb-true}
+use Rattle.std.proofs.Common.{◌≡◌, ℕ, ℤ, ◌^◌, suc, ◌<◌, ◌≤◌, Bool, true, false, nat_le, List, [], ◌∷◌, length, codes, lit<, Option, Some, None, option_map, refl, sym, ap, ◌∙◌, subst, inl, inr, arith}
+use Rattle.std.proofs.lemmas.Bool.{and_parts, cases_Bool, ltb-true}
 use Rattle.std.proofs.lemmas.List.{append-nil}
 use Rattle.std.proofs.lemmas.Bool.Decides.{nat_tests}
-use Rattle.std.specs.Prelude.{slice_index}
 use Rattle.std.specs.List.{join_with_byte}
 use Rattle.std.specs.Str.{bytes_eq}
 use Rattle.exi_names.specs.Datatypes.{Representation, small, unsigned, list, choice, chars}
@@ -26,8 +25,8 @@ use Rattle.exi_calendar.specs.Reading.{moment_value}
 use Rattle.exi_lexical.proofs.Visible.{graphic_decimals, graphic_float, graphic_integer, graphic_moment, long_decimals, long_float, long_integer, no_moment}
 use Rattle.exi_lexical.specs.Binaries.{base64_octets, base64_text, hex_digit, hex_octets, hex_text, octet_before}
 use Rattle.exi_lexical.specs.Equality.{equal}
-use Rattle.exi_lexical.specs.Spaces.{all_ascii, has_no_space, is_some_text, squeezed, trimmed, words}
-use Rattle.exi_lexical.specs.Values.{is_within, of_decimal, of_float, all_have_text, binary_text, binary_value, boolean_text, boolean_value, canonical, chosen, each_value, first_equal, form_value, has_text, list_value, scalar_value, texts, value, value_before}
+use Rattle.exi_lexical.specs.Spaces.{all_ascii, squeezed, trimmed, words}
+use Rattle.exi_lexical.specs.Values.{is_within, of_decimal, of_float, all_have_text, binary_value, boolean_text, boolean_value, canonical, chosen, each_value, first_equal, form_value, has_text, list_value, scalar_value, texts, value, value_before}
 use Rattle.exi_lexical.proofs.Blanks.{squeezed_same, word_first}
 use Rattle.exi_lexical.proofs.Graphic.{all_graphic, graphic_ascii, graphic_binary, graphic_boolean, graphic_solid}
 use Rattle.exi_lexical.proofs.Hexes.{hex_fits, hex_read}

@@ -1,5 +1,5 @@
 -- What stands in a text after something was put at its end.
-use Rattle.std.proofs.Common.{◌≡◌, ℕ, cond, List, ◌++◌, Result, Ok, Err, refl, ap, ◌∙◌}
+use Rattle.std.proofs.Common.{◌≡◌, ℕ, cond, List, ◌++◌, Result, Ok, Err, ap, ◌∙◌}
 use Rattle.std.specs.Result.{OnOk, is_ok}
 
 pub pushed_is : {T E : Type 0} (r : Result T E) (old new found text : List ℕ) → new ≡ cond (is_ok r) (old ++ found) old → found ≡ text → OnOk r (new ≡ old ++ text)

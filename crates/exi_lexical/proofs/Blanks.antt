@@ -1,12 +1,12 @@
 -- White space, at the front, at the end and between words.
-use Rattle.std.proofs.Common.{◌≡◌, ℕ, zero, suc, ◌+◌, ◌-◌, ◌<◌, ◌≤◌, Bool, true, false, not, cond, ◌&&◌, ◌||◌, ◌==◌, List, [], ◌∷◌, ◌++◌, length, take, drop, get_or, refl, sym, ap, ◌∙◌, subst, inl, inr, arith}
-use Rattle.std.proofs.lemmas.List.{append-nil, length-append, append_assoc, drop_more, take_more, take_all, drop_all}
-use Rattle.std.proofs.lemmas.Bool.{and_parts, cases_Bool, false≢true}
+use Rattle.std.proofs.Common.{◌≡◌, ℕ, zero, suc, ◌+◌, ◌-◌, ◌<◌, ◌≤◌, true, false, not, ◌==◌, List, [], ◌∷◌, ◌++◌, length, take, drop, get_or, refl, sym, ap, ◌∙◌, subst, inl, inr, arith}
+use Rattle.std.proofs.lemmas.List.{append-nil, length-append, drop_more, take_more, drop_all}
+use Rattle.std.proofs.lemmas.Bool.{and_parts, cases_Bool}
 use Rattle.std.proofs.lemmas.Bool.Decides.{nat_tests}
 use Rattle.std.proofs.lemmas.Str.{IsCharBoundary-before_ascii, IsCharBoundary-after_ascii}
 use Rattle.std.specs.Str.{IsCharBoundary, IsUtf8}
-use Rattle.std.specs.List.{slice_split, onto_first, filter}
-use Rattle.exi_lexical.specs.Spaces.{is_space, without_front, without_back, before_rest, trimmed, squeezed, words, has_no_space, is_some_text, IsBehindWord}
+use Rattle.std.specs.List.{slice_split, onto_first}
+use Rattle.exi_lexical.specs.Spaces.{is_space, without_front, without_back, before_rest, squeezed, words, has_no_space, IsBehindWord}
 
 pub space_below : (c : ℕ) → is_space c ≡ true → c < 128
 unfolding is_space

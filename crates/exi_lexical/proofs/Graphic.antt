@@ -1,13 +1,13 @@
 -- Texts of graphic characters of ASCII, as all canonical texts are but those of strings and lists.
-use Rattle.std.proofs.Common.{◌≡◌, ℕ, zero, suc, ◌+◌, ◌-◌, ◌*◌, ◌/◌, ◌%◌, ◌<◌, ◌≤◌, Bool, true, false, not, cond, ◌&&◌, nat_lt, List, [], ◌∷◌, ◌++◌, length, get_or, refl, sym, ap, ◌∙◌, subst, inl, inr, arith}
-use Rattle.std.proofs.lemmas.Bool.{and_parts, cases_Bool, false≢true}
+use Rattle.std.proofs.Common.{◌≡◌, ℕ, zero, suc, ◌+◌, ◌*◌, ◌/◌, ◌%◌, ◌<◌, Bool, true, false, ◌&&◌, nat_lt, List, [], ◌∷◌, ◌++◌, refl, arith}
+use Rattle.std.proofs.lemmas.Bool.{and_parts}
 use Rattle.std.proofs.lemmas.Bool.Decides.{nat_tests}
 use Rattle.std.proofs.lemmas.Str.{encodes-IsAscii}
 use Rattle.std.specs.Prelude.{slice_index}
 use lib.Utf8.{encodes}
 use Rattle.exi_calendar.specs.Forms.{all_visible}
 use Rattle.exi_lexical.specs.Spaces.{all_ascii, has_no_space, is_space}
-use Rattle.exi_lexical.specs.Binaries.{base64_sign, base64_text, filler, hex_sign, hex_text}
+use Rattle.exi_lexical.specs.Binaries.{base64_sign, base64_text, hex_sign, hex_text}
 use Rattle.exi_lexical.specs.Values.{binary_text, boolean_text}
 use Rattle.exi_lexical.proofs.Tables.{all_below, at_below}
 

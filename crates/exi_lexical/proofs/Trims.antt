@@ -1,9 +1,9 @@
 -- What is trimmed is trimmed once for all, and has the same words.
-use Rattle.std.proofs.Common.{◌≡◌, ℕ, zero, suc, ◌+◌, ◌<◌, ◌≤◌, Bool, true, false, not, cond, ◌&&◌, List, [], ◌∷◌, ◌++◌, length, refl, sym, ap, ◌∙◌, subst, inl, inr, arith}
-use Rattle.std.proofs.lemmas.List.{append-nil, append_assoc}
+use Rattle.std.proofs.Common.{◌≡◌, ℕ, ◌<◌, Bool, true, false, not, ◌&&◌, List, [], ◌∷◌, ◌++◌, length, refl, sym, ap, ◌∙◌, inl, inr, arith}
+use Rattle.std.proofs.lemmas.List.{append-nil}
 use Rattle.std.proofs.lemmas.List.Splits.{length-slice_split}
 use Rattle.std.proofs.lemmas.Bool.{and_parts, cases_Bool, false≢true}
-use Rattle.std.specs.List.{count_by, filter, onto_first, slice_split}
+use Rattle.std.specs.List.{filter, onto_first, slice_split}
 use Rattle.exi_lexical.specs.Spaces.{before_rest, has_no_space, is_some_text, is_space, trimmed, without_back, without_front, words}
 use Rattle.exi_lexical.proofs.Blanks.{words_front}
 use Rattle.exi_lexical.proofs.Joined.{AllWords}

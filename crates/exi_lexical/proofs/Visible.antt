@@ -1,6 +1,6 @@
 -- The canonical texts of numbers, dates and times have graphic characters of ASCII alone, and one at least.
-use Rattle.std.proofs.Common.{◌≡◌, ℕ, ℤ, nat_lt, zero, suc, ◌+◌, ◌-◌, ◌*◌, ◌/◌, ◌%◌, ◌<◌, ◌≤◌, Bool, true, false, cond, ◌&&◌, ◌==◌, List, [], ◌∷◌, ◌++◌, length, Option, Some, None, refl, sym, ap, ◌∙◌, subst, inl, inr, lit<, arith}
-use Rattle.std.specs.Prelude.{decimal, pos, negsuc, reverse, replicate, codes}
+use Rattle.std.proofs.Common.{◌≡◌, ℕ, ℤ, nat_lt, zero, suc, ◌+◌, ◌-◌, ◌/◌, ◌%◌, ◌<◌, ◌≤◌, Bool, true, false, cond, ◌&&◌, ◌==◌, List, [], ◌∷◌, ◌++◌, length, Option, Some, None, refl, ap, ◌∙◌, inl, inr, lit<, arith}
+use Rattle.std.specs.Prelude.{decimal, pos, negsuc, reverse, replicate}
 use Rattle.std.specs.Fmt.{digits, digits_onto, signed_decimal}
 use Rattle.std.proofs.lemmas.Bool.{and_parts, cases_Bool}
 use Rattle.std.proofs.lemmas.Bool.Decides.{nat_tests}
@@ -17,7 +17,7 @@ use Rattle.exi_numerals.specs.Decimals.{decimal_text}
 use Rattle.exi_numerals.specs.Floats.{float_text, is_special, special_text}
 use Rattle.exi_calendar.specs.Parts.{layout}
 use Rattle.exi_calendar.specs.Forms.{date_text, field_text, fraction_text, moment_text, offset_text, time_text, year_text, zone_text}
-use Rattle.exi_calendar.specs.Reading.{digits_year_at, field_at, fraction_at, fraction_digits_at, moment_value, offset_of, past, two_digits_of, year_at, year_of, zone_of}
+use Rattle.exi_calendar.specs.Reading.{digits_year_at, field_at, moment_value, past, year_at, year_of}
 use Rattle.exi_lexical.proofs.Graphic.{all_graphic, graphic_append, is_graphic}
 
 -- ---- digits

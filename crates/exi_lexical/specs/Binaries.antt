@@ -1,6 +1,6 @@
 -- The texts of octets (XML Schema 1.0 Part 2, sections 3.2.15 and 3.2.16; RFC 4648, section 4 for base64): what
 -- they spell, and the canonical one. A text is the list of its code points.
-use Rattle.std.specs.Prelude.{ℕ, ◌+◌, ◌-◌, ◌*◌, ◌/◌, ◌%◌, ◌==◌, ◌&&◌, not, nat_lt, nat_le, Bool, true, false, if◌then◌else◌, List, [], ◌∷◌, ◌++◌, Option, Some, None}
+use Rattle.std.specs.Prelude.{ℕ, ◌+◌, ◌-◌, ◌*◌, ◌/◌, ◌%◌, ◌==◌, ◌&&◌, not, nat_lt, nat_le, Bool, if◌then◌else◌, List, [], ◌∷◌, ◌++◌, Option, Some, None}
 use Rattle.exi_lexical.specs.Spaces.{is_some_text}
 
 -- ---- hexBinary

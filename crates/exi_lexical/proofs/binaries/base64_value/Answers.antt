@@ -1,6 +1,4 @@
-use Rattle.std.proofs.Common.{◌≡◌, true, sym, ap, ◌∙◌, subst, List, ℕ, Option}
-use Rattle.exi_lexical.specs.Binaries.{base64_octets}
-use Rattle.exi_lexical.specs.Spaces.{squeezed}
+use Rattle.std.proofs.Common.{sym, ◌∙◌}
 use Rattle.exi_lexical.proofs.Blanks.{squeezed_same}
 use Rattle.exi_lexical.proofs.binaries.base64_value.Goals as goal
 

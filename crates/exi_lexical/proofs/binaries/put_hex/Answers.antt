@@ -1,4 +1,4 @@
-use Rattle.std.proofs.Common.{List, ℕ, arith, ap, ◌∙◌}
+use Rattle.std.proofs.Common.{arith, ◌∙◌}
 use Rattle.exi_lexical.proofs.Hexes.{upper_is}
 use Rattle.exi_lexical.proofs.Appends.{pushed_is}
 use Rattle.exi_lexical.proofs.binaries.put_hex.Goals as goal

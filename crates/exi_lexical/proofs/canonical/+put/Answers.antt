@@ -1,10 +1,7 @@
-use Rattle.std.proofs.Common.{◌≡◌, ◌+◌, ◌++◌, true, List, [], ◌∷◌, ℕ, drop, map, get_or, ap, sym, ◌∙◌}
+use Rattle.std.proofs.Common.{◌≡◌, ◌+◌, ◌++◌, List, ◌∷◌, drop, map, ap, sym, ◌∙◌}
 use Rattle.std.specs.Prelude.{string_bytes, encode_utf8_all}
-use Rattle.std.specs.List.{join_with_byte}
-use Rattle.std.proofs.lemmas.List.{drop_more}
 use Rattle.std.proofs.lemmas.Bool.{and_parts}
-use Rattle.exi_names.specs.Seen.{Value, seen, values_of, vals}
-use Rattle.exi_names.specs.declared.val.Val.{Val}
+use Rattle.exi_names.specs.Seen.{Value, seen, values_of}
 use Rattle.exi_lexical.specs.Values.{all_have_text, canonical, has_text, texts}
 use Rattle.exi_lexical.proofs.Lists.{at_item}
 use Rattle.exi_lexical.proofs.Joined.{left, put_item}

@@ -1,4 +1,4 @@
-use Rattle.std.proofs.Common.{◌≡◌, true, false, Bool, List, ℕ, arith, sym, ap, ◌∙◌}
+use Rattle.std.proofs.Common.{Bool, arith, sym, ap, ◌∙◌}
 use Rattle.exi_lexical.specs.Values.{binary_text}
 use Rattle.exi_lexical.proofs.Appends.{appended_is}
 use Rattle.exi_lexical.proofs.Graphic.{graphic_binary, graphic_bytes}

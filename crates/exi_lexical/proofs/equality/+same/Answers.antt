@@ -1,4 +1,4 @@
-use Rattle.std.proofs.Common.{◌≡◌, ◌≢◌, length, sym, ap, ◌∙◌}
+use Rattle.std.proofs.Common.{◌≡◌, ◌≢◌, length, sym, ◌∙◌}
 use Rattle.exi_names.specs.Seen.{vals}
 use Rattle.exi_lexical.proofs.Same.{other_lengths, length_vals}
 use Rattle.exi_lexical.proofs.equality.+same.Goals as goal

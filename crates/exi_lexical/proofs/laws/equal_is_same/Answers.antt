@@ -1,4 +1,4 @@
-use Rattle.std.proofs.Common.{◌≡◌, true, ap, ◌∙◌, subst}
+use Rattle.std.proofs.Common.{◌≡◌, true, subst}
 use Rattle.exi_names.specs.Seen.{Value}
 use Rattle.exi_lexical.specs.Equality.{equal}
 use Rattle.exi_lexical.proofs.Same.{equal_is, equal_same}

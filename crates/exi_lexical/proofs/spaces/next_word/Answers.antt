@@ -1,5 +1,4 @@
-use Rattle.std.proofs.Common.{◌∙◌, ◌≡◌, List, ℕ, length, sym, [], ◌∷◌, ◌<◌}
-use Rattle.exi_lexical.specs.Spaces.{words}
+use Rattle.std.proofs.Common.{◌∙◌, length, sym}
 use Rattle.exi_lexical.proofs.Blanks.{is_none, is_some, word_cut, no_word}
 use Rattle.exi_lexical.proofs.Letters.{chars_words, no_chars_words}
 use Rattle.exi_lexical.proofs.spaces.next_word.Goals as goal

@@ -1,5 +1,4 @@
-use Rattle.std.proofs.Common.{◌≡◌, ◌<◌, ◌≤◌, ◌-◌, ◌+◌, ℕ, List, true, false, length, take, get_or, sym, ap, ◌∙◌, subst, arith}
-use Rattle.std.specs.Str.{IsCharBoundary}
+use Rattle.std.proofs.Common.{◌≡◌, ◌<◌, ◌-◌, ℕ, List, true, false, length, take, get_or, sym, ap, ◌∙◌, arith}
 use Rattle.exi_lexical.specs.Spaces.{is_space, without_back}
 use Rattle.exi_lexical.proofs.Blanks.{cut_there, back_next, back_here, back_none}
 use Rattle.exi_lexical.proofs.spaces.skip_back.Goals as goal

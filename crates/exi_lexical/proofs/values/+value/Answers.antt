@@ -1,11 +1,11 @@
-use Rattle.std.proofs.Common.{◌≡◌, ◌≢◌, suc, ◌<◌, ◌≤◌, ◌+◌, ℕ, List, [], ◌∷◌, ◌++◌, Option, Some, None, length, option_map, refl, sym, ap, ◌∙◌, arith}
+use Rattle.std.proofs.Common.{◌≡◌, ◌≢◌, suc, ◌+◌, ℕ, List, [], ◌∷◌, Option, Some, None, length, option_map, sym, ap, ◌∙◌, arith}
 use Rattle.std.proofs.lemmas.List.{length_push}
 use Rattle.std.specs.Str.{chars}
 use Rattle.exi_names.specs.Datatypes.{represented}
 use Rattle.exi_names.specs.Seen.{Value, seen, vals}
 use Rattle.exi_names.specs.declared.val.Val.{Val}
 use Rattle.exi_lexical.specs.Spaces.{words}
-use Rattle.exi_lexical.specs.Values.{each_value, first_equal, value}
+use Rattle.exi_lexical.specs.Values.{each_value, value}
 use Rattle.exi_lexical.proofs.Lists.{behind, each_end, each_next, each_none, listed, none_listed, too_many}
 use Rattle.exi_lexical.proofs.Same.{found_is, length_vals}
 use Rattle.exi_lexical.proofs.values.+value.Goals as goal

@@ -1,4 +1,3 @@
-use Rattle.std.proofs.Common.{List, ℕ, ap, ◌∙◌}
 use Rattle.exi_names.specs.Datatypes.{represented}
 use Rattle.exi_lexical.proofs.Letters.{ascii_same, no_ascii}
 use Rattle.exi_lexical.proofs.values.scalar.Goals as goal
