@@ -6,3 +6,4 @@ pub mod Lists
 pub mod Alphabets
 pub mod Datatypes
 pub mod StartTables
+pub mod NameMaps
