@@ -6,7 +6,7 @@ PREFIX ?= /usr/local
 all: exi
 
 # Proves every crate that the program stands on, builds it and leaves ./exi.
-exi: $(wildcard crates/*/src/*.rt crates/*/specs/*.antt crates/*/proofs/*.antt) crates.txt
+exi: $(shell find crates/*/src crates/*/specs crates/*/proofs) crates.txt HANDLES
 	@echo 'proving and building; the log is in exi.log'
 	@cd crates/exi_cli && rt run -- read ../../examples/one-element.exi > ../../exi.log 2>&1 \
 		|| { tail -n 40 ../../exi.log; exit 1; }
