@@ -2,6 +2,8 @@ pub mod Characters
 pub mod Wholes
 pub mod Seen
 pub mod Events
+pub mod Shown
+pub mod TextLaws
 pub mod Lists
 pub mod Alphabets
 pub mod Datatypes

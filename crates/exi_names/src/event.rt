@@ -68,40 +68,6 @@ impl Event {
     pub fn copy(&self, alloc: Global) -> Result<Event, AllocError>
         ensures { IfOk result (λ e. happens e ≡ happens self.now) }
     {
-        match self {
-            Event::Sd => Ok(Event::Sd),
-            Event::Ed => Ok(Event::Ed),
-            Event::Se(name) => Ok(Event::Se(name.copy()?)),
-            Event::Ee => Ok(Event::Ee),
-            Event::At(name, value) => Ok(Event::At(name.copy()?, value.copy(alloc)?)),
-            Event::Ch(value) => Ok(Event::Ch(value.copy(alloc)?)),
-            Event::Ns {
-                uri,
-                prefix,
-                element,
-            } => Ok(Event::Ns {
-                uri: uri.copy()?,
-                prefix: prefix.copy()?,
-                element: *element,
-            }),
-            Event::Sc { at } => Ok(Event::Sc { at: *at }),
-            Event::Cm(text) => Ok(Event::Cm(text.copy()?)),
-            Event::Pi { target, text } => Ok(Event::Pi {
-                target: target.copy()?,
-                text: text.copy()?,
-            }),
-            Event::Dt {
-                name,
-                public,
-                system,
-                text,
-            } => Ok(Event::Dt {
-                name: name.copy()?,
-                public: public.copy()?,
-                system: system.copy()?,
-                text: text.copy()?,
-            }),
-            Event::Er(name) => Ok(Event::Er(name.copy()?)),
-        }
+        self.as_ref().copy(alloc)
     }
 }

@@ -4,6 +4,7 @@ ghost use Rattle.exi_names.specs.Lists.{events_of, takes_none, takes_more};
 
 use crate::event::Event;
 use crate::event_out::EventOut;
+use crate::event_ref::EventRef;
 use crate::stops::PushStop;
 use std::alloc::{AllocError, Global};
 
@@ -49,6 +50,13 @@ impl EventList {
     {
         self.items.as_slice()
     }
+
+    /// The events as a vector, in the same memory.
+    pub fn into_vec(self) -> Vec<Event>
+        ensures { map happens result.items ≡ events_of self }
+    {
+        self.items
+    }
 }
 
 impl EventOut for EventList {
@@ -59,6 +67,13 @@ impl EventOut for EventList {
     ghost same = { λ _ _. Unit {0} };
 
     ghost stops = { λ _. 0 };
+
+    fn see(&mut self, event: &EventRef<'_>) -> Result<(), PushStop> {
+        match event.copy(*self.items.allocator()) {
+            Ok(copy) => self.push(copy),
+            Err(AllocError) => Err(PushStop::Memory),
+        }
+    }
 
     fn push(&mut self, event: Event) -> Result<(), PushStop> {
         match self.add(event) {

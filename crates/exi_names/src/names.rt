@@ -32,14 +32,6 @@ impl QName {
     pub fn copy(&self) -> Result<QName, AllocError>
         ensures { IfOk result (λ n. n ≡ self.now) }
     {
-        let prefix = match &self.prefix {
-            None => None,
-            Some(text) => Some(text.copy()?),
-        };
-        Ok(QName {
-            uri: self.uri.copy()?,
-            local: self.local.copy()?,
-            prefix,
-        })
+        self.as_ref().copy()
     }
 }

@@ -1,11 +1,23 @@
-ghost use Rattle.std.specs.Prelude.{◌≡◌, [], ◌∷◌, ◌++◌, ◌||◌, nat_lt, nat_le, count_by, length, IfOk, OnOk, OnErr, IsTrue, ◌↔◌, encode_utf8_all};
+ghost use Rattle.std.specs.Prelude.{◌≡◌, [], ◌∷◌, ◌++◌, ◌||◌, nat_lt, nat_le, count_by, length, Some, IfOk, OnOk, OnErr, IsTrue, ◌↔◌, encode_utf8_all};
+ghost use Rattle.std.proofs.Common.{refl};
 ghost use Rattle.std.specs.Str.{chars, bytes_eq};
 ghost use Rattle.std.specs.String.{string_bytes};
+ghost use Rattle.std.specs.Cmp.Lexicographic.{slice_cmp, nat_list_eq_equiv, nat_list_cmp_total};
+ghost use Rattle.std.specs.Ordering.{nat_cmp};
+ghost use Rattle.std.specs.Cmp;
+ghost use Rattle.std.specs.Cmp.{on_total};
+ghost use Rattle.std.specs.Hash as fed;
+ghost use Rattle.exi_names.specs.TextLaws.{spelled_tie, fed_alike};
 
 use std::alloc::{AllocError, Global};
+use std::cmp::Ordering;
+use std::hash::{Hash, Hasher};
 use std::marker::Model;
 
 /// A text, seen as the list of its characters.
+///
+/// Texts are equal where they have the same characters, and are ordered by their UTF-8. So a set of
+/// texts is looked up by `&Txt`, and holds each of them once.
 #[derive(Debug, Drop)]
 pub struct Txt {
     text: String,
@@ -49,6 +61,14 @@ impl Txt {
         ensures { result ≡ chars (string_bytes text) }
     {
         Txt { text }
+    }
+
+    /// The text as a string, in the same memory.
+    pub fn into_string(self) -> String
+        ensures chars { self ≡ chars (string_bytes result) }
+        ensures bytes { string_bytes result ≡ encode_utf8_all self }
+    {
+        self.text
     }
 
     /// Another text with the same characters.
@@ -98,6 +118,54 @@ impl Txt {
         ensures test { result ≡ bytes_eq self.now other.now }
     {
         self.text.as_str() == other.text.as_str()
+    }
+}
+
+impl PartialEq for Txt {
+    ghost eq = { bytes_eq };
+
+    ghost laws = { Cmp.partial_equiv_from_equiv nat_list_eq_equiv };
+
+    fn eq(&self, other: &Txt) -> bool {
+        self.same(other)
+    }
+}
+
+impl Eq for Txt {
+    ghost laws = { nat_list_eq_equiv };
+}
+
+impl PartialOrd for Txt {
+    ghost partial_cmp = { λ x y. Some (slice_cmp nat_cmp (encode_utf8_all x) (encode_utf8_all y)) };
+
+    ghost laws = { Cmp.po (on_total encode_utf8_all nat_list_cmp_total) spelled_tie };
+
+    fn partial_cmp(&self, other: &Txt) -> Option<Ordering> {
+        Some(self.cmp(other))
+    }
+}
+
+impl Ord for Txt {
+    ghost cmp = { λ x y. slice_cmp nat_cmp (encode_utf8_all x) (encode_utf8_all y) };
+
+    ghost total = { on_total encode_utf8_all nat_list_cmp_total };
+
+    ghost matches_partial_cmp = { λ x y. refl };
+
+    ghost matches_eq = { spelled_tie };
+
+    fn cmp(&self, other: &Txt) -> Ordering {
+        self.as_str().cmp(other.as_str())
+    }
+}
+
+impl Hash for Txt {
+    ghost hash_input = { λ t. fed.str (encode_utf8_all t) };
+
+    ghost respects_eq = { fed_alike };
+
+    fn hash<H: Hasher>(&self, state: &mut H) {
+        self.as_str().hash(state);
     }
 }
 

@@ -48,6 +48,13 @@ impl TxtList {
         self.items.as_slice()
     }
 
+    /// The texts as a vector, in the same memory.
+    pub fn into_vec(self) -> Vec<Txt>
+        ensures { result.items ≡ self }
+    {
+        self.items
+    }
+
     /// Another list of the same texts.
     ///
     /// # Errors
@@ -106,5 +113,12 @@ impl TxtLists {
         ensures { result.now ≡ self.now }
     {
         self.items.as_slice()
+    }
+
+    /// The lists as a vector, in the same memory.
+    pub fn into_vec(self) -> Vec<TxtList>
+        ensures { result.items ≡ self }
+    {
+        self.items
     }
 }

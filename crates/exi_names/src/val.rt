@@ -130,6 +130,13 @@ impl ValList {
         self.items.as_slice()
     }
 
+    /// The values as a vector, in the same memory.
+    pub fn into_vec(self) -> Vec<Val>
+        ensures { map seen result.items ≡ vals self }
+    {
+        self.items
+    }
+
     /// Another list of equal values.
     ///
     /// # Errors

@@ -1,13 +1,13 @@
 ghost use Rattle.std.specs.Prelude.{◌≡◌, ◌≤◌, IsErrOf};
 ghost use Rattle.std.proofs.Common.{refl, ◌∙◌};
-ghost use Rattle.exi_names.specs.Events.{happens, Rose};
+ghost use Rattle.exi_names.specs.Events.{Rose};
+ghost use Rattle.exi_names.specs.Shown.{shows};
 ghost use Rattle.exi_run.specs.Text.{lines};
 ghost use Rattle.exi_run.specs.Printing.{Prints, BreaksOff, PrintsEvent, PutsLine, prints_none, prints_more};
 
 use crate::text::{is_printable, print_line};
-use exi_names::{Event, EventOut, PushStop};
+use exi_names::{EventOut, EventRef, PushStop};
 use exi_ports::{Sink, SinkStop};
-use std::alloc::Global;
 
 /// Prints each event as a line, in one put.
 ///
@@ -16,16 +16,16 @@ use std::alloc::Global;
 pub struct Printer<'a, O: Sink> {
     /// Where the lines go.
     pub out: &'a mut O,
-    /// The allocator of the lines.
-    pub alloc: Global,
+    /// Room for a line, kept from one event to the next.
+    pub line: &'a mut Vec<u8>,
     /// How often it stopped.
     pub stops: u64,
 }
 
 impl<'a, O: Sink> Printer<'a, O> {
     /// The line of an event goes to the sink.
-    fn print(&mut self, event: &Event) -> Result<(), PushStop>
-        ensures printed { PrintsEvent (happens event.now) result (O.taken self.old.out.now) (O.faults self.old.out.now) (O.taken self.new.out.now) (O.faults self.new.out.now) }
+    fn print(&mut self, event: &EventRef<'_>) -> Result<(), PushStop>
+        ensures printed { PrintsEvent (shows event.now) result (O.taken self.old.out.now) (O.faults self.old.out.now) (O.taken self.new.out.now) (O.faults self.new.out.now) }
         ensures same { self.new.out.ghost_name ≡ self.old.out.ghost_name }
         ensures later { self.old.stops ≤ self.new.stops }
         ensures stopped { IsErrOf result PushStop.Stopped → Rose self.old.stops self.new.stops }
@@ -34,7 +34,7 @@ impl<'a, O: Sink> Printer<'a, O> {
             self.stops = self.stops.saturating_add(1);
             return Err(PushStop::Stopped);
         }
-        match put_event(self.alloc, self.out, event) {
+        match put_event(self.line, self.out, event) {
             Ok(()) => Ok(()),
             Err(SinkStop::Memory) => Err(PushStop::Memory),
             Err(SinkStop::Failed) => {
@@ -54,8 +54,8 @@ impl<'a, O: Sink> EventOut for Printer<'a, O> {
 
     ghost stops = { λ a. a.stops };
 
-    fn push(&mut self, event: Event) -> Result<(), PushStop> {
-        self.print(&event)
+    fn see(&mut self, event: &EventRef<'_>) -> Result<(), PushStop> {
+        self.print(event)
     }
 
     ghost same_now = { λ s. refl };
@@ -68,11 +68,11 @@ impl<'a, O: Sink> EventOut for Printer<'a, O> {
 }
 
 /// The line of an event, in one put.
-fn put_event<O: Sink>(alloc: Global, out: &mut O, event: &Event) -> Result<(), SinkStop>
-    ensures { PutsLine (happens event.now) result (O.taken out.old) (O.faults out.old) (O.taken out.new) (O.faults out.new) }
+fn put_event<O: Sink>(line: &mut Vec<u8>, out: &mut O, event: &EventRef<'_>) -> Result<(), SinkStop>
+    ensures { PutsLine (shows event.now) result (O.taken out.old) (O.faults out.old) (O.taken out.new) (O.faults out.new) }
 {
-    let Ok(line) = print_line(alloc, event) else {
+    let Ok(()) = print_line(line, event) else {
         return Err(SinkStop::Memory);
     };
-    out.put(&line)
+    out.put(line)
 }

@@ -1,13 +1,13 @@
 ghost use Rattle.std.specs.Prelude.{◌≡◌, ◌++◌, ◌∷◌, OnOk, IfOk, codes, decimal};
 ghost use Rattle.std.specs.List.{flat_map};
 ghost use Rattle.exi_names.specs.Seen.{seen};
-ghost use Rattle.exi_names.specs.Events.{happens};
-ghost use Rattle.exi_run.specs.Text.{quoted, also, name_words, value_words, truth, words, line, has_line, kind_words, last_line};
+ghost use Rattle.exi_names.specs.Shown.{named, shown, shows};
+ghost use Rattle.exi_run.specs.Text.{quoted, also, name_words, value_words, truth, words, line, is_plain, has_line, kind_words, last_line};
 ghost use Rattle.exi_run.specs.Bytes.{escaped_byte};
 
 use crate::reader::End;
 use exi_bits::Kind;
-use exi_names::{Event, QName, Txt, Val};
+use exi_names::{EventRef, NameRef, Txt, Val, ValRef};
 use itoa::Buffer;
 use std::alloc::{AllocError, Global};
 
@@ -48,39 +48,56 @@ fn push_also(out: &mut Vec<u8>, text: &Txt) -> Result<(), AllocError>
     push_quoted(out, text)
 }
 
-fn push_name(out: &mut Vec<u8>, name: &QName) -> Result<(), AllocError>
-    ensures { OnOk result (out.new.items ≡ out.old.items ++ name_words name.now) }
+fn push_name(out: &mut Vec<u8>, name: &NameRef<'_>) -> Result<(), AllocError>
+    ensures { OnOk result (out.new.items ≡ out.old.items ++ name_words (named name.now)) }
 {
-    push_quoted(out, &name.uri)?;
-    push_also(out, &name.local)?;
-    match &name.prefix {
+    push_quoted(out, name.uri)?;
+    push_also(out, name.local)?;
+    match name.prefix {
         Some(prefix) => push_also(out, prefix),
         None => Ok(()),
     }
 }
 
-fn push_value(out: &mut Vec<u8>, value: &Val) -> Result<(), AllocError>
+/// The value of a text. Of other values nothing is said.
+fn push_val(out: &mut Vec<u8>, value: &Val) -> Result<(), AllocError>
     ensures { OnOk result (out.new.items ≡ out.old.items ++ value_words (seen value.now)) }
 {
     match value {
-        Val::Text(text) => {
-            out.extend_from_slice(b"text ")?;
-            push_quoted(out, text)
-        }
+        Val::Text(text) => push_labelled(out, b"text ", text),
         Val::Name(name) => {
             out.extend_from_slice(b"name ")?;
-            push_name(out, name)
+            push_name(out, &name.as_ref())
         }
         _ => Ok(()),
     }
 }
 
+fn push_value(out: &mut Vec<u8>, value: &ValRef<'_>) -> Result<(), AllocError>
+    ensures { OnOk result (out.new.items ≡ out.old.items ++ value_words (shown value.now)) }
+{
+    match value {
+        ValRef::Text(text) => push_labelled(out, b"text ", text),
+        ValRef::Any(value) => push_val(out, value),
+    }
+}
+
+/// Whether the value has its text here.
+fn is_plain_value(value: &ValRef<'_>) -> bool
+    ensures { result ≡ is_plain (shown value.now) }
+{
+    match value {
+        ValRef::Text(_) => true,
+        ValRef::Any(value) => matches!(value, Val::Text(_) | Val::Name(_)),
+    }
+}
+
 /// Whether the event has its line here: a value that is neither a text nor a name has none yet.
-pub fn is_printable(event: &Event) -> bool
-    ensures { result ≡ has_line (happens event.now) }
+pub fn is_printable(event: &EventRef<'_>) -> bool
+    ensures { result ≡ has_line (shows event.now) }
 {
     match event {
-        Event::At(_, value) | Event::Ch(value) => matches!(value, Val::Text(_) | Val::Name(_)),
+        EventRef::At(_, value) | EventRef::Ch(value) => is_plain_value(value),
         _ => true,
     }
 }
@@ -114,45 +131,45 @@ fn push_number(out: &mut Vec<u8>, word: &[u8], number: u64) -> Result<(), AllocE
     out.extend_from_slice(digits.format(number).as_bytes())
 }
 
-fn push_words(out: &mut Vec<u8>, event: &Event) -> Result<(), AllocError>
-    ensures { OnOk result (out.new.items ≡ out.old.items ++ words (happens event.now)) }
+fn push_words(out: &mut Vec<u8>, event: &EventRef<'_>) -> Result<(), AllocError>
+    ensures { OnOk result (out.new.items ≡ out.old.items ++ words (shows event.now)) }
 {
     match event {
-        Event::Sd => out.extend_from_slice(b"SD"),
-        Event::Ed => out.extend_from_slice(b"ED"),
-        Event::Se(name) => {
+        EventRef::Sd => out.extend_from_slice(b"SD"),
+        EventRef::Ed => out.extend_from_slice(b"ED"),
+        EventRef::Se(name) => {
             out.extend_from_slice(b"SE ")?;
             push_name(out, name)
         }
-        Event::Ee => out.extend_from_slice(b"EE"),
-        Event::At(name, value) => {
+        EventRef::Ee => out.extend_from_slice(b"EE"),
+        EventRef::At(name, value) => {
             out.extend_from_slice(b"AT ")?;
             push_name(out, name)?;
             out.push(b' ')?;
             push_value(out, value)
         }
-        Event::Ch(value) => {
+        EventRef::Ch(value) => {
             out.extend_from_slice(b"CH ")?;
             push_value(out, value)
         }
-        Event::Ns {
+        EventRef::Ns {
             uri,
             prefix,
             element,
         } => push_namespace(out, uri, prefix, *element),
-        Event::Sc { at } => push_number(out, b"SC ", *at),
-        Event::Cm(text) => push_labelled(out, b"CM ", text),
-        Event::Pi { target, text } => {
+        EventRef::Sc { at } => push_number(out, b"SC ", *at),
+        EventRef::Cm(text) => push_labelled(out, b"CM ", text),
+        EventRef::Pi { target, text } => {
             push_labelled(out, b"PI ", target)?;
             push_also(out, text)
         }
-        Event::Dt {
+        EventRef::Dt {
             name,
             public,
             system,
             text,
         } => push_doctype(out, name, public, system, text),
-        Event::Er(name) => push_labelled(out, b"ER ", name),
+        EventRef::Er(name) => push_labelled(out, b"ER ", name),
     }
 }
 
@@ -171,15 +188,15 @@ fn push_doctype(
     push_also(out, text)
 }
 
-/// The line of an event.
+/// The line of an event takes the place of what the buffer held.
 #[tactic(auto, unfolding(crate::specs::Text::line))]
-pub fn print_line(alloc: Global, event: &Event) -> Result<Vec<u8>, AllocError>
-    ensures { IfOk result (λ text. text.items ≡ line (happens event.now)) }
+pub fn print_line(out: &mut Vec<u8>, event: &EventRef<'_>) -> Result<(), AllocError>
+    ensures { OnOk result (out.new.items ≡ line (shows event.now)) }
 {
-    let mut out = Vec::new(alloc);
-    push_words(&mut out, event)?;
+    out.clear();
+    push_words(out, event)?;
     out.push(b'\n')?;
-    Ok(out)
+    Ok(())
 }
 
 fn push_kind(out: &mut Vec<u8>, kind: Kind) -> Result<(), AllocError>

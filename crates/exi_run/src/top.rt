@@ -39,9 +39,10 @@ fn put_line<O: Sink>(out: &mut O, line: &[u8]) -> Result<(), Halt>
 fn print_body<O: Sink>(alloc: Global, input: BitIn<'_>, out: &mut O) -> Result<End, ReadStop>
     ensures { PrintsBody result (first_of input.entry) (O.taken out.old) (O.faults out.old) (O.taken out.new) (O.faults out.new) }
 {
+    let mut line = Vec::new(alloc);
     let mut printer = Printer {
         out,
-        alloc,
+        line: &mut line,
         stops: 0,
     };
     read_body(alloc, input, &mut printer)
