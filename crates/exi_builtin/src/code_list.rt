@@ -29,21 +29,9 @@ impl Front {
         ensures { parts_of result ≡ parts_before self ++ part ∷ [] }
     {
         match self {
-            Front::Empty => Code {
-                first: part,
-                second: None,
-                third: None,
-            },
-            Front::First(first) => Code {
-                first,
-                second: Some(part),
-                third: None,
-            },
-            Front::Second(first, second) => Code {
-                first,
-                second: Some(second),
-                third: Some(part),
-            },
+            Front::Empty => Code::One(part),
+            Front::First(first) => Code::Two(first, part),
+            Front::Second(first, second) => Code::Three(first, second, part),
         }
     }
 }

@@ -111,18 +111,15 @@ fn part(digit: u8) -> u32 {
 
 /// The code that the digits spell.
 fn code_of(digits: &[u8]) -> Option<Code> {
-    let (first, second, third) = match digits {
-        [b'-'] => return None,
-        [first] => (part(*first), None, None),
-        [first, second] => (part(*first), Some(part(*second)), None),
-        [first, second, third] => (part(*first), Some(part(*second)), Some(part(*third))),
-        _ => return None,
-    };
-    Some(Code {
-        first,
-        second,
-        third,
-    })
+    match digits {
+        [b'-'] => None,
+        [first] => Some(Code::One(part(*first))),
+        [first, second] => Some(Code::Two(part(*first), part(*second))),
+        [first, second, third] => {
+            Some(Code::Three(part(*first), part(*second), part(*third)))
+        }
+        _ => None,
+    }
 }
 
 /// Whether the list has these codes of these productions, in their order, and no others.

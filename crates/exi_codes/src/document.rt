@@ -1,16 +1,20 @@
-ghost use Rattle.std.specs.Prelude.{◌≡◌, ◌+◌, ◌<◌, ◌^◌, None, IfOk, OnOk, map};
-ghost use Rattle.exi_gram.specs.Books.{left_of};
-ghost use Rattle.exi_gram.specs.Document.{document, document_content, document_end, document_start};
-ghost use Rattle.exi_gram.specs.Tables.{size};
+ghost use Rattle.std.specs.Prelude.{◌≡◌, ◌+◌, ◌<◌, [], IfOk, OnOk, map};
+ghost use Rattle.exi_names.specs.StartTables.{first_names};
+ghost use Rattle.exi_gram.specs.Books.{state_of};
+ghost use Rattle.exi_gram.specs.Naming.{entry};
+ghost use Rattle.exi_gram.specs.declared.named.Named.TheVariants as named;
+ghost use Rattle.exi_gram.specs.Tables.{most_productions, size};
+ghost use Rattle.exi_gram.specs.Terminals.{rule, symbol};
+ghost use Rattle.exi_gram.specs.Wholes.{document, document_content, document_end, plain, whole_start};
 ghost use Rattle.exi_codes.specs.Steps.{with_kept, with_pair};
 
 use bitflags::Flags;
-use exi_gram::{CodeTable, Items, OptionFlags, Options, Production, Terminal};
+use exi_gram::{CodedState, Items, Named, OptionFlags, Options, Production, Terminal};
 use std::alloc::{AllocError, Global};
 
 /// A production that opens no grammar of a schema.
 fn plain(on: Terminal, to: u32) -> Production
-    ensures { result ≡ record { on = on; to = to; inner = None } }
+    ensures { rule result ≡ plain (symbol on) to }
 {
     Production {
         on,
@@ -20,12 +24,12 @@ fn plain(on: Terminal, to: u32) -> Production
 }
 
 /// Adds a production that the next second part tells, where it is kept.
-fn push_kept(table: &mut CodeTable, kept: bool, production: Production) -> Result<(), AllocError>
-    requires room { size table.old < 2 ^ 31 }
-    ensures { OnOk result (table.new ≡ with_kept kept table.old production) }
+fn push_kept(table: &mut CodedState, kept: bool, production: Production) -> Result<(), AllocError>
+    requires room { size table.old < most_productions }
+    ensures { OnOk result (table.new ≡ with_kept kept table.old (entry production named.Nothing)) }
 {
     if kept {
-        table.push_single(production)
+        table.push_single(production, Named::Nothing)
     } else {
         Ok(())
     }
@@ -33,44 +37,44 @@ fn push_kept(table: &mut CodeTable, kept: bool, production: Production) -> Resul
 
 /// Adds those of two productions that are kept, as a group.
 fn push_pair(
-    table: &mut CodeTable,
+    table: &mut CodedState,
     one: bool,
     first: Production,
     two: bool,
     second: Production,
 ) -> Result<(), AllocError>
-    requires room { size table.old + 2 < 2 ^ 31 }
-    ensures { OnOk result (table.new ≡ with_pair one two table.old first second) }
+    requires room { size table.old + 2 < most_productions }
+    ensures { OnOk result (table.new ≡ with_pair one two table.old (entry first named.Nothing) (entry second named.Nothing)) }
 {
     if one {
-        table.push_group(first)?;
+        table.push_group(first, Named::Nothing)?;
         if two {
-            return table.push_member(second);
+            return table.push_member(second, Named::Nothing);
         }
         return Ok(());
     }
     if two {
-        return table.push_group(second);
+        return table.push_group(second, Named::Nothing);
     }
     Ok(())
 }
 
 /// The codes of the first state.
-fn start(alloc: Global, options: &Options) -> Result<CodeTable, AllocError>
-    ensures { IfOk result (λ t. t ≡ left_of options.now document_start) }
+fn start(alloc: Global, options: &Options) -> Result<CodedState, AllocError>
+    ensures { IfOk result (λ t. t ≡ state_of options.now first_names whole_start) }
 {
-    let mut table = CodeTable::new(alloc);
-    table.push_first(plain(Terminal::Sd, 1))?;
+    let mut table = CodedState::new(alloc);
+    table.push_first(plain(Terminal::Sd, 1), Named::Nothing)?;
     Ok(table)
 }
 
 /// The codes of the state in which the root is to come.
-fn content(alloc: Global, options: &Options) -> Result<CodeTable, AllocError>
-    ensures { IfOk result (λ t. t ≡ left_of options.now document_content) }
+fn content(alloc: Global, options: &Options) -> Result<CodedState, AllocError>
+    ensures { IfOk result (λ t. t ≡ state_of options.now first_names (document_content [])) }
 {
     let flags = options.flags;
-    let mut table = CodeTable::new(alloc);
-    table.push_first(plain(Terminal::SeAny, 2))?;
+    let mut table = CodedState::new(alloc);
+    table.push_first(plain(Terminal::SeAny, 2), Named::Nothing)?;
     push_kept(
         &mut table,
         flags.contains(OptionFlags::DTD),
@@ -87,12 +91,12 @@ fn content(alloc: Global, options: &Options) -> Result<CodeTable, AllocError>
 }
 
 /// The codes of the state behind the root.
-fn end(alloc: Global, options: &Options) -> Result<CodeTable, AllocError>
-    ensures { IfOk result (λ t. t ≡ left_of options.now document_end) }
+fn end(alloc: Global, options: &Options) -> Result<CodedState, AllocError>
+    ensures { IfOk result (λ t. t ≡ state_of options.now first_names document_end) }
 {
     let flags = options.flags;
-    let mut table = CodeTable::new(alloc);
-    table.push_first(plain(Terminal::Ed, 2))?;
+    let mut table = CodedState::new(alloc);
+    table.push_first(plain(Terminal::Ed, 2), Named::Nothing)?;
     push_kept(
         &mut table,
         flags.contains(OptionFlags::COMMENTS),
@@ -111,8 +115,8 @@ fn end(alloc: Global, options: &Options) -> Result<CodeTable, AllocError>
 /// # Errors
 ///
 /// `AllocError` where memory is refused.
-pub fn document_states(alloc: Global, options: &Options) -> Result<Items<CodeTable>, AllocError>
-    ensures { IfOk result (λ states. states ≡ map (left_of options.now) document) }
+pub fn document_states(alloc: Global, options: &Options) -> Result<Items<CodedState>, AllocError>
+    ensures { IfOk result (λ states. states ≡ map (state_of options.now first_names) (document [])) }
 {
     let mut states = Items::new(alloc);
     states.push(start(alloc, options)?)?;

@@ -1,7 +1,8 @@
 ghost use Rattle.std.specs.Prelude.{◌≡◌, ◌∷◌, [], false, IfOk, map};
-ghost use Rattle.exi_gram.specs.Books.{left_of};
-ghost use Rattle.exi_gram.specs.Document.{document};
+ghost use Rattle.exi_names.specs.StartTables.{first_names};
+ghost use Rattle.exi_gram.specs.Books.{state_of};
 ghost use Rattle.exi_gram.specs.Switches.{conflicts};
+ghost use Rattle.exi_gram.specs.Wholes.{document};
 
 use crate::document::document_states;
 use exi_gram::{Book, Items, Options, Schema};
@@ -18,7 +19,7 @@ pub fn book(alloc: Global, schema: Schema, options: Options) -> Result<Book, All
     requires no_conflict { conflicts options ≡ false }
     ensures options { IfOk result (λ b. b.options ≡ options) }
     ensures schema { IfOk result (λ b. b.schema ≡ schema) }
-    ensures states { IfOk result (λ b. b.states ≡ map (left_of options) document ∷ []) }
+    ensures states { IfOk result (λ b. b.states ≡ map (state_of options first_names) (document []) ∷ []) }
 {
     let mut states = Items::new(alloc);
     states.push(document_states(alloc, &options)?)?;

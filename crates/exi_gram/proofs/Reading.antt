@@ -9,11 +9,11 @@ use Rattle.exi_bits.specs.Bits.{Spot}
 use Rattle.exi_bits.specs.Unsigned.{◌>>=◌, ReadsSome, fault_at}
 use Rattle.exi_items.proofs.Items.{bind_ok, given, ok_is}
 use Rattle.exi_gram.specs.declared.code.Coded.{Coded as Kept}
-use Rattle.exi_gram.specs.declared.grammar.Production.{Production}
 use Rattle.exi_gram.specs.declared.second.SecondPart.{SecondPart}
 use Rattle.exi_gram.specs.Codes.{HasMembers, Productions, Second, code_at, first_told, first_values, group, longer, member_at, part_at, second_at, second_told, single, told}
 use Rattle.exi_gram.specs.Laws.{members, placed, placed_second, placed_seconds, places_from}
-use Rattle.exi_gram.specs.Tables.{Follow, IsTable, counting, first_count, items_of, places_in, places_of, second_of, size, slice, table_of}
+use Rattle.exi_gram.specs.Naming.{Entry}
+use Rattle.exi_gram.specs.Tables.{Follow, IsTable, counting, first_count, items_of, most_productions, places_in, places_of, second_of, size, slice, table_of}
 use Rattle.exi_gram.proofs.TableLists.{count_firsts, count_items, follow_within, placed_table, size_is}
 
 -- ---- places
@@ -145,18 +145,18 @@ at_count f n m r e h = ap f (sym e) ∙ h
 pub same_read : {X Y : Type 0} (view : X → Y) (result : Result X Fault) (new : Spot) (one two : Result (Y × Spot) Fault) → two ≡ one → ReadsSome view result new one → ReadsSome view result new two
 same_read view result new one two e h = subst (ReadsSome view result new) (sym e) h
 
-pub table_ends : (cs : List Kept) (firsts : ℕ) (ss : List SecondPart) → IsTable cs firsts ss → All (λ s. s.begin + s.count ≤ 2 ^ 31) ss
-table_ends cs firsts ss t = follow_ends firsts ss (length cs) (2 ^ 31) t.follow t.small
+pub table_ends : (cs : List Kept) (firsts : ℕ) (ss : List SecondPart) → IsTable cs firsts ss → All (λ s. s.begin + s.count ≤ most_productions) ss
+table_ends cs firsts ss t = follow_ends firsts ss (length cs) (most_productions) t.follow t.small
 
 -- what is read of what is kept is what is read of the productions' places
-pub placed_view : (cs : List Kept) (firsts : ℕ) (ss lent : List SecondPart) (p : Productions Production) (a : Align) (s : Spot) (r : Result (ℕ × Spot) Fault) → IsTable cs firsts ss → table_of (items_of cs) firsts ss ≡ p → lent ≡ ss → code_at a (places_in firsts lent) s ≡ r → code_at a (placed p) s ≡ r
+pub placed_view : (cs : List Kept) (firsts : ℕ) (ss lent : List SecondPart) (p : Productions Entry) (a : Align) (s : Spot) (r : Result (ℕ × Spot) Fault) → IsTable cs firsts ss → table_of (items_of cs) firsts ss ≡ p → lent ≡ ss → code_at a (places_in firsts lent) s ≡ r → code_at a (placed p) s ≡ r
 placed_view cs firsts ss lent p a s r t v l e =
-    ap (λ (p : Productions Production). code_at a (placed p) s) (sym v)
+    ap (λ (p : Productions Entry). code_at a (placed p) s) (sym v)
     ∙ ap (λ (p : Productions ℕ). code_at a p s) (placed_table cs firsts ss t)
     ∙ ap (λ (z : List SecondPart). code_at a (places_in firsts z) s) (sym l)
     ∙ e
 
-pub view_below : (cs : List Kept) (firsts : ℕ) (ss lent : List SecondPart) (p : Productions Production) (a : Align) (s : Spot) (x : ℕ × Spot) → IsTable cs firsts ss → table_of (items_of cs) firsts ss ≡ p → lent ≡ ss → code_at a (places_in firsts lent) s ≡ given x → x.0 < size p
+pub view_below : (cs : List Kept) (firsts : ℕ) (ss lent : List SecondPart) (p : Productions Entry) (a : Align) (s : Spot) (x : ℕ × Spot) → IsTable cs firsts ss → table_of (items_of cs) firsts ss ≡ p → lent ≡ ss → code_at a (places_in firsts lent) s ≡ given x → x.0 < size p
 view_below cs firsts ss lent p a s x t v l e =
     let k = code_below a firsts ss (length cs) s x t.follow (ap (λ (z : List SecondPart). code_at a (places_in firsts z) s) (sym l) ∙ e) in
     let n : size p ≡ length cs = ap size (sym v) ∙ size_is cs firsts ss t in

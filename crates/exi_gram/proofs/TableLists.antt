@@ -5,11 +5,14 @@ use Rattle.std.proofs.lemmas.List.Elements.{All-nil, All-cons}
 use Rattle.std.proofs.Math.Seq.{take-append-add}
 use Rattle.exi_gram.specs.declared.code.Code.{Code}
 use Rattle.exi_gram.specs.declared.code.Coded.{Coded as Kept}
+use Rattle.exi_gram.specs.declared.code.Code.TheVariants as code
 use Rattle.exi_gram.specs.declared.grammar.Production.{Production}
+use Rattle.exi_gram.specs.declared.named.Named.{Named}
 use Rattle.exi_gram.specs.declared.second.SecondPart.{SecondPart}
 use Rattle.exi_gram.specs.Codes.{Coded, HasMembers, IsClosedUp, Productions, Second, coded, coded_from, coded_second, coded_seconds, group, single}
+use Rattle.exi_gram.specs.Naming.{Entry, entry}
 use Rattle.exi_gram.specs.Laws.{members, placed, placed_second, placed_seconds, places_from}
-use Rattle.exi_gram.specs.Tables.{Follow, IsTable, as_single, coded_of, counting, ends_in_group, items_of, last_joined, places_in, parts_of, places_of, second_of, size, slice, table_of, with_first, with_member, with_second}
+use Rattle.exi_gram.specs.Tables.{Follow, IsTable, as_single, coded_of, counting, ends_in_group, items_of, kept_entry, last_joined, most_productions, places_in, parts_of, places_of, second_of, size, slice, table_of, with_first, with_member, with_second}
 
 -- ---- the codes of more productions
 from-append : {X : Type 0} (front : List ℕ) (part : ℕ) (xs ys : List X) → coded_from front part (xs ++ ys) ≡ coded_from front part xs ++ coded_from front (part + length xs) ys
@@ -148,18 +151,18 @@ member_table {X} xs x firsts ss s h e =
 abbrev with_code : List Kept → Kept → List Kept
 with_code cs c = cs ++ c ∷ []
 
-items_more : (cs : List Kept) (c : Kept) → items_of (with_code cs c) ≡ items_of cs ++ c.production ∷ []
-items_more cs c = map-append (λ (c : Kept). c.production) cs (c ∷ [])
+items_more : (cs : List Kept) (c : Kept) → items_of (with_code cs c) ≡ items_of cs ++ kept_entry c ∷ []
+items_more cs c = map-append kept_entry cs (c ∷ [])
 
-coded_more : (cs : List Kept) (c : Kept) (parts : List ℕ) (old new : List (Coded Production)) → map coded_of cs ≡ old → parts_of c.code ≡ parts → new ≡ old ++ record { parts = parts; item = c.production } ∷ [] → map coded_of (with_code cs c) ≡ new
+coded_more : (cs : List Kept) (c : Kept) (parts : List ℕ) (old new : List (Coded Entry)) → map coded_of cs ≡ old → parts_of c.code ≡ parts → new ≡ old ++ record { parts = parts; item = (kept_entry c) } ∷ [] → map coded_of (with_code cs c) ≡ new
 coded_more cs c parts old new e f g =
     map-append coded_of cs (c ∷ [])
-    ∙ ap (λ (z : List (Coded Production)). z ++ coded_of c ∷ []) e
-    ∙ ap (λ (z : List ℕ). old ++ record { parts = z; item = c.production } ∷ []) f
+    ∙ ap (λ (z : List (Coded Entry)). z ++ coded_of c ∷ []) e
+    ∙ ap (λ (z : List ℕ). old ++ record { parts = z; item = (kept_entry c) } ∷ []) f
     ∙ sym g
 
 pub count_items : (cs : List Kept) → length (items_of cs) ≡ length cs
-count_items cs = length-map cs (λ (c : Kept). c.production)
+count_items cs = length-map cs kept_entry
 
 -- how many productions there are
 pub size_is : (cs : List Kept) (firsts : ℕ) (ss : List SecondPart) → IsTable cs firsts ss → size (table_of (items_of cs) firsts ss) ≡ length cs
@@ -169,26 +172,26 @@ no_seconds : {X : Type 0} (xs : List X) (ss : List SecondPart) → map (second_o
 no_seconds xs [] e = refl
 no_seconds xs (s ∷ ss) e = absurd cc
 
-pub first_view : (cs : List Kept) (firsts : ℕ) (ss : List SecondPart) (c : Kept) → IsTable cs firsts ss → map (second_of (items_of cs)) ss ≡ [] → table_of (items_of (with_code cs c)) (firsts + 1) ss ≡ with_first (table_of (items_of cs) firsts ss) c.production
+pub first_view : (cs : List Kept) (firsts : ℕ) (ss : List SecondPart) (c : Kept) → IsTable cs firsts ss → map (second_of (items_of cs)) ss ≡ [] → table_of (items_of (with_code cs c)) (firsts + 1) ss ≡ with_first (table_of (items_of cs) firsts ss) (kept_entry c)
 first_view cs firsts ss c t none =
     let e = no_seconds (items_of cs) ss none in
     let f : firsts ≡ length (items_of cs) = subst (λ (ss : List SecondPart). Follow firsts ss (length cs)) e t.follow ∙ sym (count_items cs) in
-    rw (e, items_more cs c) (first_table (items_of cs) c.production firsts f)
+    rw (e, items_more cs c) (first_table (items_of cs) (kept_entry c) firsts f)
 
-pub first_keeps : (cs : List Kept) (firsts : ℕ) (ss : List SecondPart) (c : Kept) → IsTable cs firsts ss → map (second_of (items_of cs)) ss ≡ [] → size (table_of (items_of cs) firsts ss) < 2 ^ 31 → parts_of c.code ≡ firsts ∷ [] → IsTable (with_code cs c) (firsts + 1) ss
+pub first_keeps : (cs : List Kept) (firsts : ℕ) (ss : List SecondPart) (c : Kept) → IsTable cs firsts ss → map (second_of (items_of cs)) ss ≡ [] → size (table_of (items_of cs) firsts ss) < most_productions → parts_of c.code ≡ firsts ∷ [] → IsTable (with_code cs c) (firsts + 1) ss
 first_keeps cs firsts ss c t none room parts =
     let e = no_seconds (items_of cs) ss none in
     let f : firsts ≡ length cs = subst (λ (ss : List SecondPart). Follow firsts ss (length cs)) e t.follow in
     let n : length (take firsts (items_of cs)) ≡ firsts = omega (arith, length-take firsts (items_of cs), count_items cs) in
     let l : length (with_code cs c) ≡ length cs + 1 = length-append cs (c ∷ []) in
-    let v : table_of (items_of (with_code cs c)) (firsts + 1) ss ≡ with_first (table_of (items_of cs) firsts []) c.production = first_view cs firsts ss c t none ∙ ap (λ (z : List SecondPart). with_first (table_of (items_of cs) firsts z) c.production) e in
+    let v : table_of (items_of (with_code cs c)) (firsts + 1) ss ≡ with_first (table_of (items_of cs) firsts []) (kept_entry c) = first_view cs firsts ss c t none ∙ ap (λ (z : List SecondPart). with_first (table_of (items_of cs) firsts z) (kept_entry c)) e in
     record {
       small = omega (arith, size_is cs firsts ss t);
       follow = subst (λ (ss : List SecondPart). Follow (firsts + 1) ss (length (with_code cs c))) (sym e) (omega arith);
       codes = coded_more cs c (firsts ∷ []) (coded (table_of (items_of cs) firsts [])) (coded (table_of (items_of (with_code cs c)) (firsts + 1) ss))
           (t.codes ∙ ap (λ (z : List SecondPart). coded (table_of (items_of cs) firsts z)) e)
           parts
-          (ap coded v ∙ first_coded (take firsts (items_of cs)) c.production ∙ ap (λ (k : ℕ). coded (table_of (items_of cs) firsts []) ++ record { parts = k ∷ []; item = c.production } ∷ []) n);
+          (ap coded v ∙ first_coded (take firsts (items_of cs)) (kept_entry c) ∙ ap (λ (k : ℕ). coded (table_of (items_of cs) firsts []) ++ record { parts = k ∷ []; item = (kept_entry c) } ∷ []) n);
     }
 
 pub count_firsts : (cs : List Kept) (firsts : ℕ) (ss : List SecondPart) (end : ℕ) → Follow firsts ss end → end ≤ length cs → length (take firsts (items_of cs)) ≡ firsts
@@ -198,23 +201,23 @@ count_firsts cs firsts ss end h le = let w = follow_within firsts ss end h in om
 abbrev pub next_part : List Kept → Bool → SecondPart
 next_part cs grouped = record { begin = length cs; count = 1; group = grouped }
 
-next_slice : (cs : List Kept) (x : Production) (grouped : Bool) → slice (items_of cs ++ x ∷ []) (next_part cs grouped) ≡ x ∷ []
+next_slice : (cs : List Kept) (x : Entry) (grouped : Bool) → slice (items_of cs ++ x ∷ []) (next_part cs grouped) ≡ x ∷ []
 next_slice cs x grouped = ap (λ (k : ℕ). slice (items_of cs ++ x ∷ []) (record { begin = k; count = 1; group = grouped })) (sym (count_items cs)) ∙ slice_last (items_of cs) x grouped
 
-next_second : (cs : List Kept) (x : Production) (grouped : Bool) → second_of (items_of cs ++ x ∷ []) (next_part cs grouped) ≡ cond grouped (group (x ∷ [])) (single x)
+next_second : (cs : List Kept) (x : Entry) (grouped : Bool) → second_of (items_of cs ++ x ∷ []) (next_part cs grouped) ≡ cond grouped (group (x ∷ [])) (single x)
 next_second cs x true = rw (next_slice cs x true) refl
 next_second cs x false = rw (next_slice cs x false) refl
 
-pub second_view : (cs : List Kept) (firsts : ℕ) (ss : List SecondPart) (c : Kept) (grouped : Bool) → IsTable cs firsts ss → table_of (items_of (with_code cs c)) firsts (ss ++ next_part cs grouped ∷ []) ≡ with_second (table_of (items_of cs) firsts ss) (cond grouped (group (c.production ∷ [])) (single c.production))
+pub second_view : (cs : List Kept) (firsts : ℕ) (ss : List SecondPart) (c : Kept) (grouped : Bool) → IsTable cs firsts ss → table_of (items_of (with_code cs c)) firsts (ss ++ next_part cs grouped ∷ []) ≡ with_second (table_of (items_of cs) firsts ss) (cond grouped (group (kept_entry c ∷ [])) (single (kept_entry c)))
 second_view cs firsts ss c grouped t =
     let f : Follow firsts ss (length (items_of cs)) = subst (Follow firsts ss) (sym (count_items cs)) t.follow in
-    rw (items_more cs c) (second_table (items_of cs) c.production firsts ss (next_part cs grouped) (cond grouped (group (c.production ∷ [])) (single c.production)) f (next_second cs c.production grouped))
+    rw (items_more cs c) (second_table (items_of cs) (kept_entry c) firsts ss (next_part cs grouped) (cond grouped (group (kept_entry c ∷ [])) (single (kept_entry c))) f (next_second cs (kept_entry c) grouped))
 
-second_codes : (grouped : Bool) (first second : ℕ) (x : Production) → coded_second (first ∷ []) second (cond grouped (group (x ∷ [])) (single x)) ≡ record { parts = cond grouped (first ∷ second ∷ 0 ∷ []) (first ∷ second ∷ []); item = x } ∷ []
+second_codes : (grouped : Bool) (first second : ℕ) (x : Entry) → coded_second (first ∷ []) second (cond grouped (group (x ∷ [])) (single x)) ≡ record { parts = cond grouped (first ∷ second ∷ 0 ∷ []) (first ∷ second ∷ []); item = x } ∷ []
 second_codes true first second x = refl
 second_codes false first second x = refl
 
-pub second_keeps : (cs : List Kept) (firsts : ℕ) (ss : List SecondPart) (c : Kept) (grouped : Bool) → IsTable cs firsts ss → size (table_of (items_of cs) firsts ss) < 2 ^ 31 → parts_of c.code ≡ cond grouped (firsts ∷ length ss ∷ 0 ∷ []) (firsts ∷ length ss ∷ []) → IsTable (with_code cs c) firsts (ss ++ next_part cs grouped ∷ [])
+pub second_keeps : (cs : List Kept) (firsts : ℕ) (ss : List SecondPart) (c : Kept) (grouped : Bool) → IsTable cs firsts ss → size (table_of (items_of cs) firsts ss) < most_productions → parts_of c.code ≡ cond grouped (firsts ∷ length ss ∷ 0 ∷ []) (firsts ∷ length ss ∷ []) → IsTable (with_code cs c) firsts (ss ++ next_part cs grouped ∷ [])
 second_keeps cs firsts ss c grouped t room parts =
     let n = count_firsts cs firsts ss (length cs) t.follow (omega arith) in
     let m : length (map (second_of (items_of cs)) ss) ≡ length ss = length-map ss (second_of (items_of cs)) in
@@ -225,11 +228,11 @@ second_keeps cs firsts ss c grouped t room parts =
       codes = coded_more cs c (cond grouped (firsts ∷ length ss ∷ 0 ∷ []) (firsts ∷ length ss ∷ [])) (coded (table_of (items_of cs) firsts ss)) (coded (table_of (items_of (with_code cs c)) firsts (ss ++ next_part cs grouped ∷ [])))
           t.codes parts
           (ap coded (second_view cs firsts ss c grouped t)
-          ∙ second_coded (table_of (items_of cs) firsts ss) (cond grouped (group (c.production ∷ [])) (single c.production))
-          ∙ ap (λ (z : List (Coded Production)). coded (table_of (items_of cs) firsts ss) ++ z)
-          (ap (λ (k : ℕ). coded_second (k ∷ []) (length (map (second_of (items_of cs)) ss)) (cond grouped (group (c.production ∷ [])) (single c.production))) n
-          ∙ ap (λ (k : ℕ). coded_second (firsts ∷ []) k (cond grouped (group (c.production ∷ [])) (single c.production))) m
-          ∙ second_codes grouped firsts (length ss) c.production));
+          ∙ second_coded (table_of (items_of cs) firsts ss) (cond grouped (group (kept_entry c ∷ [])) (single (kept_entry c)))
+          ∙ ap (λ (z : List (Coded Entry)). coded (table_of (items_of cs) firsts ss) ++ z)
+          (ap (λ (k : ℕ). coded_second (k ∷ []) (length (map (second_of (items_of cs)) ss)) (cond grouped (group (kept_entry c ∷ [])) (single (kept_entry c)))) n
+          ∙ ap (λ (k : ℕ). coded_second (firsts ∷ []) k (cond grouped (group (kept_entry c ∷ [])) (single (kept_entry c)))) m
+          ∙ second_codes grouped firsts (length ss) (kept_entry c)));
     }
 
 -- one more member of the last group
@@ -258,32 +261,32 @@ last_is_group cs firsts ss s t e =
     let l = follow_last firsts ss s (length cs) t.follow in
     record { grouped = last_group (items_of cs) ss s l.1 (omega (arith, l.3, count_items cs)) e; before = l.0; few = l.1; end = l.3 }
 
-pub member_view : (cs : List Kept) (firsts : ℕ) (ss : List SecondPart) (s : SecondPart) (c : Kept) → IsTable cs firsts (ss ++ s ∷ []) → Last cs firsts ss s → table_of (items_of (with_code cs c)) firsts (ss ++ grown s ∷ []) ≡ with_member (table_of (items_of cs) firsts (ss ++ s ∷ [])) c.production
+pub member_view : (cs : List Kept) (firsts : ℕ) (ss : List SecondPart) (s : SecondPart) (c : Kept) → IsTable cs firsts (ss ++ s ∷ []) → Last cs firsts ss s → table_of (items_of (with_code cs c)) firsts (ss ++ grown s ∷ []) ≡ with_member (table_of (items_of cs) firsts (ss ++ s ∷ [])) (kept_entry c)
 member_view cs firsts ss s c t l =
     let f : Follow firsts (ss ++ s ∷ []) (length (items_of cs)) = subst (Follow firsts (ss ++ s ∷ [])) (sym (count_items cs)) t.follow in
-    rw (items_more cs c) (member_table (items_of cs) c.production firsts ss s f l.grouped)
-    ∙ ap (λ (z : List (Second Production)). record { firsts = take firsts (items_of cs); seconds = z }) (sym (last_is (map (second_of (items_of cs)) ss) (slice (items_of cs) s) c.production))
-    ∙ ap (λ (z : Productions Production). with_member z c.production) (sym (grouped_table (items_of cs) firsts ss s l.grouped))
+    rw (items_more cs c) (member_table (items_of cs) (kept_entry c) firsts ss s f l.grouped)
+    ∙ ap (λ (z : List (Second Entry)). record { firsts = take firsts (items_of cs); seconds = z }) (sym (last_is (map (second_of (items_of cs)) ss) (slice (items_of cs) s) (kept_entry c)))
+    ∙ ap (λ (z : Productions Entry). with_member z (kept_entry c)) (sym (grouped_table (items_of cs) firsts ss s l.grouped))
 
-pub member_keeps : (cs : List Kept) (firsts : ℕ) (ss : List SecondPart) (s : SecondPart) (c : Kept) → IsTable cs firsts (ss ++ s ∷ []) → Last cs firsts ss s → size (table_of (items_of cs) firsts (ss ++ s ∷ [])) < 2 ^ 31 → parts_of c.code ≡ firsts ∷ length ss ∷ s.count ∷ [] → IsTable (with_code cs c) firsts (ss ++ grown s ∷ [])
+pub member_keeps : (cs : List Kept) (firsts : ℕ) (ss : List SecondPart) (s : SecondPart) (c : Kept) → IsTable cs firsts (ss ++ s ∷ []) → Last cs firsts ss s → size (table_of (items_of cs) firsts (ss ++ s ∷ [])) < most_productions → parts_of c.code ≡ firsts ∷ length ss ∷ s.count ∷ [] → IsTable (with_code cs c) firsts (ss ++ grown s ∷ [])
 member_keeps cs firsts ss s c t l room parts =
     let n = count_firsts cs firsts ss s.begin l.before (omega (arith, l.end)) in
     let m : length (map (second_of (items_of cs)) ss) ≡ length ss = length-map ss (second_of (items_of cs)) in
     let k : length (slice (items_of cs) s) ≡ s.count = omega (arith, length-take s.count (drop s.begin (items_of cs)), length-drop s.begin (items_of cs), l.end, count_items cs) in
     let f : Follow firsts (ss ++ s ∷ []) (length (items_of cs)) = subst (Follow firsts (ss ++ s ∷ [])) (sym (count_items cs)) t.follow in
     let e : s.begin + (s.count + 1) ≡ length (with_code cs c) = omega (arith, l.end, length-append cs (c ∷ [])) in
-    let old : List (Coded Production) = coded (table_of (items_of cs) firsts (ss ++ s ∷ [])) in
+    let old : List (Coded Entry) = coded (table_of (items_of cs) firsts (ss ++ s ∷ [])) in
     record {
       small = omega (arith, size_is cs firsts (ss ++ s ∷ []) t, length-append cs (c ∷ []));
       follow = subst (Follow firsts (ss ++ grown s ∷ [])) e (follow_push firsts ss s.begin (grown s) l.before refl (omega arith) (λ b. absurd (apart s.group l.grouped b)));
       codes = coded_more cs c (firsts ∷ length ss ∷ s.count ∷ []) old (coded (table_of (items_of (with_code cs c)) firsts (ss ++ grown s ∷ [])))
           t.codes parts
-          (rw (items_more cs c) (ap coded (member_table (items_of cs) c.production firsts ss s f l.grouped))
-          ∙ member_coded (take firsts (items_of cs)) (map (second_of (items_of cs)) ss) (slice (items_of cs) s) c.production
-          ∙ ap (λ (z : Productions Production). coded z ++ record { parts = length (take firsts (items_of cs)) ∷ length (map (second_of (items_of cs)) ss) ∷ length (slice (items_of cs) s) ∷ []; item = c.production } ∷ []) (sym (grouped_table (items_of cs) firsts ss s l.grouped))
-          ∙ ap (λ (i : ℕ). old ++ record { parts = i ∷ length (map (second_of (items_of cs)) ss) ∷ length (slice (items_of cs) s) ∷ []; item = c.production } ∷ []) n
-          ∙ ap (λ (i : ℕ). old ++ record { parts = firsts ∷ i ∷ length (slice (items_of cs) s) ∷ []; item = c.production } ∷ []) m
-          ∙ ap (λ (i : ℕ). old ++ record { parts = firsts ∷ length ss ∷ i ∷ []; item = c.production } ∷ []) k);
+          (rw (items_more cs c) (ap coded (member_table (items_of cs) (kept_entry c) firsts ss s f l.grouped))
+          ∙ member_coded (take firsts (items_of cs)) (map (second_of (items_of cs)) ss) (slice (items_of cs) s) (kept_entry c)
+          ∙ ap (λ (z : Productions Entry). coded z ++ record { parts = length (take firsts (items_of cs)) ∷ length (map (second_of (items_of cs)) ss) ∷ length (slice (items_of cs) s) ∷ []; item = (kept_entry c) } ∷ []) (sym (grouped_table (items_of cs) firsts ss s l.grouped))
+          ∙ ap (λ (i : ℕ). old ++ record { parts = i ∷ length (map (second_of (items_of cs)) ss) ∷ length (slice (items_of cs) s) ∷ []; item = (kept_entry c) } ∷ []) n
+          ∙ ap (λ (i : ℕ). old ++ record { parts = firsts ∷ i ∷ length (slice (items_of cs) s) ∷ []; item = (kept_entry c) } ∷ []) m
+          ∙ ap (λ (i : ℕ). old ++ record { parts = firsts ∷ length ss ∷ i ∷ []; item = (kept_entry c) } ∷ []) k);
     }
   where
     apart : (b : Bool) → b ≡ true → b ≡ false → ⊥
@@ -291,54 +294,63 @@ member_keeps cs firsts ss s c t l room parts =
     apart false e f = cc
 
 -- ---- the same, in the words of the code
-abbrev kept : ℕ → Option ℕ → Option ℕ → Production → Kept
-kept first second third production = record { code = record { first = first; second = second; third = third }; production = production }
+abbrev kept : Code → Production → Named → Kept
+kept code production named = record { code = code; production = production; named = named }
 
-pub first_added : (cs new : List Kept) (firsts : ℕ) (ss : List SecondPart) (x : Production) (p : Productions Production) → IsTable cs firsts ss → table_of (items_of cs) firsts ss ≡ p → p.seconds ≡ [] → size p < 2 ^ 31 → new ≡ cs ++ kept firsts None None x ∷ []
-    → IsTable new (firsts + 1) ss × (table_of (items_of new) (firsts + 1) ss ≡ with_first p x)
-first_added cs new firsts ss x p t v none room e =
-    let w = ap (λ (p : Productions Production). p.seconds) v ∙ none in
-    let r : size (table_of (items_of cs) firsts ss) < 2 ^ 31 = subst (λ (p : Productions Production). size p < 2 ^ 31) (sym v) room in (
-      subst (λ (cs : List Kept). IsTable cs (firsts + 1) ss) (sym e) (first_keeps cs firsts ss (kept firsts None None x) t w r refl),
-      ap (λ (cs : List Kept). table_of (items_of cs) (firsts + 1) ss) e ∙ first_view cs firsts ss (kept firsts None None x) t w ∙ ap (λ (p : Productions Production). with_first p x) v,
+pub first_added : (cs new : List Kept) (firsts : ℕ) (ss : List SecondPart) (x : Production) (named : Named) (p : Productions Entry) → IsTable cs firsts ss → table_of (items_of cs) firsts ss ≡ p → p.seconds ≡ [] → size p < most_productions → new ≡ cs ++ kept (code.One firsts) x named ∷ []
+    → IsTable new (firsts + 1) ss × (table_of (items_of new) (firsts + 1) ss ≡ with_first p (entry x named))
+first_added cs new firsts ss x named p t v none room e =
+    let w = ap (λ (p : Productions Entry). p.seconds) v ∙ none in
+    let r : size (table_of (items_of cs) firsts ss) < most_productions = subst (λ (p : Productions Entry). size p < most_productions) (sym v) room in (
+      subst (λ (cs : List Kept). IsTable cs (firsts + 1) ss) (sym e) (first_keeps cs firsts ss (kept (code.One firsts) x named) t w r refl),
+      ap (λ (cs : List Kept). table_of (items_of cs) (firsts + 1) ss) e ∙ first_view cs firsts ss (kept (code.One firsts) x named) t w ∙ ap (λ (p : Productions Entry). with_first p (entry x named)) v,
     )
 
-pub second_added : (cs new : List Kept) (firsts : ℕ) (ss mid news : List SecondPart) (begin second : ℕ) (third : Option ℕ) (grouped : Bool) (x : Production) (p : Productions Production) → IsTable cs firsts ss → table_of (items_of cs) firsts ss ≡ p → size p < 2 ^ 31
-    → new ≡ cs ++ kept firsts (Some second) third x ∷ [] → begin ≡ length cs → second ≡ length ss → mid ≡ ss → news ≡ mid ++ record { begin = begin; count = 1; group = grouped } ∷ []
-    → parts_of (kept firsts (Some (length ss)) third x).code ≡ cond grouped (firsts ∷ length ss ∷ 0 ∷ []) (firsts ∷ length ss ∷ [])
-    → IsTable new firsts news × (table_of (items_of new) firsts news ≡ with_second p (cond grouped (group (x ∷ [])) (single x)))
-second_added cs new firsts ss mid news begin second third grouped x p t v room e b n m s parts =
-    let r : size (table_of (items_of cs) firsts ss) < 2 ^ 31 = subst (λ (p : Productions Production). size p < 2 ^ 31) (sym v) room in
-    let e' : new ≡ with_code cs (kept firsts (Some (length ss)) third x) = e ∙ ap (λ (k : ℕ). cs ++ kept firsts (Some k) third x ∷ []) n in
+-- the code of the first production of the next second part
+abbrev code_of : ℕ → Bool → ℕ → Code
+code_of first true second = code.Three first second 0
+code_of first false second = code.Two first second
+
+code_parts : (first : ℕ) (grouped : Bool) (second : ℕ) → parts_of (code_of first grouped second) ≡ cond grouped (first ∷ second ∷ 0 ∷ []) (first ∷ second ∷ [])
+code_parts first true second = refl
+code_parts first false second = refl
+
+pub second_added : (cs new : List Kept) (firsts : ℕ) (ss mid news : List SecondPart) (begin second : ℕ) (grouped : Bool) (x : Production) (named : Named) (p : Productions Entry) → IsTable cs firsts ss → table_of (items_of cs) firsts ss ≡ p → size p < most_productions
+    → new ≡ cs ++ kept (code_of firsts grouped second) x named ∷ [] → begin ≡ length cs → second ≡ length ss → mid ≡ ss → news ≡ mid ++ record { begin = begin; count = 1; group = grouped } ∷ []
+    → IsTable new firsts news × (table_of (items_of new) firsts news ≡ with_second p (cond grouped (group (entry x named ∷ [])) (single (entry x named))))
+second_added cs new firsts ss mid news begin second grouped x named p t v room e b n m s =
+    let r : size (table_of (items_of cs) firsts ss) < most_productions = subst (λ (p : Productions Entry). size p < most_productions) (sym v) room in
+    let c : Kept = kept (code_of firsts grouped (length ss)) x named in
+    let e' : new ≡ with_code cs c = e ∙ ap (λ (k : ℕ). cs ++ kept (code_of firsts grouped k) x named ∷ []) n in
     let s' : news ≡ ss ++ next_part cs grouped ∷ [] = s ∙ ap (λ (z : List SecondPart). z ++ record { begin = begin; count = 1; group = grouped } ∷ []) m ∙ ap (λ (k : ℕ). ss ++ record { begin = k; count = 1; group = grouped } ∷ []) b in (
-      subst (λ (cs : List Kept). IsTable cs firsts news) (sym e') (subst (λ (z : List SecondPart). IsTable (with_code cs (kept firsts (Some (length ss)) third x)) firsts z) (sym s') (second_keeps cs firsts ss (kept firsts (Some (length ss)) third x) grouped t r parts)),
-      ap (λ (cs : List Kept). table_of (items_of cs) firsts news) e' ∙ ap (λ (z : List SecondPart). table_of (items_of (with_code cs (kept firsts (Some (length ss)) third x))) firsts z) s' ∙ second_view cs firsts ss (kept firsts (Some (length ss)) third x) grouped t ∙ ap (λ (p : Productions Production). with_second p (cond grouped (group (x ∷ [])) (single x))) v,
+      subst (λ (cs : List Kept). IsTable cs firsts news) (sym e') (subst (λ (z : List SecondPart). IsTable (with_code cs c) firsts z) (sym s') (second_keeps cs firsts ss c grouped t r (code_parts firsts grouped (length ss)))),
+      ap (λ (cs : List Kept). table_of (items_of cs) firsts news) e' ∙ ap (λ (z : List SecondPart). table_of (items_of (with_code cs c)) firsts z) s' ∙ second_view cs firsts ss c grouped t ∙ ap (λ (p : Productions Entry). with_second p (cond grouped (group (entry x named ∷ [])) (single (entry x named)))) v,
     )
 
 -- the last second part, taken off
-pub last_taken : (cs : List Kept) (firsts : ℕ) (ss mid : List SecondPart) (s : SecondPart) (p : Productions Production) → IsTable cs firsts ss → table_of (items_of cs) firsts ss ≡ p → ends_in_group p.seconds ≡ true → ss ≡ mid ++ s ∷ [] → IsTable cs firsts (mid ++ s ∷ []) × Last cs firsts mid s
+pub last_taken : (cs : List Kept) (firsts : ℕ) (ss mid : List SecondPart) (s : SecondPart) (p : Productions Entry) → IsTable cs firsts ss → table_of (items_of cs) firsts ss ≡ p → ends_in_group p.seconds ≡ true → ss ≡ mid ++ s ∷ [] → IsTable cs firsts (mid ++ s ∷ []) × Last cs firsts mid s
 last_taken cs firsts ss mid s p t v g e =
     let t' = subst (IsTable cs firsts) e t in
-    let g' : ends_in_group (map (second_of (items_of cs)) (mid ++ s ∷ [])) ≡ true = ap (λ (z : List SecondPart). ends_in_group (map (second_of (items_of cs)) z)) (sym e) ∙ ap (λ (p : Productions Production). ends_in_group p.seconds) v ∙ g in
+    let g' : ends_in_group (map (second_of (items_of cs)) (mid ++ s ∷ [])) ≡ true = ap (λ (z : List SecondPart). ends_in_group (map (second_of (items_of cs)) z)) (sym e) ∙ ap (λ (p : Productions Entry). ends_in_group p.seconds) v ∙ g in
     (t', last_is_group cs firsts mid s t' g')
 
-pub member_added : (cs same new : List Kept) (firsts : ℕ) (ss mid news : List SecondPart) (s : SecondPart) (second : ℕ) (x : Production) (p : Productions Production) → IsTable cs firsts ss → table_of (items_of cs) firsts ss ≡ p → ends_in_group p.seconds ≡ true → size p < 2 ^ 31 → ss ≡ mid ++ s ∷ []
-    → same ≡ cs → new ≡ same ++ kept firsts (Some second) (Some s.count) x ∷ [] → second ≡ length mid → news ≡ mid ++ grown s ∷ []
-    → IsTable new firsts news × (table_of (items_of new) firsts news ≡ with_member p x)
-member_added cs same new firsts ss mid news s second x p t v g room z q e n f =
+pub member_added : (cs same new : List Kept) (firsts : ℕ) (ss mid news : List SecondPart) (s : SecondPart) (second : ℕ) (x : Production) (named : Named) (p : Productions Entry) → IsTable cs firsts ss → table_of (items_of cs) firsts ss ≡ p → ends_in_group p.seconds ≡ true → size p < most_productions → ss ≡ mid ++ s ∷ []
+    → same ≡ cs → new ≡ same ++ kept (code.Three firsts second s.count) x named ∷ [] → second ≡ length mid → news ≡ mid ++ grown s ∷ []
+    → IsTable new firsts news × (table_of (items_of new) firsts news ≡ with_member p (entry x named))
+member_added cs same new firsts ss mid news s second x named p t v g room z q e n f =
     let k = last_taken cs firsts ss mid s p t v g z in
     let v' : table_of (items_of cs) firsts (mid ++ s ∷ []) ≡ p = ap (table_of (items_of cs) firsts) (sym z) ∙ v in
-    let r : size (table_of (items_of cs) firsts (mid ++ s ∷ [])) < 2 ^ 31 = subst (λ (p : Productions Production). size p < 2 ^ 31) (sym v') room in
-    let e' : new ≡ with_code cs (kept firsts (Some (length mid)) (Some s.count) x) = e ∙ ap (λ (z : List Kept). z ++ kept firsts (Some second) (Some s.count) x ∷ []) q ∙ ap (λ (k : ℕ). cs ++ kept firsts (Some k) (Some s.count) x ∷ []) n in (
-      subst (λ (cs : List Kept). IsTable cs firsts news) (sym e') (subst (λ (z : List SecondPart). IsTable (with_code cs (kept firsts (Some (length mid)) (Some s.count) x)) firsts z) (sym f) (member_keeps cs firsts mid s (kept firsts (Some (length mid)) (Some s.count) x) k.0 k.1 r refl)),
-      ap (λ (cs : List Kept). table_of (items_of cs) firsts news) e' ∙ ap (λ (z : List SecondPart). table_of (items_of (with_code cs (kept firsts (Some (length mid)) (Some s.count) x))) firsts z) f ∙ member_view cs firsts mid s (kept firsts (Some (length mid)) (Some s.count) x) k.0 k.1 ∙ ap (λ (p : Productions Production). with_member p x) v',
+    let r : size (table_of (items_of cs) firsts (mid ++ s ∷ [])) < most_productions = subst (λ (p : Productions Entry). size p < most_productions) (sym v') room in
+    let e' : new ≡ with_code cs (kept (code.Three firsts (length mid) s.count) x named) = e ∙ ap (λ (z : List Kept). z ++ kept (code.Three firsts second s.count) x named ∷ []) q ∙ ap (λ (k : ℕ). cs ++ kept (code.Three firsts k s.count) x named ∷ []) n in (
+      subst (λ (cs : List Kept). IsTable cs firsts news) (sym e') (subst (λ (z : List SecondPart). IsTable (with_code cs (kept (code.Three firsts (length mid) s.count) x named)) firsts z) (sym f) (member_keeps cs firsts mid s (kept (code.Three firsts (length mid) s.count) x named) k.0 k.1 r refl)),
+      ap (λ (cs : List Kept). table_of (items_of cs) firsts news) e' ∙ ap (λ (z : List SecondPart). table_of (items_of (with_code cs (kept (code.Three firsts (length mid) s.count) x named))) firsts z) f ∙ member_view cs firsts mid s (kept (code.Three firsts (length mid) s.count) x named) k.0 k.1 ∙ ap (λ (p : Productions Entry). with_member p (entry x named)) v',
     )
 
 -- how many second parts there are, and how many productions the last tells
-pub seconds_few : (cs : List Kept) (firsts : ℕ) (ss : List SecondPart) → IsTable cs firsts ss → length ss ≤ 2 ^ 31
+pub seconds_few : (cs : List Kept) (firsts : ℕ) (ss : List SecondPart) → IsTable cs firsts ss → length ss ≤ most_productions
 seconds_few cs firsts ss t = omega (arith, follow_within firsts ss (length cs) t.follow, t.small)
 
-pub firsts_few : (cs : List Kept) (firsts : ℕ) (ss : List SecondPart) → IsTable cs firsts ss → firsts ≤ 2 ^ 31
+pub firsts_few : (cs : List Kept) (firsts : ℕ) (ss : List SecondPart) → IsTable cs firsts ss → firsts ≤ most_productions
 firsts_few cs firsts ss t = omega (arith, follow_within firsts ss (length cs) t.follow, t.small)
 
 -- ---- what is kept, as places

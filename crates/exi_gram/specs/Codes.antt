@@ -1,4 +1,4 @@
--- Event codes (W3C EXI 1.0, section 6.2). In each state of a grammar the productions are told apart by codes
+-- Event codes (EXI 1.0, section 6.2). In each state of a grammar the productions are told apart by codes
 -- of one to three parts. The productions with codes of one part come first, 0, 1 and so on; the next number is
 -- the first part of all longer codes. Of these the second parts are 0, 1 and so on, and each tells one production
 -- or a group; the members of a group are told apart by a third part.

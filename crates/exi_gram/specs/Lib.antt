@@ -1,9 +1,10 @@
 pub mod Books
 pub mod Codes
-pub mod Document
+pub mod Naming
 pub mod Laws
 pub mod Outlines
 pub mod Schemas
 pub mod Switches
 pub mod Tables
 pub mod Terminals
+pub mod Wholes

@@ -1,4 +1,4 @@
--- The options of a stream (W3C EXI 1.0, section 5.4) as what they switch on.
+-- The options of a stream (EXI 1.0, section 5.4) as what they switch on.
 use Rattle.std.specs.Prelude.{ℕ, Bool, ◌==◌, ◌&&◌, ◌||◌, None, if◌then◌else◌}
 use Rattle.std.specs.Int.RustNames.{bit_and}
 use Rattle.exi_bits.specs.declared.align.Align.{Align}

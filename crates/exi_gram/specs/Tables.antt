@@ -1,33 +1,33 @@
 -- The codes of a state as they are kept: the productions in the order of their codes, how many have codes of one
 -- part, and for each second part where its productions begin and how many they are.
-use Rattle.std.specs.Prelude.{◌≡◌, ℕ, zero, suc, ◌+◌, ◌<◌, ◌≤◌, ◌^◌, Bool, true, false, Option, None, Some, List, [], ◌∷◌, ◌++◌, length, map, take, drop, get_or, if◌then◌else◌}
+use Rattle.std.specs.Prelude.{◌≡◌, ℕ, zero, suc, ◌+◌, ◌-◌, ◌<◌, ◌≤◌, ◌^◌, Bool, true, false, Option, None, Some, List, [], ◌∷◌, ◌++◌, length, map, take, drop, get_or, if◌then◌else◌}
 use Rattle.exi_bits.specs.declared.align.Align.{Align}
 use Rattle.exi_bits.specs.Bits.{number}
 use Rattle.exi_bits.specs.Widths.{width_for}
 use Rattle.exi_gram.specs.declared.code.Code.{Code}
+use Rattle.exi_gram.specs.declared.code.Code.TheVariants as code
 use Rattle.exi_gram.specs.declared.code.Coded.{Coded as Kept}
-use Rattle.exi_gram.specs.declared.grammar.Production.{Production}
 use Rattle.exi_gram.specs.declared.second.SecondPart.{SecondPart}
 use Rattle.exi_gram.specs.Codes.{Coded, Productions, Second, coded, group, single}
+use Rattle.exi_gram.specs.Naming.{Entry}
+use Rattle.exi_gram.specs.Terminals.{rule}
 
 -- ---- a code and its parts
-abbrev parts_behind : Option ℕ → List ℕ
-parts_behind None = []
-parts_behind (Some part) = part ∷ []
-
-abbrev longer_parts : Option ℕ → Option ℕ → List ℕ
-longer_parts None third = []
-longer_parts (Some second) third = second ∷ parts_behind third
-
 abbrev pub parts_of : Code → List ℕ
-parts_of code = code.first ∷ longer_parts code.second code.third
+parts_of (code.One first) = first ∷ []
+parts_of (code.Two first second) = first ∷ second ∷ []
+parts_of (code.Three first second third) = first ∷ second ∷ third ∷ []
+
+-- the production that is kept with a code, and with the places of what it names
+abbrev pub kept_entry : Kept → Entry
+kept_entry c = record { rule = rule c.production; named = c.named }
 
 -- a production with its code, part by part
-abbrev pub coded_of : Kept → Coded Production
-coded_of c = record { parts = parts_of c.code; item = c.production }
+abbrev pub coded_of : Kept → Coded Entry
+coded_of c = record { parts = parts_of c.code; item = kept_entry c }
 
-abbrev pub items_of : List Kept → List Production
-items_of cs = map (λ c. c.production) cs
+abbrev pub items_of : List Kept → List Entry
+items_of cs = map kept_entry cs
 
 -- ---- the productions that are kept
 abbrev pub as_single : {X : Type 0} → List X → Second X
@@ -49,9 +49,13 @@ abbrev pub Follow : ℕ → List SecondPart → ℕ → Type 0
 Follow place [] end = place ≡ end
 Follow place (s ∷ ss) end = (s.begin ≡ place) × (1 ≤ s.count) × (s.group ≡ false → s.count ≡ 1) × Follow (place + s.count) ss end
 
+-- how many productions a state can have: one number of 32 bits is left for the first part of longer codes
+abbrev pub most_productions : ℕ
+most_productions = 2 ^ 32 - 2
+
 -- what holds of the codes that are kept
 pub record IsTable (cs : List Kept) (firsts : ℕ) (seconds : List SecondPart) : Type 0 where
-  pub small : length cs ≤ 2 ^ 31
+  pub small : length cs ≤ most_productions
   pub follow : Follow firsts seconds (length cs)
   pub codes : map coded_of cs ≡ coded (table_of (items_of cs) firsts seconds)
 
@@ -121,26 +125,14 @@ first_count firsts (s ∷ ss) = firsts + 1
 abbrev pub count_at : List SecondPart → ℕ → ℕ
 count_at ss second = (get_or ss second (record { begin = 0; count = 0; group = false })).count
 
-abbrev pub third_bits : Align → ℕ → Option ℕ → List Bool
-third_bits a count None = []
-third_bits a count (Some third) = number (width_for count) a third
-
-abbrev pub second_bits : Align → List SecondPart → Option ℕ → Option ℕ → List Bool
-second_bits a ss None third = []
-second_bits a ss (Some second) third = number (width_for (length ss)) a second ++ third_bits a (count_at ss second) third
-
 abbrev pub kept_bits : Align → ℕ → List SecondPart → Code → List Bool
-kept_bits a firsts ss code = number (width_for (first_count firsts ss)) a code.first ++ second_bits a ss code.second code.third
+kept_bits a firsts ss (code.One first) = number (width_for (first_count firsts ss)) a first
+kept_bits a firsts ss (code.Two first second) = number (width_for (first_count firsts ss)) a first ++ number (width_for (length ss)) a second
+kept_bits a firsts ss (code.Three first second third) =
+    number (width_for (first_count firsts ss)) a first ++ (number (width_for (length ss)) a second ++ number (width_for (count_at ss second)) a third)
 
 -- the parts of the code are among the values that they can have
-abbrev pub ThirdFits : ℕ → Option ℕ → Type 0
-ThirdFits count None = Unit {0}
-ThirdFits count (Some third) = third < count
-
-abbrev pub SecondFits : List SecondPart → Option ℕ → Option ℕ → Type 0
-SecondFits ss None third = Unit {0}
-SecondFits ss (Some second) third = (second < length ss) × ThirdFits (count_at ss second) third
-
-pub record CodeFits (firsts : ℕ) (ss : List SecondPart) (code : Code) : Type 0 where
-  pub first : code.first < first_count firsts ss
-  pub longer : SecondFits ss code.second code.third
+abbrev pub CodeFits : ℕ → List SecondPart → Code → Type 0
+CodeFits firsts ss (code.One first) = first < first_count firsts ss
+CodeFits firsts ss (code.Two first second) = (first < first_count firsts ss) × (second < length ss)
+CodeFits firsts ss (code.Three first second third) = (first < first_count firsts ss) × (second < length ss) × (third < count_at ss second)

@@ -1,11 +1,13 @@
--- What productions read, without where it lies in memory (W3C EXI 1.0, sections 8.4 and 8.5).
-use Rattle.std.specs.Prelude.{ℕ, List, Option, Bool, true}
+-- What productions read, without where it lies in memory (EXI 1.0, sections 8.4 and 8.5).
+use Rattle.std.specs.Prelude.{ℕ, List, Option, Some, None, Bool, true, map}
 use Rattle.exi_names.specs.Datatypes.{Representation, represented}
 use Rattle.exi_names.specs.declared.names.QName.{QName}
 use Rattle.exi_gram.specs.declared.options.Options.{Options}
 use Rattle.exi_gram.specs.declared.terminal.Terminal.{Terminal}
 use Rattle.exi_gram.specs.declared.terminal.Terminal.TheVariants as terminal
+use Rattle.exi_gram.specs.declared.grammar.Grammar.{Grammar}
 use Rattle.exi_gram.specs.declared.grammar.Production.{Production}
+use Rattle.exi_gram.specs.declared.grammar.Step.{Step}
 use Rattle.exi_gram.specs.Switches.{comments, dtd, prefixes, processing_instructions, self_contained}
 
 -- a terminal
@@ -70,12 +72,51 @@ pub record Rule : Type 0 where
 abbrev pub rule : Production → Rule
 rule p = record { on = symbol p.on; to = p.to; inner = p.inner }
 
+-- a grammar: the productions of its states, and the state in which the element's content begins
+pub record Rules : Type 0 where
+  pub states : List (List Rule)
+  pub content : ℕ
+
+-- the grammar that a `Grammar` is
+abbrev pub rules_of : Grammar → Rules
+rules_of g = record { states = map (map rule) g.states; content = g.content }
+
+-- what a step reads, if anything
+abbrev pub step_symbol : Option Terminal → Option Symbol
+step_symbol None = None
+step_symbol (Some on) = Some (symbol on)
+
+-- a step of a grammar that is not yet in normal form (section 8.5.4.1), and the place of its particle
+pub record StepRule : Type 0 where
+  pub on : Option Symbol
+  pub to : ℕ
+  pub inner : Option ℕ
+  pub particle : Option ℕ
+
+-- the step that a `Step` is
+abbrev pub step_rule : Step → StepRule
+step_rule s = record { on = step_symbol s.on; to = s.to; inner = s.inner; particle = s.particle }
+
 -- what the options leave (section 8.3): CM by comments, PI by pis, DT and ER by dtd, NS by prefixes, SC by selfContained
-abbrev pub is_left : Options → Terminal → Bool
-is_left o terminal.Ns = prefixes o
-is_left o terminal.Sc = self_contained o
-is_left o terminal.Er = dtd o
-is_left o terminal.Cm = comments o
-is_left o terminal.Pi = processing_instructions o
-is_left o terminal.Dt = dtd o
-is_left o other = true
+abbrev pub is_left : Options → Symbol → Bool
+is_left o sd = true
+is_left o ed = true
+is_left o (se name) = true
+is_left o (se_in uri) = true
+is_left o se_any = true
+is_left o (at name representation) = true
+is_left o (at_in uri) = true
+is_left o at_any = true
+is_left o (at_text name) = true
+is_left o at_any_text = true
+is_left o xsi_type = true
+is_left o xsi_nil = true
+is_left o (ch representation) = true
+is_left o ch_text = true
+is_left o ee = true
+is_left o ns = prefixes o
+is_left o sc = self_contained o
+is_left o er = dtd o
+is_left o cm = comments o
+is_left o pi = processing_instructions o
+is_left o dt = dtd o

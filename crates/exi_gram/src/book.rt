@@ -12,7 +12,7 @@ ghost use Rattle.exi_gram.specs.Tables.{parts_at, size};
 use crate::items::Items;
 use crate::options::Options;
 use crate::schema::Schema;
-use crate::table::CodeTable;
+use crate::state::CodedState;
 use exi_bits::{BitIn, BitOut, Fault};
 use std::alloc::AllocError;
 use std::marker::Model;
@@ -23,7 +23,7 @@ use std::marker::Model;
 pub struct Book {
     options: Options,
     schema: Schema,
-    states: Items<Items<CodeTable>>,
+    states: Items<Items<CodedState>>,
 }
 
 impl Model for Book {
@@ -31,10 +31,10 @@ impl Model for Book {
 
     ghost Value = { Contents };
 
-    ghost use Rattle.exi_names.specs.contracts.datatype.Datatype as datatype;
+    ghost use Rattle.exi_names.proofs.Codes.{representation_code};
     ghost use Rattle.std.specs.Coded.{codes};
 
-    ghost coded = { Prim.hlevel (codes, datatype.the_row.coded) };
+    ghost coded = { Prim.hlevel (codes, representation_code) };
 
     ghost view = { λ b. record { options = b.options; schema = b.schema; states = b.states } };
 
@@ -44,7 +44,7 @@ impl Model for Book {
 impl Book {
     /// The book of these options and this schema. The states have to be those of the schema's grammars
     /// under the options, and the options may not conflict.
-    pub fn of(options: Options, schema: Schema, states: Items<Items<CodeTable>>) -> Book
+    pub fn of(options: Options, schema: Schema, states: Items<Items<CodedState>>) -> Book
         requires book { IsBook (record { options = options; schema = schema; states = states }) }
         ensures { result ≡ record { options = options; schema = schema; states = states } }
     {
@@ -72,7 +72,7 @@ impl Book {
     }
 
     /// The states of all grammars, each with its productions and their codes.
-    pub fn states(&self) -> &[Items<CodeTable>]
+    pub fn states(&self) -> &[Items<CodedState>]
         ensures states { result.now ≡ self.now.states }
         ensures book { IsBook self.now }
     {
@@ -80,7 +80,7 @@ impl Book {
     }
 
     /// The productions of a state of a grammar, which has to exist, with their codes.
-    pub fn table(&self, grammar: u32, state: u32) -> &CodeTable
+    pub fn table(&self, grammar: u32, state: u32) -> &CodedState
         requires exists { IsStateOf self.now grammar state }
         ensures { result.now ≡ state_at self.now grammar state }
     {

@@ -1,21 +1,25 @@
 use crate::grammar::Production;
+use crate::named::Named;
 
-/// An event code of one to three parts (EXI 1.0, section 6.2).
+/// An event code of one to three parts (EXI 1.0, section 6.2). Codes with fewer parts come first, and
+/// among these the lesser code.
 #[derive(Clone, Copy, Debug, PartialEq, Eq)]
-pub struct Code {
-    /// The first part.
-    pub first: u32,
-    /// The second part, of a longer code.
-    pub second: Option<u32>,
-    /// The third part, behind a second part that tells a group.
-    pub third: Option<u32>,
+pub enum Code {
+    /// One part.
+    One(u32),
+    /// Two parts.
+    Two(u32, u32),
+    /// Three parts: the second tells a group.
+    Three(u32, u32, u32),
 }
 
-/// A production with its code.
+/// A production with its code, and with the places of what it names.
 #[derive(Debug, Drop)]
 pub struct Coded {
     /// The code.
     pub code: Code,
     /// The production.
     pub production: Production,
+    /// The least places, in the first string tables, of the name or URI of the production.
+    pub named: Named,
 }

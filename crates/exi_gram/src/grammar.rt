@@ -1,5 +1,5 @@
 ghost use Rattle.std.specs.Prelude.{◌≡◌, IfOk};
-ghost use Rattle.exi_gram.specs.Terminals.{rule};
+ghost use Rattle.exi_gram.specs.Terminals.{rule, step_rule};
 
 use crate::items::Items;
 use crate::terminal::Terminal;
@@ -35,6 +35,9 @@ pub struct Step {
     pub to: u32,
     /// The place of the grammar of the element that it opens, where that is known.
     pub inner: Option<u32>,
+    /// The place of its particle in the content model, where it reads an element of a name or of any name
+    /// of a URI: in this order such productions of a state have their codes (EXI 1.0, section 8.5.4.1.6).
+    pub particle: Option<u32>,
 }
 
 /// A grammar that is not yet in normal form (EXI 1.0, section 8.5.4.1).
@@ -59,6 +62,28 @@ impl Production {
             on: self.on.copy(alloc)?,
             to: self.to,
             inner: self.inner,
+        })
+    }
+}
+
+impl Step {
+    /// Another step that is equal to this one.
+    ///
+    /// # Errors
+    ///
+    /// `AllocError` where memory is refused.
+    pub fn copy(&self, alloc: Global) -> Result<Step, AllocError>
+        ensures { IfOk result (λ s. step_rule s ≡ step_rule self.now) }
+    {
+        let on = match &self.on {
+            None => None,
+            Some(on) => Some(on.copy(alloc)?),
+        };
+        Ok(Step {
+            on,
+            to: self.to,
+            inner: self.inner,
+            particle: self.particle,
         })
     }
 }

@@ -1,4 +1,4 @@
-ghost use Rattle.std.specs.Prelude.{◌≡◌, [], ◌∷◌, ◌++◌, OnOk, OnErr};
+ghost use Rattle.std.specs.Prelude.{◌≡◌, ◌+◌, ◌<◌, [], ◌∷◌, ◌++◌, OnOk, OnErr, length, take, drop};
 
 use std::alloc::{AllocError, Global};
 use std::marker::Model;
@@ -47,5 +47,21 @@ impl<T> Items<T> {
         ensures { result.now ≡ self.now }
     {
         self.items.as_slice()
+    }
+
+    /// The items, to change them.
+    pub fn as_mut_slice(&mut self) -> &mut [T]
+        ensures now { result.now ≡ self.old }
+    {
+        self.items.as_mut_slice()
+    }
+
+    /// Takes the item at a place, which has to exist, out of the list; those behind it move up.
+    pub fn remove(&mut self, place: usize) -> T
+        requires exists { place < length self.old }
+        ensures item { self.old ≡ take place self.old ++ result ∷ drop (place + 1) self.old }
+        ensures others { self.new ≡ take place self.old ++ drop (place + 1) self.old }
+    {
+        self.items.remove(place)
     }
 }

@@ -1,7 +1,7 @@
 //! What is spelled and what is read are the same. Each law is a function that does nothing: what it
 //! ensures is the law, for productions of any type.
 
-ghost use Rattle.exi_gram.specs.Document.{without_schema};
+ghost use Rattle.exi_gram.specs.Wholes.{without_schema};
 ghost use Rattle.exi_gram.specs.Schemas.{IsSchema};
 ghost use Rattle.exi_gram.specs.Laws.{CodeIsNoPrefix, CodeIsParts, CodeIsRead, CodeIsSpelled, MappedIsRead, PlacedIsNumbered, PrunedIsClosedUp};
 

@@ -17,7 +17,7 @@
 //! before it, so a part with one value takes none. What the options switch off is taken away first, and
 //! the codes close up (section 8.3).
 //!
-//! [`CodeTable`] holds the productions of one state by their codes, [`Schema`] the grammars, and [`Book`]
+//! [`CodedState`] holds the productions of one state by their codes, [`Schema`] the grammars, and [`Book`]
 //! both, for the options of one stream. [`read_code`] and [`write_code`] go by a book.
 #![tactic(auto)]
 
@@ -27,12 +27,13 @@ mod entry;
 mod grammar;
 mod items;
 pub mod laws;
+mod named;
 mod options;
 mod part;
 mod read;
 mod schema;
 mod second;
-mod table;
+mod state;
 mod terminal;
 #[cfg(test)]
 mod tests;
@@ -43,8 +44,9 @@ pub use code::{Code, Coded};
 pub use entry::{ElementEntry, TypeEntry};
 pub use grammar::{Grammar, Production, Proto, Step};
 pub use items::Items;
+pub use named::Named;
 pub use options::{OptionFlags, Options, SchemaWord};
 pub use part::read_part;
 pub use schema::Schema;
-pub use table::CodeTable;
+pub use state::CodedState;
 pub use terminal::Terminal;

@@ -1,9 +1,10 @@
-ghost use Rattle.std.specs.Prelude.{◌≡◌};
+ghost use Rattle.std.specs.Prelude.{◌≡◌, IfOk};
 ghost use Rattle.exi_gram.specs.Switches.{align_of, conflicts};
 
 use bitflags::{Flag, Flags, bitflag_items};
 use exi_bits::Align;
 use exi_names::Txt;
+use std::alloc::AllocError;
 
 /// Which options of the stream are on (EXI 1.0, section 5.4).
 #[derive(Clone, Copy, PartialEq, Eq, Debug)]
@@ -80,7 +81,41 @@ pub struct Options {
     pub capacity: Option<u128>,
 }
 
+impl SchemaWord {
+    /// Another that is equal to this one.
+    ///
+    /// # Errors
+    ///
+    /// `AllocError` where memory is refused.
+    pub fn copy(&self) -> Result<SchemaWord, AllocError>
+        ensures { IfOk result (λ w. w ≡ self.now) }
+    {
+        match self {
+            SchemaWord::Absent => Ok(SchemaWord::Absent),
+            SchemaWord::Nil => Ok(SchemaWord::Nil),
+            SchemaWord::Id(name) => Ok(SchemaWord::Id(name.copy()?)),
+        }
+    }
+}
+
 impl Options {
+    /// Others that are equal to these.
+    ///
+    /// # Errors
+    ///
+    /// `AllocError` where memory is refused.
+    pub fn copy(&self) -> Result<Options, AllocError>
+        ensures { IfOk result (λ o. o ≡ self.now) }
+    {
+        Ok(Options {
+            flags: self.flags,
+            schema: self.schema.copy()?,
+            block: self.block,
+            most: self.most,
+            capacity: self.capacity,
+        })
+    }
+
     /// How the numbers of the stream lie.
     pub fn align(&self) -> Align
         ensures { result ≡ align_of self.now }

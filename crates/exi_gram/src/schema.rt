@@ -1,5 +1,7 @@
-ghost use Rattle.std.specs.Prelude.{◌≡◌};
+ghost use Rattle.std.specs.Prelude.{◌≡◌, map};
+ghost use Rattle.exi_gram.specs.Outlines.{attribute_of};
 ghost use Rattle.exi_gram.specs.Schemas.{IsSchema};
+ghost use Rattle.exi_gram.specs.Terminals.{rules_of};
 
 use crate::entry::{ElementEntry, TypeEntry};
 use crate::grammar::Grammar;
@@ -18,30 +20,32 @@ pub struct Schema {
     known: bool,
     grammars: Items<Grammar>,
     globals: Items<ElementEntry>,
-    fragment: Items<(QName, Option<u32>)>,
+    fragment: Items<(QName, u32)>,
     attributes: Items<(QName, Datatype)>,
     types: Items<TypeEntry>,
     names: StartNames,
 }
 
 impl Model for Schema {
-    ghost use Rattle.exi_gram.specs.Outlines.{Outline};
+    ghost use Rattle.std.specs.Prelude.{map};
+    ghost use Rattle.exi_gram.specs.Outlines.{Outline, attribute_of};
     ghost use Rattle.exi_gram.specs.Schemas.{IsSchema};
+    ghost use Rattle.exi_gram.specs.Terminals.{rules_of};
 
     ghost Value = { Outline };
 
-    ghost use Rattle.exi_names.specs.contracts.datatype.Datatype as datatype;
+    ghost use Rattle.exi_names.proofs.Codes.{representation_code};
     ghost use Rattle.std.specs.Coded.{codes};
 
-    ghost coded = { Prim.hlevel (codes, datatype.the_row.coded) };
+    ghost coded = { Prim.hlevel (codes, representation_code) };
 
     ghost view = { λ s.
         record {
           known = s.known;
-          grammars = s.grammars;
+          grammars = map rules_of s.grammars;
           globals = s.globals;
           fragment = s.fragment;
-          attributes = s.attributes;
+          attributes = map attribute_of s.attributes;
           types = s.types;
           names = s.names;
         } };
@@ -50,10 +54,10 @@ impl Model for Schema {
         IsSchema
         (record {
           known = s.known;
-          grammars = s.grammars;
+          grammars = map rules_of s.grammars;
           globals = s.globals;
           fragment = s.fragment;
-          attributes = s.attributes;
+          attributes = map attribute_of s.attributes;
           types = s.types;
           names = s.names;
         }) };
@@ -62,13 +66,13 @@ impl Model for Schema {
 impl Schema {
     /// The schema of these grammars, names and places, which have to fit together as every schema's do.
     ///
-    /// `fragment` has the names that elements have anywhere, each with the grammar that opens it where
-    /// there is only one; `names` has the first string tables.
+    /// `fragment` has the names that elements have anywhere, each with the grammar that opens it; `names`
+    /// has the first string tables.
     pub fn of(
         known: bool,
         grammars: Items<Grammar>,
         globals: Items<ElementEntry>,
-        fragment: Items<(QName, Option<u32>)>,
+        fragment: Items<(QName, u32)>,
         attributes: Items<(QName, Datatype)>,
         types: Items<TypeEntry>,
         names: StartNames,
@@ -76,20 +80,20 @@ impl Schema {
         requires schema { IsSchema
             (record {
               known = known;
-              grammars = grammars;
+              grammars = map rules_of grammars;
               globals = globals;
               fragment = fragment;
-              attributes = attributes;
+              attributes = map attribute_of attributes;
               types = types;
               names = names;
             }) }
         ensures { result
             ≡ record {
               known = known;
-              grammars = grammars;
+              grammars = map rules_of grammars;
               globals = globals;
               fragment = fragment;
-              attributes = attributes;
+              attributes = map attribute_of attributes;
               types = types;
               names = names;
             } }
@@ -115,7 +119,7 @@ impl Schema {
 
     /// All grammars.
     pub fn grammars(&self) -> &[Grammar]
-        ensures grammars { result.now ≡ self.now.grammars }
+        ensures grammars { map rules_of result.now ≡ self.now.grammars }
         ensures schema { IsSchema self.now }
     {
         self.grammars.as_slice()
@@ -129,9 +133,8 @@ impl Schema {
         self.globals.as_slice()
     }
 
-    /// The names that elements have anywhere, each with the grammar that opens it where there is only
-    /// one.
-    pub fn fragment(&self) -> &[(QName, Option<u32>)]
+    /// The names that elements have anywhere, each with the grammar that opens it.
+    pub fn fragment(&self) -> &[(QName, u32)]
         ensures fragment { result.now ≡ self.now.fragment }
         ensures schema { IsSchema self.now }
     {
@@ -140,7 +143,7 @@ impl Schema {
 
     /// The global attributes, each with its datatype.
     pub fn attributes(&self) -> &[(QName, Datatype)]
-        ensures attributes { result.now ≡ self.now.attributes }
+        ensures attributes { map attribute_of result.now ≡ self.now.attributes }
         ensures schema { IsSchema self.now }
     {
         self.attributes.as_slice()

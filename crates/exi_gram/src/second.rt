@@ -1,5 +1,5 @@
-ghost use Rattle.std.specs.Prelude.{◌≡◌, ◌≤◌, ◌^◌};
-ghost use Rattle.exi_gram.specs.Tables.{first_count};
+ghost use Rattle.std.specs.Prelude.{◌≡◌, ◌≤◌};
+ghost use Rattle.exi_gram.specs.Tables.{first_count, most_productions};
 
 /// What a second part of a code tells.
 #[derive(Clone, Copy, Debug)]
@@ -14,7 +14,7 @@ pub struct SecondPart {
 
 /// How many values a first part has: one for each code of one part, and one for all longer codes.
 pub fn values_of_first(firsts: u32, seconds: &[SecondPart]) -> u32
-    requires few { firsts ≤ 2 ^ 31 }
+    requires few { firsts ≤ most_productions }
     ensures { result ≡ first_count firsts seconds.now }
 {
     if seconds.is_empty() {

@@ -1,8 +1,9 @@
 //! The grammars of schemas (EXI 1.0, sections 8.4 and 8.5); here where there is no schema.
 #![tactic(auto)]
 
-ghost use Rattle.std.specs.Prelude.{◌≡◌, None, IfOk};
-ghost use Rattle.exi_gram.specs.Document.{document_grammar, without_schema};
+ghost use Rattle.std.specs.Prelude.{◌≡◌, [], IfOk};
+ghost use Rattle.exi_gram.specs.Terminals.{rule, rules_of, symbol};
+ghost use Rattle.exi_gram.specs.Wholes.{document, plain, whole_grammar, without_schema};
 
 use exi_gram::{Grammar, Items, Production, Schema, Terminal};
 use exi_names::StartNames;
@@ -10,7 +11,7 @@ use std::alloc::{AllocError, Global};
 
 /// A production that opens no grammar of a schema.
 fn plain(on: Terminal, to: u32) -> Production
-    ensures { result ≡ record { on = on; to = to; inner = None } }
+    ensures { rule result ≡ plain (symbol on) to }
 {
     Production {
         on,
@@ -21,7 +22,7 @@ fn plain(on: Terminal, to: u32) -> Production
 
 /// The grammar of a document without a schema (EXI 1.0, section 8.4.1).
 fn document(alloc: Global) -> Result<Grammar, AllocError>
-    ensures { IfOk result (λ g. g ≡ document_grammar) }
+    ensures { IfOk result (λ g. rules_of g ≡ whole_grammar (document [])) }
 {
     let mut start = Items::new(alloc);
     start.push(plain(Terminal::Sd, 1))?;

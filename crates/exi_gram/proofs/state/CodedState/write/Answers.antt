@@ -2,7 +2,7 @@ use Rattle.std.proofs.Common.{◌≡◌, Bool, List, ◌++◌, OnErr, OnOk, subs
 use Rattle.exi_items.specs.Fronts.{HoldsFront}
 use Rattle.exi_gram.proofs.TableLists.{firsts_few, seconds_few}
 use Rattle.exi_gram.proofs.Writing.{view_told}
-use Rattle.exi_gram.proofs.table.CodeTable.write.Goals as goal
+use Rattle.exi_gram.proofs.state.CodedState.write.Goals as goal
 
 pub write_kept-requires-clause-few_firsts : goal.write_kept-requires-clause-few_firsts
 write_kept-requires-clause-few_firsts c = firsts_few _ _ _ c.self.invariant

@@ -1,14 +1,16 @@
-ghost use Rattle.std.specs.Prelude.{◌≡◌, ◌<◌, ◌≤◌, ◌^◌, ◌∷◌, ◌++◌, [], true, OnOk, OnErr, IfOk, map, length};
+ghost use Rattle.std.specs.Prelude.{◌≡◌, ◌<◌, ◌≤◌, ◌∷◌, ◌++◌, [], true, OnOk, OnErr, IfOk, map, length};
 ghost use Rattle.exi_bits.specs.Bits.{IsAligned};
 ghost use Rattle.exi_bits.specs.Unsigned.{Reads};
 ghost use Rattle.exi_bits.specs.Written.{IsWholeBytes};
 ghost use Rattle.exi_items.specs.Fronts.{HoldsFront};
 ghost use Rattle.exi_gram.specs.Codes.{code_at, code_bits, coded, group, single};
 ghost use Rattle.exi_gram.specs.Laws.{codes, placed};
-ghost use Rattle.exi_gram.specs.Tables.{parts_at, coded_of, ends_in_group, no_productions, size, with_first, with_member, with_second};
+ghost use Rattle.exi_gram.specs.Naming.{entry};
+ghost use Rattle.exi_gram.specs.Tables.{parts_at, coded_of, ends_in_group, most_productions, no_productions, size, with_first, with_member, with_second};
 
 use crate::code::{Code, Coded};
 use crate::grammar::Production;
+use crate::named::Named;
 use crate::read::read_first;
 use crate::second::SecondPart;
 use crate::write::write_kept;
@@ -19,22 +21,22 @@ use std::marker::Model;
 /// The productions of a state with their codes (EXI 1.0, section 6.2), in the order of the codes. Those
 /// with codes of one part come first; each second part tells one production or a group.
 #[derive(Debug, Drop)]
-pub struct CodeTable {
+pub struct CodedState {
     coded: Vec<Coded>,
     firsts: u32,
     seconds: Vec<SecondPart>,
 }
 
-impl Model for CodeTable {
-    ghost use Rattle.exi_gram.specs.declared.grammar.Production.{Production};
+impl Model for CodedState {
     ghost use Rattle.exi_gram.specs.Codes.{Productions};
+    ghost use Rattle.exi_gram.specs.Naming.{Entry};
 
-    ghost Value = { Productions Production };
+    ghost Value = { Productions Entry };
 
-    ghost use Rattle.exi_names.specs.contracts.datatype.Datatype as datatype;
+    ghost use Rattle.exi_names.proofs.Codes.{representation_code};
     ghost use Rattle.std.specs.Coded.{codes};
 
-    ghost coded = { Prim.hlevel (codes, datatype.the_row.coded) };
+    ghost coded = { Prim.hlevel (codes, representation_code) };
 
     ghost use Rattle.exi_gram.specs.Tables.{IsTable, items_of, table_of};
 
@@ -43,12 +45,12 @@ impl Model for CodeTable {
     ghost invariant = { λ t. IsTable t.coded.items t.firsts t.seconds.items };
 }
 
-impl CodeTable {
+impl CodedState {
     /// No productions.
-    pub fn new(alloc: Global) -> CodeTable
+    pub fn new(alloc: Global) -> CodedState
         ensures { result ≡ no_productions }
     {
-        CodeTable {
+        CodedState {
             coded: Vec::new(alloc),
             firsts: 0,
             seconds: Vec::new(alloc),
@@ -59,7 +61,7 @@ impl CodeTable {
     pub fn coded(&self) -> &[Coded]
         ensures codes { map coded_of result.now ≡ coded self.now }
         ensures count { length result.now ≡ size self.now }
-        ensures small { length result.now ≤ 2 ^ 31 }
+        ensures small { length result.now ≤ most_productions }
     {
         self.coded.as_slice()
     }
@@ -69,18 +71,18 @@ impl CodeTable {
     /// # Errors
     ///
     /// `AllocError` where memory is refused; the codes are then as before.
-    pub fn push_first(&mut self, production: Production) -> Result<(), AllocError>
+    pub fn push_first(&mut self, production: Production, named: Named) -> Result<(), AllocError>
         requires first { self.old.seconds ≡ [] }
-        requires room { size self.old < 2 ^ 31 }
-        ensures ok { OnOk result (self.new ≡ with_first self.old production) }
+        requires room { size self.old < most_productions }
+        ensures ok { OnOk result (self.new ≡ with_first self.old (entry production named)) }
         ensures err { OnErr result (self.new ≡ self.old) }
     {
-        let code = Code {
-            first: self.firsts,
-            second: None,
-            third: None,
-        };
-        self.coded.push(Coded { code, production })?;
+        let code = Code::One(self.firsts);
+        self.coded.push(Coded {
+            code,
+            production,
+            named,
+        })?;
         self.firsts += 1;
         Ok(())
     }
@@ -90,19 +92,19 @@ impl CodeTable {
     /// # Errors
     ///
     /// `AllocError` where memory is refused; the codes are then as before.
-    pub fn push_single(&mut self, production: Production) -> Result<(), AllocError>
-        requires room { size self.old < 2 ^ 31 }
-        ensures ok { OnOk result (self.new ≡ with_second self.old (single production)) }
+    pub fn push_single(&mut self, production: Production, named: Named) -> Result<(), AllocError>
+        requires room { size self.old < most_productions }
+        ensures ok { OnOk result (self.new ≡ with_second self.old (single (entry production named))) }
         ensures err { OnErr result (self.new ≡ self.old) }
     {
         self.seconds.reserve(1)?;
         let begin = self.coded.len() as u32;
-        let code = Code {
-            first: self.firsts,
-            second: Some(self.seconds.len() as u32),
-            third: None,
-        };
-        self.coded.push(Coded { code, production })?;
+        let code = Code::Two(self.firsts, self.seconds.len() as u32);
+        self.coded.push(Coded {
+            code,
+            production,
+            named,
+        })?;
         self.seconds.push_reserved(SecondPart {
             begin,
             count: 1,
@@ -116,19 +118,19 @@ impl CodeTable {
     /// # Errors
     ///
     /// `AllocError` where memory is refused; the codes are then as before.
-    pub fn push_group(&mut self, production: Production) -> Result<(), AllocError>
-        requires room { size self.old < 2 ^ 31 }
-        ensures ok { OnOk result (self.new ≡ with_second self.old (group (production ∷ []))) }
+    pub fn push_group(&mut self, production: Production, named: Named) -> Result<(), AllocError>
+        requires room { size self.old < most_productions }
+        ensures ok { OnOk result (self.new ≡ with_second self.old (group (entry production named ∷ []))) }
         ensures err { OnErr result (self.new ≡ self.old) }
     {
         self.seconds.reserve(1)?;
         let begin = self.coded.len() as u32;
-        let code = Code {
-            first: self.firsts,
-            second: Some(self.seconds.len() as u32),
-            third: Some(0),
-        };
-        self.coded.push(Coded { code, production })?;
+        let code = Code::Three(self.firsts, self.seconds.len() as u32, 0);
+        self.coded.push(Coded {
+            code,
+            production,
+            named,
+        })?;
         self.seconds.push_reserved(SecondPart {
             begin,
             count: 1,
@@ -142,20 +144,20 @@ impl CodeTable {
     /// # Errors
     ///
     /// `AllocError` where memory is refused; the codes are then as before.
-    pub fn push_member(&mut self, production: Production) -> Result<(), AllocError>
+    pub fn push_member(&mut self, production: Production, named: Named) -> Result<(), AllocError>
         requires group { ends_in_group self.old.seconds ≡ true }
-        requires room { size self.old < 2 ^ 31 }
-        ensures ok { OnOk result (self.new ≡ with_member self.old production) }
+        requires room { size self.old < most_productions }
+        ensures ok { OnOk result (self.new ≡ with_member self.old (entry production named)) }
         ensures err { OnErr result (self.new ≡ self.old) }
     {
         self.coded.reserve(1)?;
         if let Some(last) = self.seconds.pop() {
-            let code = Code {
-                first: self.firsts,
-                second: Some(self.seconds.len() as u32),
-                third: Some(last.count),
-            };
-            self.coded.push_reserved(Coded { code, production });
+            let code = Code::Three(self.firsts, self.seconds.len() as u32, last.count);
+            self.coded.push_reserved(Coded {
+                code,
+                production,
+                named,
+            });
             self.seconds.push_reserved(SecondPart {
                 count: last.count + 1,
                 ..last
@@ -187,7 +189,7 @@ impl CodeTable {
         }
     }
 
-    /// Writes the code of the production at a place, which has to exist, as [`CodeTable::read`] reads it.
+    /// Writes the code of the production at a place, which has to exist, as [`CodedState::read`] reads it.
     ///
     /// # Errors
     ///

@@ -1,7 +1,7 @@
 use Rattle.std.proofs.Common.{◌≡◌, refl, arith}
 use Rattle.exi_gram.proofs.Reading.{placed_view, table_ends, view_below}
 use Rattle.exi_gram.proofs.TableLists.{firsts_few, seconds_few}
-use Rattle.exi_gram.proofs.table.CodeTable.read.Goals as goal
+use Rattle.exi_gram.proofs.state.CodedState.read.Goals as goal
 
 pub read_first-requires-clause-few_firsts : goal.read_first-requires-clause-few_firsts
 read_first-requires-clause-few_firsts c = firsts_few _ _ _ c.self.invariant
