@@ -115,9 +115,7 @@ fn code_of(digits: &[u8]) -> Option<Code> {
         [b'-'] => None,
         [first] => Some(Code::One(part(*first))),
         [first, second] => Some(Code::Two(part(*first), part(*second))),
-        [first, second, third] => {
-            Some(Code::Three(part(*first), part(*second), part(*third)))
-        }
+        [first, second, third] => { Some(Code::Three(part(*first), part(*second), part(*third))) }
         _ => None,
     }
 }
