@@ -24,16 +24,17 @@ use Rattle.exi_calendar.proofs.Whole.{value_again as moment_again}
 use Rattle.exi_calendar.specs.Reading.{moment_value}
 use Rattle.exi_lexical.proofs.Visible.{graphic_decimals, graphic_float, graphic_integer, graphic_moment, long_decimals, long_float, long_integer, no_moment}
 use Rattle.exi_lexical.specs.Binaries.{base64_octets, base64_text, hex_digit, hex_octets, hex_text, octet_before}
-use Rattle.exi_lexical.specs.Equality.{equal}
+use Rattle.exi_names.specs.Equality.{equal}
+use Rattle.exi_names.specs.Texts.{all_have_text, has_text}
 use Rattle.exi_lexical.specs.Spaces.{all_ascii, squeezed, trimmed, words}
-use Rattle.exi_lexical.specs.Values.{is_within, of_decimal, of_float, all_have_text, binary_value, boolean_text, boolean_value, canonical, chosen, each_value, first_equal, form_value, has_text, list_value, scalar_value, texts, value, value_before}
+use Rattle.exi_lexical.specs.Values.{is_within, of_decimal, of_float, binary_value, boolean_text, boolean_value, canonical, chosen, each_value, first_equal, form_value, list_value, scalar_value, texts, value, value_before}
 use Rattle.exi_lexical.proofs.Blanks.{squeezed_same, word_first}
 use Rattle.exi_lexical.proofs.Graphic.{all_graphic, graphic_ascii, graphic_binary, graphic_boolean, graphic_solid}
 use Rattle.exi_lexical.proofs.Hexes.{hex_fits, hex_read}
 use Rattle.exi_lexical.proofs.Sixes.{text_is, text_read}
 use Rattle.exi_lexical.proofs.Lists.{listed}
 use Rattle.exi_lexical.proofs.Joined.{AllWords, IsWord, words_joined}
-use Rattle.exi_lexical.proofs.Same.{equal_is}
+use Rattle.exi_names.proofs.Same.{equal_is}
 use Rattle.exi_lexical.proofs.Trims.{trimmed_solid, trimmed_twice, words_trimmed, words_are}
 
 -- ---- what is kept of a text's value by its canonical text

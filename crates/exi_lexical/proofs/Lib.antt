@@ -4,7 +4,7 @@ pub mod Tables
 pub mod Appends
 pub mod Hexes
 pub mod Sixes
-pub mod Same
+pub mod Chosen
 pub mod Lists
 pub mod Graphic
 pub mod Visible

@@ -4,7 +4,8 @@ use Rattle.std.specs.Prelude.{IfOk, IfSome}
 use Rattle.exi_names.specs.Datatypes.{Representation}
 use Rattle.exi_names.specs.Seen.{seen}
 use Rattle.exi_names.specs.declared.val.Val.{Val}
-use Rattle.exi_lexical.specs.Values.{canonical, has_text, value}
+use Rattle.exi_names.specs.Texts.{has_text}
+use Rattle.exi_lexical.specs.Values.{canonical, value}
 use Rattle.exi_lexical.proofs.Again.{value_kept}
 
 named : (r : Representation) (t : List ℕ) (o : Option Val) → option_map seen o ≡ value r t → IfSome o (λ v. has_text (seen v) ≡ true)

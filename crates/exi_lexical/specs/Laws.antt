@@ -2,9 +2,9 @@
 use Rattle.std.specs.Prelude.{◌≡◌, ◌↔◌, ◌<◌, ℕ, true, List, Some, slice_index}
 use Rattle.exi_names.specs.Datatypes.{Representation}
 use Rattle.exi_names.specs.Seen.{Value}
+use Rattle.exi_names.specs.Texts.{has_text}
 use Rattle.exi_lexical.specs.Binaries.{base64_octets, base64_text, hex_octets, hex_text}
-use Rattle.exi_lexical.specs.Equality.{equal}
-use Rattle.exi_lexical.specs.Values.{canonical, has_text, value}
+use Rattle.exi_lexical.specs.Values.{canonical, value}
 
 -- the canonical text of a value that a text has, has that value
 abbrev pub CanonicalTextHasItsValue : Type 0
@@ -13,10 +13,6 @@ CanonicalTextHasItsValue = (r : Representation) (t : List ℕ) (v : Value) → v
 -- a value that a text has, has a canonical text
 abbrev pub ValueHasItsText : Type 0
 ValueHasItsText = (r : Representation) (t : List ℕ) (v : Value) → value r t ≡ Some v → has_text v ≡ true
-
--- values that equal each other are the same
-abbrev pub EqualIsSame : Type 0
-EqualIsSame = (v w : Value) → (equal v w ≡ true) ↔ (v ≡ w)
 
 -- each is an octet
 abbrev pub AreOctets : List ℕ → Type 0

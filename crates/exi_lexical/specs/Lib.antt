@@ -1,5 +1,4 @@
 pub mod Spaces
 pub mod Binaries
-pub mod Equality
 pub mod Values
 pub mod Laws

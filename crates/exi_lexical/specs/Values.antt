@@ -10,7 +10,7 @@ use Rattle.exi_names.specs.Datatypes.{Representation, small, unsigned, list, cho
 use Rattle.exi_names.specs.Datatypes as form
 use Rattle.exi_lexical.specs.Spaces.{all_ascii, squeezed, trimmed, words}
 use Rattle.exi_lexical.specs.Binaries.{base64_octets, base64_text, hex_octets, hex_text}
-use Rattle.exi_lexical.specs.Equality.{equal}
+use Rattle.exi_names.specs.Equality.{equal}
 use Rattle.exi_calendar.specs.Forms.{moment_text}
 use Rattle.exi_calendar.specs.Reading.{moment_value}
 use Rattle.exi_numerals.specs.Decimals.{decimal_text, decimal_value}
@@ -125,20 +125,3 @@ abbrev mutual
   pub texts : Values → List (List ℕ)
   texts no_more = []
   texts (and v vs) = canonical v ∷ texts vs
-
--- neither a name nor a list that holds one at any depth
-abbrev mutual
-  pub has_text : Value → Bool
-  has_text (shape.text t) = true
-  has_text (boolean truth digit) = true
-  has_text (integer n) = true
-  has_text (decimal minus whole back) = true
-  has_text (float mantissa exponent) = true
-  has_text (moment m) = true
-  has_text (binary hex octets) = true
-  has_text (items vs) = all_have_text vs
-  has_text (shape.name n) = false
-
-  pub all_have_text : Values → Bool
-  all_have_text no_more = true
-  all_have_text (and v vs) = has_text v && all_have_text vs

@@ -2,11 +2,12 @@
 
 ghost use Rattle.std.specs.Prelude.{◌≡◌, ◌==◌, if◌then◌else◌, [], ◌∷◌, ◌++◌, true, encode_utf8_all, IfOk, OnOk, string_bytes};
 ghost use Rattle.exi_names.specs.Seen.{seen, values_of, vals};
+ghost use Rattle.exi_names.specs.Texts.{all_have_text, has_text};
 ghost use Rattle.exi_calendar.specs.Forms.{moment_text};
 ghost use Rattle.exi_numerals.specs.Decimals.{decimal_text};
 ghost use Rattle.exi_numerals.specs.Floats.{float_text};
 ghost use Rattle.exi_numerals.specs.Integers.{integer_text};
-ghost use Rattle.exi_lexical.specs.Values.{all_have_text, binary_text, boolean_text, canonical, has_text, texts};
+ghost use Rattle.exi_lexical.specs.Values.{binary_text, boolean_text, canonical, texts};
 ghost use Rattle.std.specs.List.{join_with_byte};
 
 use crate::binaries::{put_base64, put_hex};

@@ -1,17 +1,12 @@
 //! The laws between the texts of values and the values. Each law is a function that does nothing: what it ensures
 //! are the laws.
 
-ghost use Rattle.exi_lexical.specs.Laws.{Base64IsByForm, CanonicalTextHasItsValue, EqualIsSame, HexIsRead, ValueHasItsText};
+ghost use Rattle.exi_lexical.specs.Laws.{Base64IsByForm, CanonicalTextHasItsValue, HexIsRead, ValueHasItsText};
 
 /// The canonical text of a value that a text has, has that value, under every datatype.
 pub fn canonical_text_has_its_value()
     ensures again { CanonicalTextHasItsValue }
     ensures text { ValueHasItsText }
-{}
-
-/// Values that equal each other as data are the same.
-pub fn equal_is_same()
-    ensures { EqualIsSame }
 {}
 
 /// Octets and their digits.

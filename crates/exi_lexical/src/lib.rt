@@ -28,7 +28,6 @@
 
 mod binaries;
 mod canonical;
-mod equality;
 pub mod laws;
 mod spaces;
 #[cfg(test)]

@@ -5,12 +5,12 @@ ghost use Rattle.std.specs.Option.{is_some};
 ghost use Rattle.std.specs.Str.{chars};
 ghost use Rattle.exi_names.specs.Datatypes.{represented};
 ghost use Rattle.exi_names.specs.Seen.{items, seen, vals, values_of};
+ghost use Rattle.exi_names.specs.Texts.{has_text};
 ghost use Rattle.exi_numerals.specs.Decimals.{decimal_value};
 ghost use Rattle.exi_numerals.specs.Floats.{float_value};
-ghost use Rattle.exi_lexical.specs.Values.{of_decimal, of_float, binary_value, boolean_value, canonical, chosen, first_equal, form_value, has_text, list_value, scalar_value, value};
+ghost use Rattle.exi_lexical.specs.Values.{of_decimal, of_float, binary_value, boolean_value, canonical, chosen, first_equal, form_value, list_value, scalar_value, value};
 
 use crate::binaries::{base64_value, hex_value};
-use crate::equality::same;
 use crate::spaces::{next_word, trim};
 use exi_calendar::moment;
 use exi_names::{Datatype, Txt, Val, ValList};
@@ -112,7 +112,7 @@ fn is_among(value: &Val, values: &ValList) -> bool
     ensures { result ≡ is_some (first_equal (seen value.now) (vals values.now)) }
 {
     for other in &values.items {
-        if same(value, other) {
+        if value.same(other) {
             return true;
         }
     }

@@ -7,5 +7,7 @@ pub mod TextLaws
 pub mod Lists
 pub mod Alphabets
 pub mod Datatypes
+pub mod Texts
+pub mod Equality
 pub mod StartTables
 pub mod NameMaps

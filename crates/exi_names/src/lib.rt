@@ -21,10 +21,12 @@
 mod alphabet;
 mod chars;
 mod datatype;
+mod equality;
 mod event;
 mod event_list;
 mod event_out;
 mod event_ref;
+pub mod laws;
 mod moment;
 mod name_map;
 mod names;
@@ -33,6 +35,7 @@ mod start;
 mod stops;
 #[cfg(test)]
 mod tests;
+mod textual;
 mod txt;
 mod txt_list;
 mod val;

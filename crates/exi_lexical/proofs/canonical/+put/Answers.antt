@@ -2,7 +2,8 @@ use Rattle.std.proofs.Common.{◌≡◌, ◌+◌, ◌++◌, List, ◌∷◌, dro
 use Rattle.std.specs.Prelude.{string_bytes, encode_utf8_all}
 use Rattle.std.proofs.lemmas.Bool.{and_parts}
 use Rattle.exi_names.specs.Seen.{Value, seen, values_of}
-use Rattle.exi_lexical.specs.Values.{all_have_text, canonical, has_text, texts}
+use Rattle.exi_names.specs.Texts.{all_have_text, has_text}
+use Rattle.exi_lexical.specs.Values.{canonical, texts}
 use Rattle.exi_lexical.proofs.Lists.{at_item}
 use Rattle.exi_lexical.proofs.Joined.{left, put_item}
 use Rattle.exi_lexical.proofs.canonical.+put.Goals as goal

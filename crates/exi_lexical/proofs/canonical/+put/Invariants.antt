@@ -2,7 +2,8 @@ use Rattle.std.proofs.Common.{◌≡◌, ◌++◌, true, drop, map}
 use Rattle.std.specs.Prelude.{string_bytes, encode_utf8_all}
 use Rattle.std.specs.List.{join_with_byte}
 use Rattle.exi_names.specs.Seen.{seen, values_of, vals}
-use Rattle.exi_lexical.specs.Values.{all_have_text, texts}
+use Rattle.exi_names.specs.Texts.{all_have_text}
+use Rattle.exi_lexical.specs.Values.{texts}
 use Rattle.exi_lexical.proofs.Joined.{left}
 use Rattle.exi_lexical.proofs.canonical.+put.Given as goal
 

@@ -7,7 +7,8 @@ use Rattle.exi_names.specs.declared.val.Val.{Val}
 use Rattle.exi_lexical.specs.Spaces.{words}
 use Rattle.exi_lexical.specs.Values.{each_value, value}
 use Rattle.exi_lexical.proofs.Lists.{behind, each_end, each_next, each_none, listed, none_listed, too_many}
-use Rattle.exi_lexical.proofs.Same.{found_is, length_vals}
+use Rattle.exi_names.proofs.Same.{length_vals}
+use Rattle.exi_lexical.proofs.Chosen.{found_is}
 use Rattle.exi_lexical.proofs.values.+value.Goals as goal
 
 pub choice-returns-then-is_among : goal.choice-returns-then-is_among

@@ -1,12 +1,11 @@
 -- Values that are the same as data are equal, and only these.
-use Rattle.std.proofs.Common.{◌≡◌, ◌≢◌, ℕ, ℤ, if◌then◌else◌, suc, Bool, true, false, ◌&&◌, ◌==◌, List, [], ◌∷◌, length, Option, Some, None, refl, sym, ap, ◌∙◌, inl, inr}
+use Rattle.std.proofs.Common.{◌≡◌, ◌≢◌, ℕ, ℤ, if◌then◌else◌, suc, Bool, true, false, ◌&&◌, ◌==◌, List, [], ◌∷◌, length, Option, Some, None, ◌↔◌, refl, sym, subst, ap, ◌∙◌, inl, inr}
 use Rattle.std.proofs.lemmas.Bool.{and_parts, cases_Bool, eqb-true, eq-eqb, false≢true}
 use Rattle.std.proofs.lemmas.List.{length-map}
 use Rattle.std.proofs.lemmas.Slice.Eq.{bytes_eq-Decides}
 use Rattle.std.specs.Cmp.{signed_Decides}
 use Rattle.std.specs.Ordering.{int_eq}
 use Rattle.std.specs.Option.{is_some, option_eq}
-use Rattle.exi_lexical.specs.Values.{first_equal}
 use Rattle.std.specs.Str.{bytes_eq}
 use Rattle.exi_names.specs.Wholes.{Number}
 use Rattle.exi_names.specs.declared.moment.Moment.{Moment}
@@ -16,7 +15,9 @@ use Rattle.exi_names.specs.declared.names.QName.{QName}
 use Rattle.exi_names.specs.Seen.{Value, Values, text, boolean, integer, decimal, float, moment, binary, items, name, no_more, and, values_of, vals, seen}
 use Rattle.exi_names.specs.declared.val.ValList.{ValList}
 use Rattle.std.specs.Vec.{vec_len}
-use Rattle.exi_lexical.specs.Equality.{same_truth, place_of_kind, same_numbers, same_dates, same_times, same_moments, same_names, equal, all_equal}
+use Rattle.exi_names.specs.Equality.{same_truth, place_of_kind, same_numbers, same_dates, same_times, same_moments, same_names, same_representations, equal, all_equal}
+use Rattle.exi_names.specs.Datatypes.{Representation}
+use Rattle.exi_names.specs.Datatypes as kind
 
 -- ---- lists
 pub other_lengths : (vs ws : List Value) → length vs ≢ length ws → all_equal (values_of vs) (values_of ws) ≡ false
@@ -207,14 +208,60 @@ mutual
   all_equal_same no_more = refl
   all_equal_same (and v vs) = rw (equal_same v, all_equal_same vs) refl
 
--- an enumerated value that equals a value is that value
-pub found_is : (v : Value) (ws : List Value) → is_some (first_equal v ws) ≡ true → first_equal v ws ≡ Some v
-found_is v [] h = absurd (false≢true h)
-found_is v (w ∷ ws) h = elim (cases_Bool (equal v w)) [
-  | inl e ↦ rw e (ap Some (sym (equal_is v w e)))
-  | inr e ↦ rw e (found_is v ws (rw e at h))
-]
+pub equal_iff : (v w : Value) → (equal v w ≡ true) ↔ (v ≡ w)
+equal_iff v w = (equal_is v w, λ e. subst (λ (u : Value). equal v u ≡ true) e (equal_same v))
 
-pub not_found : (o : Option Value) → is_some o ≡ false → o ≡ None
-not_found None h = refl
-not_found (Some v) h = absurd (false≢true (sym h))
+-- ---- datatypes
+-- lists of values, where they are seen as one value
+abbrev listed_values : Values → List Value
+listed_values no_more = []
+listed_values (and v vs) = v ∷ listed_values vs
+
+listed_back : (vs : List Value) → listed_values (values_of vs) ≡ vs
+listed_back [] = refl
+listed_back (v ∷ vs) = ap (λ (ws : List Value). v ∷ ws) (listed_back vs)
+
+lists_are : (vs ws : List Value) → all_equal (values_of vs) (values_of ws) ≡ true → vs ≡ ws
+lists_are vs ws h = sym (listed_back vs) ∙ ap listed_values (all_equal_are (values_of vs) (values_of ws) h) ∙ listed_back ws
+
+representations_are : (r s : Representation) → same_representations r s ≡ true → r ≡ s
+representations_are (kind.small least count) (kind.small first number) h =
+    let p = and_parts (int_eq least first) (count == number) h in
+    let x = int_is least first p.0 in
+    let y = eqb-true count number p.1 in
+    λ i. kind.small (x i) (y i)
+representations_are kind.unsigned kind.unsigned h = refl
+representations_are kind.integer kind.integer h = refl
+representations_are (kind.boolean a) (kind.boolean b) h = ap kind.boolean (truth_is a b h)
+representations_are (kind.binary a) (kind.binary b) h = ap kind.binary (truth_is a b h)
+representations_are kind.decimal kind.decimal h = refl
+representations_are kind.float kind.float h = refl
+representations_are (kind.moment a) (kind.moment b) h = ap kind.moment (kind_is a b h)
+representations_are (kind.list a) (kind.list b) h = ap kind.list (representations_are a b h)
+representations_are (kind.choice base values) (kind.choice other others) h =
+    let p = and_parts (same_representations base other) (all_equal (values_of values) (values_of others)) h in
+    let x = representations_are base other p.0 in
+    let y = lists_are values others p.1 in
+    λ i. kind.choice (x i) (y i)
+representations_are kind.text kind.text h = refl
+representations_are (kind.chars a) (kind.chars b) h = ap kind.chars (bytes_is a b h)
+representations_are (kind.name a) (kind.name b) h = ap kind.name (truth_is a b h)
+representations_are r s h = absurd (false≢true h)
+
+representations_same : (r : Representation) → same_representations r r ≡ true
+representations_same (kind.small least count) = rw (int_same least, nat_same count) refl
+representations_same kind.unsigned = refl
+representations_same kind.integer = refl
+representations_same (kind.boolean a) = truth_same a
+representations_same (kind.binary a) = truth_same a
+representations_same kind.decimal = refl
+representations_same kind.float = refl
+representations_same (kind.moment a) = nat_same (place_of_kind a)
+representations_same (kind.list a) = representations_same a
+representations_same (kind.choice base values) = rw (representations_same base, all_equal_same (values_of values)) refl
+representations_same kind.text = refl
+representations_same (kind.chars a) = bytes_same a
+representations_same (kind.name a) = truth_same a
+
+pub representations_iff : (r s : Representation) → (same_representations r s ≡ true) ↔ (r ≡ s)
+representations_iff r s = (representations_are r s, λ e. subst (λ (t : Representation). same_representations r t ≡ true) e (representations_same r))

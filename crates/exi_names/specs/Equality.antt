@@ -1,5 +1,5 @@
--- When two values are the same as data: of one kind, and the same in each part.
-use Rattle.std.specs.Prelude.{ℕ, ◌==◌, Bool, true, false, not, ◌&&◌}
+-- When two values, or two datatypes, are the same as data: of one kind, and the same in each part.
+use Rattle.std.specs.Prelude.{◌≡◌, ◌↔◌, ℕ, ◌==◌, Bool, true, false, not, ◌&&◌}
 use Rattle.std.specs.Ordering.{int_eq}
 use Rattle.std.specs.Option.{option_eq}
 use Rattle.std.specs.Str.{bytes_eq}
@@ -8,7 +8,9 @@ use Rattle.exi_names.specs.declared.moment.Moment.{Moment}
 use Rattle.exi_names.specs.declared.moment.MomentKind.{MomentKind}
 use Rattle.exi_names.specs.declared.moment.MomentKind.TheVariants as form
 use Rattle.exi_names.specs.declared.names.QName.{QName}
-use Rattle.exi_names.specs.Seen.{Value, Values, text, boolean, integer, decimal, float, moment, binary, items, name, no_more, and}
+use Rattle.exi_names.specs.Seen.{Value, Values, text, boolean, integer, decimal, float, moment, binary, items, name, no_more, and, values_of}
+use Rattle.exi_names.specs.Datatypes.{Representation}
+use Rattle.exi_names.specs.Datatypes as kind
 
 abbrev pub same_truth : Bool → Bool → Bool
 same_truth true b = b
@@ -58,3 +60,26 @@ abbrev mutual
   all_equal no_more no_more = true
   all_equal (and a more) (and b others) = equal a b && all_equal more others
   all_equal a b = false
+
+abbrev pub same_representations : Representation → Representation → Bool
+same_representations (kind.small least count) (kind.small first number) = int_eq least first && (count == number)
+same_representations kind.unsigned kind.unsigned = true
+same_representations kind.integer kind.integer = true
+same_representations (kind.boolean pattern) (kind.boolean other) = same_truth pattern other
+same_representations (kind.binary hex) (kind.binary other) = same_truth hex other
+same_representations kind.decimal kind.decimal = true
+same_representations kind.float kind.float = true
+same_representations (kind.moment a) (kind.moment b) = place_of_kind a == place_of_kind b
+same_representations (kind.list a) (kind.list b) = same_representations a b
+same_representations (kind.choice base values) (kind.choice other others) = same_representations base other && all_equal (values_of values) (values_of others)
+same_representations kind.text kind.text = true
+same_representations (kind.chars set) (kind.chars other) = bytes_eq set other
+same_representations (kind.name prefixes) (kind.name other) = same_truth prefixes other
+same_representations a b = false
+
+-- ---- the laws: equal exactly where they are the same
+abbrev pub EqualIsSame : Type 0
+EqualIsSame = (v w : Value) → (equal v w ≡ true) ↔ (v ≡ w)
+
+abbrev pub EqualDatatypeIsSame : Type 0
+EqualDatatypeIsSame = (r s : Representation) → (same_representations r s ≡ true) ↔ (r ≡ s)
