@@ -4,8 +4,9 @@ ghost use Rattle.exi_names.specs.Alphabets.{is_alphabet};
 ghost use Rattle.exi_names.specs.Characters.{is_xml_char};
 
 use crate::chars::is_xml;
+use crate::letters::{Letters, places_of};
 use crate::txt::Txt;
-use std::alloc::AllocError;
+use std::alloc::{AllocError, Global};
 use std::marker::Model;
 
 /// The characters that a pattern leaves a string (EXI 1.0, section 7.1.10.1), seen as the list of them:
@@ -46,6 +47,20 @@ impl Alphabet {
         ensures sorted { is_alphabet self.now ≡ true }
     {
         &self.text
+    }
+
+    /// Its characters by their places. Memory is taken only where they are not all ASCII.
+    ///
+    /// # Errors
+    ///
+    /// `AllocError` where memory is refused.
+    pub fn letters(&self, alloc: Global) -> Result<Letters<'_>, AllocError>
+        ensures letters { IfOk result (λ l. l ≡ self.now) }
+        ensures sorted { is_alphabet self.now ≡ true }
+    {
+        Ok(Letters {
+            places: places_of(alloc, self.text.as_str())?,
+        })
     }
 
     /// Another alphabet of the same characters.

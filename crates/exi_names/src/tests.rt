@@ -142,6 +142,9 @@ fn characters_make_alphabets(rt: HostRuntime) -> Result<(), Fail> {
     assert!(rt; is_xml('a') && xml_char(97) == Some('a'));
     let alphabet = Alphabet::of(Txt::of(rt.alloc(), "09€")?).ok_or(AllocError)?;
     assert_eq!(rt; alphabet.copy()?.text().as_str(), "09€");
+    let letters = alphabet.letters(rt.alloc())?;
+    assert!(rt; letters.len() == 3 && letters.at(2) == '€');
+    assert_eq!(rt; letters.place_of('9'), Some(1));
     Ok(())
 }
 
