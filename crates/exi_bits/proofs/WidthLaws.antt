@@ -1,5 +1,5 @@
 -- The least width of a count.
-use Rattle.std.proofs.Common.{◌≡◌, ℕ, zero, suc, ◌+◌, ◌-◌, ◌^◌, ◌<◌, ◌≤◌, ◌⊎◌, inl, inr, refl, sym, ap, ◌∙◌, arith}
+use Rattle.std.proofs.Common.{◌≡◌, ℕ, zero, suc, ◌+◌, ◌-◌, ◌^◌, ◌<◌, ◌≤◌, ◌⊎◌, inl, inr, add-zero, refl, sym, ap, ◌∙◌, subst, arith}
 use Rattle.std.proofs.lemmas.Bool.{le-leb, lt-leb, cases_lt}
 use Rattle.std.proofs.Common.{lit<}
 use Rattle.std.proofs.Math.Nat.{pow-succ'}
@@ -27,6 +27,10 @@ width_few count few = sym (width_found count 0 0 count (λ k less. absurd (omega
 below_power : (j k count : ℕ) → k ≤ j → 2 ^ j < count → 2 ^ k < count
 below_power j k count le less = let p = pow_up k j le in omega arith
 
+pub below_self : (n : ℕ) → n < 2 ^ n
+below_self zero = lit< tt
+below_self (suc n) = let h = below_self n in rw pow-succ' (omega arith)
+
 -- the zeros in front of the greatest value leave the width
 pub width_many : (count : ℕ) → 1 < count → count - 1 < 2 ^ 64 → 64 - count_leading_zeros 64 (count - 1) ≡ width_for count
 width_many count many fits =
@@ -34,7 +38,27 @@ width_many count many fits =
     let w : 64 - count_leading_zeros 64 (count - 1) ≡ suc t.0 = omega (arith, t.1) in
     let short : suc t.0 ≤ count = omega (arith, t.2, below_self t.0) in
     w ∙ sym (width_found count 0 (suc t.0) count (λ k less. below_power t.0 k count (omega arith) (omega (arith, t.2))) (omega (arith, t.3)) (omega arith) (omega arith))
+
+-- of the numbers from this one on the least that holds the count is found, if one that is tried does
+least_from : (tries n count : ℕ) → ((k : ℕ) → k < n → 2 ^ k < count) → count ≤ 2 ^ (n + tries) → (count ≤ 2 ^ width_from tries n count) × ((k : ℕ) → k < width_from tries n count → 2 ^ k < count)
+unfolding width_from
+least_from zero n count below holds = (subst (λ (k : ℕ). count ≤ 2 ^ k) (add-zero n) holds, below)
+least_from (suc tries) n count below holds =
+    elim (cases_lt (2 ^ n) count) [
+      | inl less ↦
+          let e : n + suc tries ≡ n + 1 + tries = omega arith in
+          rw (lt-leb count (2 ^ n) less) (least_from tries (n + 1) count (further n count below less) (subst (λ (k : ℕ). count ≤ 2 ^ k) e holds))
+      | inr enough ↦ rw (le-leb count (2 ^ n) enough) (enough, below)
+    ]
   where
-    below_self : (n : ℕ) → n < 2 ^ n
-    below_self zero = lit< tt
-    below_self (suc n) = let h = below_self n in rw pow-succ' (omega arith)
+    further : (n count : ℕ) → ((k : ℕ) → k < n → 2 ^ k < count) → 2 ^ n < count → (k : ℕ) → k < n + 1 → 2 ^ k < count
+    further n count below less k lt = elim (cases_lt k n) [
+      | inl before ↦ below k before
+      | inr not_before ↦ let e : k ≡ n = omega arith in rw e less
+    ]
+
+pub width_least : (count : ℕ) → (count ≤ 2 ^ width_for count) × ((n : ℕ) → n < width_for count → 2 ^ n < count)
+width_least count =
+    let h = below_self count in
+    let e : count ≡ 0 + count = omega arith in
+    least_from count 0 count (λ k lt. absurd (omega arith)) (subst (λ (k : ℕ). count ≤ 2 ^ k) e (omega arith))

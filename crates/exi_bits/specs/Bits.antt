@@ -1,4 +1,4 @@
--- Bits of bytes, and the n-bit numbers that they spell (W3C EXI, sections 6 and 7.1.9).
+-- Bits of bytes, and the n-bit numbers that they spell (EXI 1.0, sections 5.4 and 7.1.9).
 use Rattle.std.specs.Prelude.{◌≡◌, Option, Some, None, nat_lt, if◌then◌else◌, ℕ, zero, suc, ◌+◌, ◌*◌, ◌-◌, ◌^◌, ◌%◌, ◌/◌, Bool, true, false, List, [], ◌∷◌, ◌++◌, ◌<◌, length, get_or, take, drop, nat_le}
 use Rattle.exi_bits.specs.declared.align.Align.{Align}
 use Rattle.exi_bits.specs.declared.align.Align.TheVariants as align

@@ -1,9 +1,11 @@
 -- The laws between what is spelled and what is read.
 use Rattle.std.specs.Prelude.{◌≡◌, Some, Ok, Bool, ℕ, ◌*◌, ◌^◌, ◌<◌, ◌≤◌, List, [], ◌++◌, length}
 use Rattle.exi_bits.specs.declared.align.Align.{Align}
+use Rattle.exi_bits.specs.declared.fault.Kind.{Kind}
 use Rattle.exi_bits.specs.declared.fault.Kind.TheVariants as kind
 use Rattle.exi_bits.specs.Bits.{Spot, Front, IsAligned, IsBytes, bits, moved, number, number_at, rest, taken}
-use Rattle.exi_bits.specs.Unsigned.{IsCut, IsUnsigned, IsWide, fault_at, shortest, unsigned_at}
+use Rattle.exi_bits.specs.Unsigned.{IsCut, IsUnsigned, IsWide, below_at, fault_at, shortest, unsigned_at}
+use Rattle.exi_bits.specs.Widths.{width_for}
 
 -- ---- n-bit numbers
 -- what is read is spelled so
@@ -21,6 +23,19 @@ NumberIsNoPrefix = (n v w : ℕ) (a : Align) (more : List Bool) → v < 2 ^ take
 -- what was added behind some bits is read there, whatever follows
 abbrev pub NumberIsReadBack : Type 0
 NumberIsReadBack = (n v : ℕ) (a : Align) (s : Spot) (before more : List Bool) → IsBytes s.bytes → IsAligned a s → v < 2 ^ n → bits s.bytes ≡ before ++ number n a v ++ more → s.place ≡ length before → number_at n a s ≡ Some (v, moved s (taken n a))
+
+-- ---- numbers below a count
+-- what is read is spelled so, and is below the count
+abbrev pub BelowIsSpelled : Type 0
+BelowIsSpelled = (count v : ℕ) (a : Align) (k : Kind) (s t : Spot) → IsBytes s.bytes → IsAligned a s → below_at count a k s ≡ Ok (v, t) → Front s (number (width_for count) a v) t × (v < count)
+
+-- what is below the count and spelled so is read, whatever follows
+abbrev pub BelowIsRead : Type 0
+BelowIsRead = (count v : ℕ) (a : Align) (k : Kind) (s : Spot) (more : List Bool) → IsBytes s.bytes → IsAligned a s → v < count → rest s ≡ number (width_for count) a v ++ more → below_at count a k s ≡ Ok (v, moved s (taken (width_for count) a))
+
+-- the width is the least n with 2 ^ n at least the count
+abbrev pub WidthIsLeast : Type 0
+WidthIsLeast = (count : ℕ) → (count ≤ 2 ^ width_for count) × ((n : ℕ) → n < width_for count → 2 ^ n < count)
 
 -- ---- Unsigned Integers
 -- what is read is spelled so

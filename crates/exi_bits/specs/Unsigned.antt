@@ -1,4 +1,4 @@
--- Unsigned Integers: groups of seven bits in octets, the least significant first (W3C EXI, section 7.1.6).
+-- Unsigned Integers: groups of seven bits in octets, the least significant first (EXI 1.0, section 7.1.6).
 -- The recommendation has no bound. Here there are at most 19 octets, and the number is below 2 ^ 128.
 use Rattle.std.specs.Prelude.{◌≡◌, Option, Some, None, Result, Ok, Err, nat_lt, if◌then◌else◌, ℕ, zero, suc, ◌+◌, ◌*◌, ◌-◌, ◌^◌, Bool, List, [], ◌∷◌, ◌++◌, ◌⊎◌, ◌<◌, ◌≤◌, ◌/◌, ◌%◌, length}
 use Rattle.exi_bits.specs.declared.align.Align.TheVariants as align
@@ -9,6 +9,7 @@ use Rattle.exi_bits.specs.declared.fault.Stop.TheVariants as stop
 use Rattle.exi_bits.specs.declared.fault.Kind.{Kind}
 use Rattle.exi_bits.specs.declared.fault.Kind.TheVariants as kind
 use Rattle.exi_bits.specs.Bits.{Spot, bits, number_at}
+use Rattle.exi_bits.specs.Widths.{width_for}
 
 -- ---- the spelling
 -- the sum of the groups
@@ -116,11 +117,11 @@ field_at n a s = at_spot s (needed (number_at n a s))
 abbrev pub fault_at : {X : Type 0} → Kind → Spot → Result X Fault
 fault_at k s = Err (record { kind = k; bit = s.place })
 
--- a number of so many bits that has to be below a count
-unfoldable pub place_at : ℕ → Align → ℕ → Spot → Result (ℕ × Spot) Fault
-place_at n a count s = do
-  found ← field_at n a s
-  if nat_lt found.0 count then Ok found else fault_at kind.BadPlace s
+-- a number of the width of the count that has to be below it, or the kind at its first bit
+unfoldable pub below_at : ℕ → Align → Kind → Spot → Result (ℕ × Spot) Fault
+below_at count a k s = do
+  found ← field_at (width_for count) a s
+  if nat_lt found.0 count then Ok found else fault_at k s
 
 -- the same, where memory may run out
 abbrev pub StopsAs : {Y : Type 0} → Stop → Result Y Fault → Type 0

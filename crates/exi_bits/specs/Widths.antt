@@ -1,4 +1,4 @@
--- How many bits a number takes that tells so many values apart (W3C EXI 1.0, section 7.1.9).
+-- How many bits a number takes that tells so many values apart (EXI 1.0, section 7.1.9).
 use Rattle.std.specs.Prelude.{ℕ, zero, suc, ◌+◌, ◌^◌, nat_le, if◌then◌else◌}
 
 -- the least n from this one on with 2 ^ n at least the count, of so many that are tried

@@ -1,4 +1,4 @@
-/// How the numbers of a stream lie: bit by bit, or in whole bytes (W3C EXI, section 6).
+/// How the numbers of a stream lie: bit by bit, or in whole bytes (EXI 1.0, sections 5.4 and 7.1.9).
 #[derive(Clone, Copy, Debug, PartialEq, Eq)]
 pub enum Align {
     /// One bit after the other, the most significant first.

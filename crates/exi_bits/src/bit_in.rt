@@ -1,10 +1,11 @@
 ghost use Rattle.std.specs.Prelude.{◌≡◌, ◌+◌, ◌*◌, ◌-◌, ◌%◌, ◌^◌, ◌<◌, ◌≤◌, length, IfSome, IfOk, MatchOption};
 ghost use Rattle.exi_bits.specs.Bits.{Spot, left, moved, at_bit, at_next_byte, taken, IsAligned, Takes, number_at};
-ghost use Rattle.exi_bits.specs.Unsigned.{narrow_groups_at, unsigned_at, field_at, place_at, Reads, ReadsSome};
+ghost use Rattle.exi_bits.specs.Unsigned.{narrow_groups_at, unsigned_at, field_at, below_at, Reads, ReadsSome};
 ghost use Rattle.exi_bits.specs.declared.align.Align.TheVariants as align;
 
 use crate::align::Align;
 use crate::fault::{Fault, Kind};
+use crate::widths::bits_for;
 use crate::words::{bits_at, bytes_at, narrow_at, with_group};
 use std::marker::Model;
 
@@ -53,7 +54,7 @@ impl<'a> BitIn<'a> {
         self.bytes.len() as u64 * 8 - self.place
     }
 
-    /// Takes an n-bit number of at most 64 bits (W3C EXI, section 7.1.9): `width` bits, or under
+    /// Takes an n-bit number of at most 64 bits (EXI 1.0, section 7.1.9): `width` bits, or under
     /// [`Align::Bytes`] the whole bytes that hold so many, where the number may come out too great for
     /// its width. A number of no bits is 0. Under `Bytes` the place has to be a whole byte.
     ///
@@ -88,7 +89,7 @@ impl<'a> BitIn<'a> {
     }
 
     /// Goes to a bit, at most to the end.
-    pub fn back(&mut self, place: u64)
+    pub fn go_to_bit(&mut self, place: u64)
         requires { place ≤ 8 * length self.old.bytes }
         ensures { self.new ≡ at_bit self.old place }
     {
@@ -148,7 +149,7 @@ impl<'a> BitIn<'a> {
         Err(Kind::TooWide)
     }
 
-    /// Takes an Unsigned Integer (W3C EXI, section 7.1.6) at any bit: octets of seven bits of the
+    /// Takes an Unsigned Integer (EXI 1.0, section 7.1.6) at any bit: octets of seven bits of the
     /// number each, the least significant first, all but the last with the top bit.
     ///
     /// # Errors
@@ -166,12 +167,12 @@ impl<'a> BitIn<'a> {
             if octet < 128 {
                 return Ok(u128::from(octet));
             }
-            self.back(bit);
+            self.go_to_bit(bit);
         }
         match self.groups() {
             Ok(value) => Ok(value),
             Err(kind) => {
-                self.back(bit);
+                self.go_to_bit(bit);
                 Err(Fault { kind, bit })
             }
         }
@@ -201,30 +202,41 @@ impl<'a> BitIn<'a> {
         }
     }
 
-    /// Takes an n-bit number that chooses one of `count` things, and so has to be below the count.
+    /// Takes a number that chooses one of `count` things: an n-bit number of the fewest bits that tell
+    /// so many apart (EXI 1.0, section 7.1.9). One thing takes no bits.
     ///
     /// # Errors
     ///
-    /// At the first bit of the number: `Short` where fewer bits remain, and `BadPlace` where the number
-    /// is not below the count.
-    #[tactic(auto, unfolding(crate::specs::Unsigned::place_at))]
-    pub fn place(&mut self, width: u32, align: Align, count: u64) -> Result<u64, Fault>
-        requires narrow { width ≤ 64 }
+    /// At the first bit of the number: `Short` where fewer bits remain, and `kind` where the number is
+    /// not below the count, as with a count of 0 at once.
+    pub fn below(&mut self, count: u64, align: Align, kind: Kind) -> Result<u64, Fault>
         requires aligned { IsAligned align self.old }
-        ensures read { Reads (λ x. x) result self.old self.new (place_at width align count self.old) }
+        ensures read { Reads (λ x. x) result self.old self.new (below_at count align kind self.old) }
+        ensures below { IfOk result (λ v. v < count) }
+        ensures bytes { self.new.bytes ≡ self.old.bytes }
+        ensures aligned { IsAligned align self.new }
+    {
+        if count == 1 {
+            return Ok(0);
+        }
+        self.one_of(count, align, kind)
+    }
+
+    /// Takes a number below a count, of the width of the count.
+    #[tactic(auto, unfolding(crate::specs::Unsigned::below_at))]
+    fn one_of(&mut self, count: u64, align: Align, kind: Kind) -> Result<u64, Fault>
+        requires aligned { IsAligned align self.old }
+        ensures read { Reads (λ x. x) result self.old self.new (below_at count align kind self.old) }
         ensures below { IfOk result (λ v. v < count) }
         ensures bytes { self.new.bytes ≡ self.old.bytes }
         ensures aligned { IsAligned align self.new }
     {
         let bit = self.at();
-        let value = self.number(width, align)?;
+        let value = self.number(bits_for(count), align)?;
         if value < count {
             return Ok(value);
         }
-        self.back(bit);
-        Err(Fault {
-            kind: Kind::BadPlace,
-            bit,
-        })
+        self.go_to_bit(bit);
+        Err(Fault { kind, bit })
     }
 }

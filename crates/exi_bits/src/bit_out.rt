@@ -128,7 +128,7 @@ impl BitOut {
         }
     }
 
-    /// Adds an n-bit number of at most 64 bits (W3C EXI, section 7.1.9), as [`BitIn::take`] reads it.
+    /// Adds an n-bit number of at most 64 bits (EXI 1.0, section 7.1.9), as [`BitIn::take`] reads it.
     /// The value has to fit the width, and under [`Align::Bytes`] there have to be whole bytes of bits.
     ///
     /// # Errors
@@ -186,7 +186,7 @@ impl BitOut {
         Ok(())
     }
 
-    /// Adds an Unsigned Integer (W3C EXI, section 7.1.6) at any bit, in as few octets as spell it.
+    /// Adds an Unsigned Integer (EXI 1.0, section 7.1.6) at any bit, in as few octets as spell it.
     ///
     /// # Errors
     ///

@@ -4,8 +4,9 @@ ghost use Rattle.exi_bits.specs.declared.fault.Stop.TheVariants as Stop;
 ghost use Rattle.exi_bits.specs.declared.fault.Stop.TheVariants.{Memory};
 
 use std::alloc::{AllocError, AllocFailed};
+use thiserror::Error;
 
-/// A part of the options document, or an option, that is not supported (W3C EXI, section 5.4).
+/// A part of the options document, or an option, that is not supported (EXI 1.0, section 5.4).
 #[derive(Clone, Copy, Debug, PartialEq, Eq)]
 pub enum Part {
     /// A document whose root is not the header of options.
@@ -14,10 +15,6 @@ pub enum Part {
     Metadata,
     /// Alignment for a later compression.
     PreCompress,
-    /// A limit on the length of the values in the string tables.
-    ValueMaxLength,
-    /// A limit on the number of the values in the string tables.
-    ValuePartitionCapacity,
     /// Representations of datatypes other than the built-in ones.
     DatatypeMap,
     /// Values that keep their lexical form.
@@ -35,8 +32,6 @@ impl Part {
             Part::Root => "root",
             Part::Metadata => "metadata",
             Part::PreCompress => "pre-compress",
-            Part::ValueMaxLength => "valueMaxLength",
-            Part::ValuePartitionCapacity => "valuePartitionCapacity",
             Part::DatatypeMap => "datatypeRepresentationMap",
             Part::LexicalValues => "lexicalValues",
             Part::Compression => "compression",
@@ -45,53 +40,73 @@ impl Part {
 }
 
 /// What is wrong with a stream.
-#[derive(Clone, Copy, Debug, PartialEq, Eq)]
+#[derive(Clone, Copy, Debug, PartialEq, Eq, Error)]
 pub enum Kind {
     /// The bits that tell an EXI stream from others do not stand at its head.
+    #[error("NoExi")]
     NoExi,
     /// A version other than the first final one.
+    #[error("Version")]
     Version,
     /// An option that is not supported.
+    #[error("Unsupported {}", .0.word())]
     Unsupported(Part),
     /// Options that exclude each other.
+    #[error("Conflict")]
     Conflict,
     /// The header tells another schema than the one that is used.
+    #[error("WrongSchema")]
     WrongSchema,
     /// The bits end before the item does.
+    #[error("Short")]
     Short,
     /// An Unsigned Integer of more than 19 octets, or of 2^128 or more.
+    #[error("TooWide")]
     TooWide,
     /// A mantissa or an exponent out of its range.
+    #[error("BadFloat")]
     BadFloat,
     /// A code point that is no character of XML.
+    #[error("BadChar")]
     BadChar,
     /// A part of a date or a time out of its range.
+    #[error("BadMoment")]
     BadMoment,
     /// A number that is not below the count of what it chooses from.
+    #[error("BadPlace")]
     BadPlace,
     /// A list of more than 65,536 items.
+    #[error("ListTooLong")]
     ListTooLong,
     /// An event code that stands for no production.
+    #[error("NoCode")]
     NoCode,
     /// A type that is named and is not there, in a strict stream.
+    #[error("BadType")]
     BadType,
     /// A self-contained element that does not follow the start of an element at once.
+    #[error("ScPlace")]
     ScPlace,
     /// A self-contained fragment that does not begin with the element that it stands for.
+    #[error("ScRoot")]
     ScRoot,
     /// More than the one element in a self-contained fragment.
+    #[error("ScNotOne")]
     ScNotOne,
-    /// An element of a fragment whose name is declared in more than one way.
-    AmbiguousName,
     /// More events than the limit allows.
+    #[error("EventLimit")]
     EventLimit,
     /// More text than the limit allows.
+    #[error("TextLimit")]
     TextLimit,
     /// Deeper elements than the limit allows.
+    #[error("DepthLimit")]
     DepthLimit,
     /// Bytes after the end of the stream.
+    #[error("TrailingBytes")]
     TrailingBytes,
     /// A construct that this program does not read yet.
+    #[error("NotBuilt")]
     NotBuilt,
 }
 
@@ -118,7 +133,6 @@ impl Kind {
             Kind::ScPlace => "ScPlace",
             Kind::ScRoot => "ScRoot",
             Kind::ScNotOne => "ScNotOne",
-            Kind::AmbiguousName => "AmbiguousName",
             Kind::EventLimit => "EventLimit",
             Kind::TextLimit => "TextLimit",
             Kind::DepthLimit => "DepthLimit",
@@ -129,7 +143,8 @@ impl Kind {
 }
 
 /// What is wrong, and at which bit of the stream: the first bit of the item in which it shows.
-#[derive(Clone, Copy, Debug, PartialEq, Eq)]
+#[derive(Clone, Copy, Debug, PartialEq, Eq, Error)]
+#[error("{kind} {bit}")]
 pub struct Fault {
     /// What is wrong.
     pub kind: Kind,
@@ -138,11 +153,13 @@ pub struct Fault {
 }
 
 /// Why reading stopped.
-#[derive(Debug, Drop)]
+#[derive(Debug, PartialEq, Eq, Drop, Error)]
 pub enum Stop {
     /// The stream is wrong.
+    #[error("{0}")]
     Fault(Fault),
     /// There was no memory.
+    #[error("out of memory")]
     Memory,
 }
 

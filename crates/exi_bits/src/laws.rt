@@ -1,56 +1,42 @@
 //! What is spelled and what is read are the same. Each law is a function that does nothing: what it
-//! ensures is the law.
+//! ensures are the laws.
 
-ghost use Rattle.exi_bits.specs.Laws.{NumberIsSpelled, NumberIsRead, NumberIsNoPrefix, NumberIsReadBack, UnsignedIsSpelled, UnsignedIsRead, UnsignedIsNoPrefix, ShortestIsSpelled, NoneIsShorter, UnsignedIsReadBack, ShortIsCut, TooWideIsWide};
+ghost use Rattle.exi_bits.specs.Laws.{NumberIsSpelled, NumberIsRead, NumberIsNoPrefix, NumberIsReadBack, BelowIsSpelled, BelowIsRead, UnsignedIsSpelled, UnsignedIsRead, UnsignedIsNoPrefix, ShortestIsSpelled, NoneIsShorter, UnsignedIsReadBack, ShortIsCut, TooWideIsWide, WidthIsLeast};
 
-/// What is read as an n-bit number is spelled so, in both alignments.
-pub fn number_is_spelled()
-    ensures { NumberIsSpelled }
+/// What is read is spelled so.
+pub fn read_is_spelled()
+    ensures number { NumberIsSpelled }
+    ensures below { BelowIsSpelled }
+    ensures unsigned { UnsignedIsSpelled }
 {}
 
-/// What is spelled as an n-bit number is read so, whatever follows.
-pub fn number_is_read()
-    ensures { NumberIsRead }
+/// What is spelled so is read, whatever follows.
+pub fn spelled_is_read()
+    ensures number { NumberIsRead }
+    ensures below { BelowIsRead }
+    ensures unsigned { UnsignedIsRead }
 {}
 
-/// No n-bit number is a proper prefix of another.
-pub fn number_is_no_prefix()
-    ensures { NumberIsNoPrefix }
+/// No spelling is a proper prefix of another, and each spells one number.
+pub fn none_is_prefix()
+    ensures number { NumberIsNoPrefix }
+    ensures unsigned { UnsignedIsNoPrefix }
 {}
 
-/// What `put` adds, `take` and its kin read back, whatever follows.
-pub fn number_is_read_back()
-    ensures { NumberIsReadBack }
-{}
-
-/// What is read as an Unsigned Integer is spelled so.
-pub fn unsigned_is_spelled()
-    ensures { UnsignedIsSpelled }
-{}
-
-/// What is spelled as an Unsigned Integer is read so, whatever follows.
-pub fn unsigned_is_read()
-    ensures { UnsignedIsRead }
-{}
-
-/// No Unsigned Integer is a proper prefix of another.
-pub fn unsigned_is_no_prefix()
-    ensures { UnsignedIsNoPrefix }
-{}
-
-/// What is written for a number spells it.
-pub fn shortest_is_spelled()
+/// What is written for an Unsigned Integer is one of its spellings.
+pub fn written_is_spelled()
     ensures { ShortestIsSpelled }
 {}
 
-/// Nothing shorter than what is written spells the number.
-pub fn none_is_shorter()
-    ensures { NoneIsShorter }
+/// What `BitOut` adds, `BitIn` reads back, whatever follows.
+pub fn written_is_read()
+    ensures number { NumberIsReadBack }
+    ensures unsigned { UnsignedIsReadBack }
 {}
 
-/// What `BitOut::unsigned` adds, `BitIn::unsigned` reads back, whatever follows.
-pub fn unsigned_is_read_back()
-    ensures { UnsignedIsReadBack }
+/// No spelling of an Unsigned Integer is shorter than what is written.
+pub fn none_is_shorter()
+    ensures { NoneIsShorter }
 {}
 
 /// Short comes exactly where the bits end first.
@@ -61,4 +47,9 @@ pub fn short_is_cut()
 /// TooWide comes exactly where the 19th octet has the top bit or brings the value to 2^128.
 pub fn too_wide_is_wide()
     ensures { TooWideIsWide }
+{}
+
+/// The width of a count is the least that tells so many apart.
+pub fn width_is_least()
+    ensures { WidthIsLeast }
 {}

@@ -1,5 +1,5 @@
 //! The bits of an EXI stream: n-bit numbers and Unsigned Integers, read and written, and the faults
-//! that a reader answers (W3C EXI, sections 6 and 7.1).
+//! that a reader answers (EXI 1.0, sections 5.4, 7.1.6 and 7.1.9).
 //!
 //! Bits are counted from 0 at the head of the stream, the most significant of a byte first. An n-bit
 //! number stands in a bit-packed stream ([`Align::Bits`]) as its n bits, the most significant first,

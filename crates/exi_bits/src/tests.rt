@@ -48,9 +48,9 @@ fn numbers_are_read(rt: HostRuntime) {
     let mut input = BitIn::new(&[0b1011_0011, 0x2C, 0x01]);
     assert_eq!(rt; input.take(0, Align::Bits), Some(0));
     assert_eq!(rt; input.number(3, Align::Bits), Ok(5));
-    assert_eq!(rt; input.place(7, Align::Bits, 77), Ok(76));
+    assert_eq!(rt; input.below(77, Align::Bits, Kind::BadPlace), Ok(76));
     assert_eq!(rt;
-        input.place(2, Align::Bits, 2),
+        input.below(3, Align::Bits, Kind::NoCode),
         Err(Fault {
             kind: Kind::BadPlace,
             bit: 10

@@ -180,7 +180,7 @@ impl Overlay {
         match read_behind(input, self.learned_list(room), room, options) {
             Ok(production) => Ok(production),
             Err(fault) => {
-                input.back(bit);
+                input.go_to_bit(bit);
                 Err(fault)
             }
         }

@@ -192,7 +192,7 @@ fn read(overlay: &Overlay, bit: u64, room: Room) -> Option<(Result<Learnable, Fa
     let options = options(0);
     let mut input = BitIn::new(&STREAM);
     if bit <= 144 && overlay.is_room(room) && !options.flags.contains(OptionFlags::BYTES) {
-        input.back(bit);
+        input.go_to_bit(bit);
         let read = overlay.read_code(&mut input, room, &options);
         return Some((read, input.at()));
     }

@@ -63,7 +63,7 @@ pub fn open(bytes: &[u8], align: Align, skip: u64) -> Option<BitIn<'_>>
         return None;
     }
     let mut input = BitIn::new(bytes);
-    input.back(skip);
+    input.go_to_bit(skip);
     Some(input)
 }
 

@@ -23,7 +23,7 @@ pub fn read_part(input: &mut BitIn<'_>, count: u32, align: Align) -> Result<u32,
     if value < u64::from(count) {
         return Ok(value as u32);
     }
-    input.back(bit);
+    input.go_to_bit(bit);
     Err(Fault {
         kind: Kind::NoCode,
         bit,

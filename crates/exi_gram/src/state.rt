@@ -183,7 +183,7 @@ impl CodedState {
         match read_first(input, self.firsts, &self.seconds, align) {
             Ok(place) => Ok(place),
             Err(fault) => {
-                input.back(bit);
+                input.go_to_bit(bit);
                 Err(fault)
             }
         }

@@ -4,10 +4,11 @@ use Rattle.std.proofs.lemmas.List.{drop-drop, drop_at, length-append}
 use Rattle.exi_bits.specs.declared.align.Align.{Align}
 use Rattle.exi_bits.specs.declared.align.Align.TheVariants as align
 use Rattle.exi_bits.specs.declared.fault.Fault.{Fault}
-use Rattle.exi_bits.specs.declared.fault.Kind.TheVariants as kind
+use Rattle.exi_bits.specs.declared.fault.Kind.{Kind}
 use Rattle.exi_bits.specs.Bits.{Spot, Front, IsAligned, IsBytes, bits, moved, number, number_at, rest, taken}
 use Rattle.exi_bits.specs.Repeat.{Reader, times}
-use Rattle.exi_bits.specs.Unsigned.{◌>>=◌, at_spot, field_at, needed, place_at, unsigned_at}
+use Rattle.exi_bits.specs.Unsigned.{◌>>=◌, at_spot, field_at, needed, below_at, unsigned_at}
+use Rattle.exi_bits.specs.Widths.{width_for}
 use Rattle.exi_bits.proofs.BitLaws.{length-bits}
 use Rattle.exi_bits.proofs.InBytes.{length-number, number_read, number_spelled}
 use Rattle.exi_bits.proofs.UnsignedLaws.{unsigned_read, unsigned_spelled}
@@ -187,9 +188,9 @@ item_field n a = record { takes = taking; again = reading; whole = wholly }
         let l : taken n a ≡ length text = sym (ap length m.0 ∙ length-number n v a) in
         rw r (ap (λ (k : ℕ). given (v, moved s k)) l)
 
-pub item_place : (n : ℕ) (a : Align) (count : ℕ) → Item a (place_at n a count) (λ v text. (ltb v count ≡ true) × ((text ≡ number n a v) × (v < 2 ^ taken n a)))
-unfolding place_at
-item_place n a count = item_tested a (field_at n a) (λ v text. (text ≡ number n a v) × (v < 2 ^ taken n a)) (λ v. ltb v count) (λ s x. record { kind = kind.BadPlace; bit = s.place }) (item_field n a)
+pub item_below : (count : ℕ) (a : Align) (k : Kind) → Item a (below_at count a k) (λ v text. (ltb v count ≡ true) × ((text ≡ number (width_for count) a v) × (v < 2 ^ taken (width_for count) a)))
+unfolding below_at
+item_below count a k = item_tested a (field_at (width_for count) a) (λ v text. (text ≡ number (width_for count) a v) × (v < 2 ^ taken (width_for count) a)) (λ v. ltb v count) (λ s x. record { kind = k; bit = s.place }) (item_field (width_for count) a)
 
 pub item_unsigned : (a : Align) → Item a unsigned_at SpellsUnsigned
 item_unsigned a = record { takes = taking; again = reading; whole = wholly }

@@ -9,7 +9,8 @@ use Rattle.exi_bits.specs.declared.fault.Fault.{Fault}
 use Rattle.exi_bits.specs.declared.fault.Kind.TheVariants as fault
 use Rattle.exi_bits.specs.Bits.{Spot, Front, IsAligned, IsBytes, bits, moved, number, number_at, rest, taken}
 use Rattle.exi_bits.specs.Repeat.{Reader}
-use Rattle.exi_bits.specs.Unsigned.{◌>>=◌, at_spot, fault_at, field_at, needed, place_at, unsigned_at}
+use Rattle.exi_bits.specs.Widths.{width_from}
+use Rattle.exi_bits.specs.Unsigned.{◌>>=◌, at_spot, fault_at, field_at, needed, below_at, unsigned_at}
 use Rattle.exi_bits.proofs.BitLaws.{length-bits, pow_up}
 use Rattle.exi_bits.proofs.InBytes.{length-number, number_read, number_spelled}
 use Rattle.exi_bits.proofs.UnsignedLaws.{unsigned_read, unsigned_spelled}
@@ -112,8 +113,8 @@ unsigned_told v a s t fits whole e =
       aligned = octets_keep a (length u.0) s t whole (u.2.place ∙ ap (λ (x : ℕ). s.place + x) (length-bits u.0));
     }
 
-pub told_told : (v : ℕ) (a : Align) (s t : Spot) → IsBytes s.bytes → IsAligned a s → place_at 1 a 2 s ≡ given (v, t) → Told a (SpellsNumber a 1 v) s t × (v < 2)
-unfolding place_at
+pub told_told : (v : ℕ) (a : Align) (s t : Spot) → IsBytes s.bytes → IsAligned a s → below_at 2 a fault.BadPlace s ≡ given (v, t) → Told a (SpellsNumber a 1 v) s t × (v < 2)
+unfolding below_at width_from
 told_told v a s t fits whole e =
     let b = bind_ok (field_at 1 a s) (λ found. cond (ltb found.0 2) (Ok found) (fault_at fault.BadPlace s)) (v, t) e in
     let g = guard_ok (ltb b.0.0 2) (given b.0) (v, t) (record { kind = fault.BadPlace; bit = s.place }) b.2 in
@@ -135,9 +136,9 @@ optional_case a read P R tells (suc zero) o s t u lt told e =
     subst (λ q. Told a (SpellsOptional a P q.0) s q.1 × IfSome q.0 R) (ok_is (some b.0.0, b.0.1) (o, t) b.2) (told_both a (SpellsNumber a 1 1) (P b.0.0) s u b.0.1 told x.0, x.1)
 optional_case a read P R tells (suc (suc v)) o s t u lt told e = absurd (omega arith)
 
-pub optional_told : {X : Type 0} → (a : Align) (read : Reader X) (P : X → List Bool → Type 0) (R : X → Type 0) → Tells a read P R → (o : Option X) (s t : Spot) → IsBytes s.bytes → IsAligned a s → (place_at 1 a 2 s >>= λ told. optional told read) ≡ given (o, t) → Told a (SpellsOptional a P o) s t × IfSome o R
+pub optional_told : {X : Type 0} → (a : Align) (read : Reader X) (P : X → List Bool → Type 0) (R : X → Type 0) → Tells a read P R → (o : Option X) (s t : Spot) → IsBytes s.bytes → IsAligned a s → (below_at 2 a fault.BadPlace s >>= λ told. optional told read) ≡ given (o, t) → Told a (SpellsOptional a P o) s t × IfSome o R
 optional_told a read P R tells o s t fits whole e =
-    let b = bind_ok (place_at 1 a 2 s) (λ told. optional told read) (o, t) e in
+    let b = bind_ok (below_at 2 a fault.BadPlace s) (λ told. optional told read) (o, t) e in
     let p = told_told b.0.0 a s b.0.1 fits whole b.1 in
     optional_case a read P R tells b.0.0 o s t b.0.1 p.1 p.0 b.2
 
@@ -185,8 +186,8 @@ unsigned_again v a s text more fits whole u e =
       aligned = octets_keep a (length u.octets) s (moved s (8 * length u.octets)) whole refl;
     }
 
-pub told_again : (v : ℕ) (a : Align) (s : Spot) (text more : List Bool) → IsBytes s.bytes → IsAligned a s → v < 2 → SpellsNumber a 1 v text → rest s ≡ text ++ more → Again ℕ a (place_at 1 a 2 s) v s text more
-unfolding place_at
+pub told_again : (v : ℕ) (a : Align) (s : Spot) (text more : List Bool) → IsBytes s.bytes → IsAligned a s → v < 2 → SpellsNumber a 1 v text → rest s ≡ text ++ more → Again ℕ a (below_at 2 a fault.BadPlace s) v s text more
+unfolding below_at width_from
 told_again v a s text more fits whole lt is e =
     let f = field_again 1 v a s text more fits whole lt is e in record {
       next = f.next;
@@ -208,7 +209,7 @@ joined s t u p q text is f g = subst (λ (x : List Bool). Front s x u) (sym is) 
 abbrev pub Reread : {X : Type 0} → Align → Reader X → (X → List Bool → Type 0) → X → Type 0
 Reread {X} a read P x = (s : Spot) (text more : List Bool) → IsBytes s.bytes → IsAligned a s → P x text → rest s ≡ text ++ more → Again X a (read s) x s text more
 
-pub optional_again : {X : Type 0} → (a : Align) (read : Reader X) (P : X → List Bool → Type 0) (o : Option X) → IfSome o (λ x. Reread a read P x) → (s : Spot) (text more : List Bool) → IsBytes s.bytes → IsAligned a s → SpellsOptional a P o text → rest s ≡ text ++ more → Again (Option X) a (place_at 1 a 2 s >>= λ told. optional told read) o s text more
+pub optional_again : {X : Type 0} → (a : Align) (read : Reader X) (P : X → List Bool → Type 0) (o : Option X) → IfSome o (λ x. Reread a read P x) → (s : Spot) (text more : List Bool) → IsBytes s.bytes → IsAligned a s → SpellsOptional a P o text → rest s ≡ text ++ more → Again (Option X) a (below_at 2 a fault.BadPlace s >>= λ told. optional told read) o s text more
 optional_again a read P None again s text more fits whole is e =
     let f = told_again 0 a s text more fits whole (omega arith) is e in record {
       next = f.next;

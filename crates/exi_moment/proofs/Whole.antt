@@ -7,7 +7,7 @@ use Rattle.exi_bits.specs.declared.align.Align.{Align}
 use Rattle.exi_bits.specs.declared.fault.Fault.{Fault}
 use Rattle.exi_bits.specs.declared.fault.Kind.TheVariants as fault
 use Rattle.exi_bits.specs.Bits.{Spot, IsAligned, IsBytes, bits, moved, number, number_bits, rest, value_of}
-use Rattle.exi_bits.specs.Unsigned.{◌>>=◌, fault_at, field_at, place_at, shortest, unsigned_at}
+use Rattle.exi_bits.specs.Unsigned.{◌>>=◌, fault_at, field_at, below_at, shortest, unsigned_at}
 use Rattle.exi_bits.proofs.BitLaws.{number_bits-value_of, value_of_below}
 use Rattle.exi_bits.proofs.InBytes.{rest_behind}
 use Rattle.exi_bits.proofs.UnsignedLaws.{shortest_spelled}
@@ -48,7 +48,7 @@ as_integer a (suc (suc v)) n s t lt told = absurd (omega arith)
 year_tells : (a : Align) → Tells a (year_at a) (SpellsYear a) (λ y. IsTrue (is_year y))
 unfolding year_at
 year_tells a y s t fits whole e =
-    let b = bind_ok (place_at 1 a 2 s) year_behind (y, t) e in
+    let b = bind_ok (below_at 2 a fault.BadPlace s) year_behind (y, t) e in
     let sign = told_told b.0.0 a s b.0.1 fits whole b.1 in
     let c = bind_ok (unsigned_at b.0.1) (year_in b.0) (y, t) b.2 in
     let size = unsigned_told c.0.0 a b.0.1 c.0.1 sign.0.fits sign.0.aligned c.1 in

@@ -5,7 +5,7 @@ use Rattle.exi_bits.specs.declared.fault.Fault.{Fault}
 use Rattle.exi_bits.specs.declared.fault.Kind.TheVariants as fault
 use Rattle.exi_bits.specs.Bits.{Spot}
 use Rattle.exi_bits.specs.Repeat.{Reader}
-use Rattle.exi_bits.specs.Unsigned.{◌>>=◌, fault_at, field_at, place_at, unsigned_at}
+use Rattle.exi_bits.specs.Unsigned.{◌>>=◌, fault_at, field_at, below_at, unsigned_at}
 use Rattle.exi_names.specs.declared.moment.Moment.{Moment}
 use Rattle.exi_names.specs.declared.moment.MomentKind.{MomentKind}
 use Rattle.exi_moment.specs.Parts.{fields, has_month_day, is_month_day, is_time, is_year}
@@ -47,7 +47,7 @@ where_it_counts false none read = λ s. Ok (none, s)
 -- an Integer with the year's distance from 2000: its own faults come first
 unfoldable pub year_at : Align → Spot → Result (ℤ × Spot) Fault
 year_at a s = do
-  sign ← place_at 1 a 2 s
+  sign ← below_at 2 a fault.BadPlace s
   size ← unsigned_at sign.1
   if nat_lt size.0 (2 ^ 127) then in_range sign.1 size.1 (year_of (sign.0 == 1) size.0) else fault_at fault.TooWide sign.1
 
@@ -67,7 +67,7 @@ optional told read = if told.0 == 0 then Ok (None, told.1) else (read told.1 >>=
 -- the digits in reverse
 unfoldable pub fraction_at : Align → Spot → Result (Option ℕ × Spot) Fault
 fraction_at a s = do
-  told ← place_at 1 a 2 s
+  told ← below_at 2 a fault.BadPlace s
   optional told unsigned_at
 
 unfoldable pub offset_at : Align → Spot → Result (ℤ × Spot) Fault
@@ -77,7 +77,7 @@ offset_at a s = do
 
 unfoldable pub zone_at : Align → Spot → Result (Option ℤ × Spot) Fault
 zone_at a s = do
-  told ← place_at 1 a 2 s
+  told ← below_at 2 a fault.BadPlace s
   optional told (offset_at a)
 
 -- ---- the moment

@@ -26,7 +26,7 @@ fn read_year(input: &mut BitIn<'_>, align: Align) -> Result<i64, Fault>
     ensures bytes { input.new.bytes ≡ input.old.bytes }
     ensures aligned { IsAligned align input.new }
 {
-    let minus = input.place(1, align, 2)? == 1;
+    let minus = input.below(2, align, Kind::BadPlace)? == 1;
     let bit = input.at();
     let size = input.unsigned()?;
     if size >= 1 << 127 {
@@ -69,7 +69,7 @@ fn read_fraction(input: &mut BitIn<'_>, align: Align) -> Result<Option<u128>, Fa
     ensures bytes { input.new.bytes ≡ input.old.bytes }
     ensures aligned { IsAligned align input.new }
 {
-    if input.place(1, align, 2)? == 0 {
+    if input.below(2, align, Kind::BadPlace)? == 0 {
         return Ok(None);
     }
     let digits = input.unsigned()?;
@@ -95,7 +95,7 @@ fn read_zone(input: &mut BitIn<'_>, align: Align) -> Result<Option<i16>, Fault>
     ensures bytes { input.new.bytes ≡ input.old.bytes }
     ensures aligned { IsAligned align input.new }
 {
-    if input.place(1, align, 2)? == 0 {
+    if input.below(2, align, Kind::BadPlace)? == 0 {
         return Ok(None);
     }
     let zone = read_offset(input, align)?;
@@ -213,7 +213,7 @@ pub fn read_moment(input: &mut BitIn<'_>, kind: MomentKind, align: Align) -> Res
     match moment_parts(input, kind, align) {
         Ok(moment) => Ok(moment),
         Err(fault) => {
-            input.back(start);
+            input.go_to_bit(start);
             Err(fault)
         }
     }

@@ -3,10 +3,11 @@ use Rattle.std.proofs.Common.{◌≡◌, ℕ, zero, suc, ◌+◌, ◌-◌, ◌�
 use Rattle.std.specs.Prelude.{slice_get}
 use Rattle.exi_bits.specs.declared.align.Align.{Align}
 use Rattle.exi_bits.specs.declared.fault.Fault.{Fault}
+use Rattle.exi_bits.specs.declared.fault.Kind.{Kind}
 use Rattle.exi_bits.specs.declared.fault.Kind.TheVariants as kind
 use Rattle.exi_bits.specs.Bits.{Spot, moved, number_at, value_at as number_value, left, taken}
 use Rattle.exi_bits.specs.Repeat.{Reader, times}
-use Rattle.exi_bits.specs.Unsigned.{◌>>=◌, at_spot, field_at, needed, place_at, unsigned_at}
+use Rattle.exi_bits.specs.Unsigned.{◌>>=◌, at_spot, field_at, needed, below_at, unsigned_at}
 use Rattle.exi_bits.specs.Widths.{width_for}
 use Rattle.exi_bits.proofs.UnsignedLaws.{unsigned_spelled}
 use Rattle.exi_gram.specs.Codes.{Productions, Second, code_at, first_told, first_values, group, member_at, part_at, second_at, second_told, single, told}
@@ -75,9 +76,9 @@ tested_ahead {X} read test fault ahead s t x e =
     let k = guard_is (test b.0.0) b.0 (x, t) (fault s b.0) b.2 in
     ahead s t x (b.1 ∙ ap (λ (z : X × Spot). good z) k)
 
-pub place_ahead : (n : ℕ) (a : Align) (count : ℕ) → GoesAhead (place_at n a count)
-unfolding place_at
-place_ahead n a count = tested_ahead (field_at n a) (λ v. ltb v count) (λ s x. record { kind = kind.BadPlace; bit = s.place }) (field_ahead n a)
+pub below_ahead : (count : ℕ) (a : Align) (k : Kind) → GoesAhead (below_at count a k)
+unfolding below_at
+below_ahead count a k = tested_ahead (field_at (width_for count) a) (λ v. ltb v count) (λ s x. record { kind = k; bit = s.place }) (field_ahead (width_for count) a)
 
 pub part_ahead : (count : ℕ) (a : Align) → GoesAhead (part_at count a)
 unfolding part_at
@@ -220,7 +221,7 @@ placed_onward s None c d x e = absurd cc
 
 pub hit_onward : (a : Align) (partition : List (List ℕ)) → GoesOnward (hit_at a partition)
 unfolding hit_at
-hit_onward a partition = onward_behind (place_at (width_for (length partition)) a (length partition)) (λ c place. placed_at c.spot (live_at partition place)) (place_ahead (width_for (length partition)) a (length partition)) (λ c place. placed_onward c.spot (live_at partition place))
+hit_onward a partition = onward_behind (below_at (length partition) a kind.BadPlace) (λ c place. placed_at c.spot (live_at partition place)) (below_ahead (length partition) a kind.BadPlace) (λ c place. placed_onward c.spot (live_at partition place))
 
 chars_is : (set : Option (List ℕ)) (a : Align) (count : ℕ) (c d : Charged) (x : List ℕ) → chars_at set a count c ≡ good (x, d) → (times (char_at set a) count c.spot ≡ good (x, d.spot)) × (with_text c.meter count ≡ d.meter)
 unfolding chars_at
@@ -254,9 +255,9 @@ literal_onward a grow = onward_behind unsigned_at (λ c count. missed_at None a 
 pub indexed_onward : (a : Align) (partition : List (List ℕ)) (grow : Growth) → GoesOnward (indexed_at a partition grow)
 unfolding indexed_at
 indexed_onward a partition grow =
-    onward_behind (place_at (width_for (length partition + 1)) a (length partition + 1))
+    onward_behind (below_at (length partition + 1) a kind.BadPlace)
     (λ c code d. cond (eqb code 0) (literal_at a grow d) (placed_at c.spot (live_at partition (code - 1)) d))
-    (place_ahead (width_for (length partition + 1)) a (length partition + 1))
+    (below_ahead (length partition + 1) a kind.BadPlace)
     (λ c code. onward_either (eqb code 0) (literal_at a grow) (placed_at c.spot (live_at partition (code - 1))) (literal_onward a grow) (placed_onward c.spot (live_at partition (code - 1))))
 
 -- ---- names
@@ -320,12 +321,12 @@ pub declaration_onward : (a : Align) → GoesOnward (declaration_at a)
 unfolding declaration_at
 declaration_onward a =
     onward_bind (uri_at a)
-    (λ uri c. indexed_at a (prefixes c.beside.tables (place_in (uris c.beside.tables) uri)) (λ p. with_prefix p (place_in (uris c.beside.tables) uri)) c >>= λ prefix. failing prefix.1.beside.meter (place_at 1 a 2 prefix.1.spot) >>= λ flag. good (declared uri prefix.0 flag.0, at_spot_of prefix.1 flag.1))
+    (λ uri c. indexed_at a (prefixes c.beside.tables (place_in (uris c.beside.tables) uri)) (λ p. with_prefix p (place_in (uris c.beside.tables) uri)) c >>= λ prefix. failing prefix.1.beside.meter (below_at 2 a kind.BadPlace prefix.1.spot) >>= λ flag. good (declared uri prefix.0 flag.0, at_spot_of prefix.1 flag.1))
     (uri_onward a)
     (λ uri. onward_bind (λ c. indexed_at a (prefixes c.beside.tables (place_in (uris c.beside.tables) uri)) (λ p. with_prefix p (place_in (uris c.beside.tables) uri)) c)
-    (λ prefix d. failing d.beside.meter (place_at 1 a 2 d.spot) >>= λ flag. good (declared uri prefix flag.0, at_spot_of d flag.1))
+    (λ prefix d. failing d.beside.meter (below_at 2 a kind.BadPlace d.spot) >>= λ flag. good (declared uri prefix flag.0, at_spot_of d flag.1))
     (λ c d x e. indexed_onward a (prefixes c.beside.tables (place_in (uris c.beside.tables) uri)) (λ p. with_prefix p (place_in (uris c.beside.tables) uri)) c d x e)
-    (λ prefix. onward_behind (place_at 1 a 2) (λ d flag e. good (declared uri prefix flag, e)) (place_ahead 1 a 2) (λ d flag. given_onward (declared uri prefix flag))))
+    (λ prefix. onward_behind (below_at 2 a kind.BadPlace) (λ d flag e. good (declared uri prefix flag, e)) (below_ahead 2 a kind.BadPlace) (λ d flag. given_onward (declared uri prefix flag))))
 
 pub value_onward : (set : Option (List ℕ)) (a : Align) (name : NameId) → GoesOnward (value_at set a name)
 unfolding value_at

@@ -6,7 +6,7 @@ use Rattle.exi_bits.specs.declared.fault.Fault.{Fault}
 use Rattle.exi_bits.specs.declared.fault.Kind.{Kind}
 use Rattle.exi_bits.specs.declared.fault.Kind.TheVariants as kind
 use Rattle.exi_bits.specs.Bits.{Spot}
-use Rattle.exi_bits.specs.Unsigned.{◌>>=◌, place_at, unsigned_at}
+use Rattle.exi_bits.specs.Unsigned.{◌>>=◌, below_at, unsigned_at}
 use Rattle.exi_bits.specs.Repeat.{times}
 use Rattle.exi_bits.specs.Widths.{width_for}
 use Rattle.exi_builtin.specs.Learning.{is_type}
@@ -94,7 +94,7 @@ placed_within s None limits c w = w
 
 hit_within : (a : Align) (partition : List (List ℕ)) → StaysWithin (hit_at a partition)
 unfolding hit_at
-hit_within a partition limits c w = fine_behind limits c (place_at (width_for (length partition)) a (length partition) c.spot) (λ (place : ℕ). placed_at c.spot (live_at partition place)) w (λ place. placed_within c.spot (live_at partition place))
+hit_within a partition limits c w = fine_behind limits c (below_at (length partition) a kind.BadPlace c.spot) (λ (place : ℕ). placed_at c.spot (live_at partition place)) w (λ place. placed_within c.spot (live_at partition place))
 
 -- ---- a miss
 abbrev missing : Growth → Course → List ℕ × Charged → Course
@@ -126,7 +126,7 @@ literal_within a grow limits c w = fine_behind limits c (unsigned_at c.spot) (λ
 indexed_within : (a : Align) (partition : List (List ℕ)) (grow : Growth) → StaysWithin (indexed_at a partition grow)
 unfolding indexed_at
 indexed_within a partition grow limits c w =
-    fine_behind limits c (place_at (width_for (length partition + 1)) a (length partition + 1) c.spot)
+    fine_behind limits c (below_at (length partition + 1) a kind.BadPlace c.spot)
     (λ (code : ℕ) d. cond (eqb code 0) (literal_at a grow d) (placed_at c.spot (live_at partition (code - 1)) d)) w
     (λ code. within_either (eqb code 0) (literal_at a grow) (placed_at c.spot (live_at partition (code - 1))) (literal_within a grow) (placed_within c.spot (live_at partition (code - 1))))
 
@@ -189,17 +189,17 @@ name_value_within keep a limits c w = fine_paying limits c 1 c.spot.place (text_
 abbrev declared : List ℕ → List ℕ → ℕ → Declaration
 declared uri prefix flag = record { uri = uri; prefix = prefix; element = eqb flag 1 }
 
-flag_within : (a : Align) (uri prefix : List ℕ) → StaysWithin {X = Declaration} (λ d. failing d.beside.meter (place_at 1 a 2 d.spot) >>= λ flag. Ok (declared uri prefix flag.0, at_spot_of d flag.1))
-flag_within a uri prefix limits d w = fine_behind limits d (place_at 1 a 2 d.spot) (λ (flag : ℕ) e. Ok (declared uri prefix flag, e)) w (λ flag. within_given (declared uri prefix flag))
+flag_within : (a : Align) (uri prefix : List ℕ) → StaysWithin {X = Declaration} (λ d. failing d.beside.meter (below_at 2 a kind.BadPlace d.spot) >>= λ flag. Ok (declared uri prefix flag.0, at_spot_of d flag.1))
+flag_within a uri prefix limits d w = fine_behind limits d (below_at 2 a kind.BadPlace d.spot) (λ (flag : ℕ) e. Ok (declared uri prefix flag, e)) w (λ flag. within_given (declared uri prefix flag))
 
 declaration_within : (a : Align) → StaysWithin (declaration_at a)
 unfolding declaration_at
 declaration_within a =
     within_bind (uri_at a)
-    (λ uri c. indexed_at a (prefixes_of c.beside.tables (place_in (uris c.beside.tables) uri)) (λ p. with_prefix p (place_in (uris c.beside.tables) uri)) c >>= λ prefix. failing prefix.1.beside.meter (place_at 1 a 2 prefix.1.spot) >>= λ flag. Ok (declared uri prefix.0 flag.0, at_spot_of prefix.1 flag.1))
+    (λ uri c. indexed_at a (prefixes_of c.beside.tables (place_in (uris c.beside.tables) uri)) (λ p. with_prefix p (place_in (uris c.beside.tables) uri)) c >>= λ prefix. failing prefix.1.beside.meter (below_at 2 a kind.BadPlace prefix.1.spot) >>= λ flag. Ok (declared uri prefix.0 flag.0, at_spot_of prefix.1 flag.1))
     (uri_within a)
     (λ uri. within_bind (λ c. indexed_at a (prefixes_of c.beside.tables (place_in (uris c.beside.tables) uri)) (λ p. with_prefix p (place_in (uris c.beside.tables) uri)) c)
-    (λ prefix d. failing d.beside.meter (place_at 1 a 2 d.spot) >>= λ flag. Ok (declared uri prefix flag.0, at_spot_of d flag.1))
+    (λ prefix d. failing d.beside.meter (below_at 2 a kind.BadPlace d.spot) >>= λ flag. Ok (declared uri prefix flag.0, at_spot_of d flag.1))
     (λ limits c w. indexed_within a (prefixes_of c.beside.tables (place_in (uris c.beside.tables) uri)) (λ p. with_prefix p (place_in (uris c.beside.tables) uri)) limits c w)
     (λ prefix. flag_within a uri prefix))
 

@@ -20,7 +20,7 @@ fn read_char(input: &mut BitIn<'_>) -> Result<char, Fault>
     if let Some(c) = xml_char(code) {
         return Ok(c);
     }
-    input.back(bit);
+    input.go_to_bit(bit);
     Err(Fault {
         kind: Kind::NotBuilt,
         bit,
@@ -62,7 +62,7 @@ fn read_below(input: &mut BitIn<'_>, count: u64) -> Result<u64, Fault>
     if value < count {
         return Ok(value);
     }
-    input.back(bit);
+    input.go_to_bit(bit);
     Err(Fault {
         kind: Kind::NotBuilt,
         bit,

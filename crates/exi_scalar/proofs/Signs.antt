@@ -6,19 +6,20 @@ use Rattle.exi_bits.specs.declared.align.Align.TheVariants as align
 use Rattle.exi_bits.specs.declared.fault.Fault.{Fault}
 use Rattle.exi_bits.specs.declared.fault.Kind.TheVariants as kind
 use Rattle.exi_bits.specs.Bits.{Spot, bits, number, taken}
-use Rattle.exi_bits.specs.Unsigned.{◌>>=◌, place_at, shortest, unsigned_at}
+use Rattle.exi_bits.specs.Unsigned.{◌>>=◌, below_at, shortest, unsigned_at}
+use Rattle.exi_bits.specs.Widths.{width_for, width_from}
 use Rattle.exi_bits.proofs.BitLaws.{pow_up}
 use Rattle.exi_bits.proofs.UnsignedLaws.{shortest_spelled}
 use Rattle.exi_items.specs.Spellings.{Made, SpellsUnsigned, Then}
-use Rattle.exi_items.proofs.Items.{Item, given, item_made, item_place, item_same, item_spelled, item_tested, item_then, item_unsigned, then_made}
+use Rattle.exi_items.proofs.Items.{Item, given, item_made, item_below, item_same, item_spelled, item_tested, item_then, item_unsigned, then_made}
 use Rattle.exi_names.specs.Seen.{Value, text, boolean, integer, decimal, float, moment, binary, items, name}
 use Rattle.exi_names.specs.Wholes.{Number}
 use Rattle.exi_scalar.specs.Scalars.{IsBoolean, IsFloat, IsInteger, bit_at, boolean_at, boolean_bits, decimal_at, decimal_bits, float_at, float_bits, float_of, integer_at, integer_bits, one_if, pair_at, parts_of, parts_of_int, signed_at, signed_bits, small_at, whole_of}
 use Rattle.exi_scalar.specs.Spelled.{SpellsBit, SpellsBoolean, SpellsDecimal, SpellsFloat, SpellsInteger, SpellsSigned}
 
 -- ---- a bit
-Places : ℕ → Align → ℕ → ℕ → List Bool → Type 0
-Places n a count v line = (ltb v count ≡ true) × ((line ≡ number n a v) × (v < 2 ^ taken n a))
+Places : ℕ → Align → ℕ → List Bool → Type 0
+Places count a v line = (ltb v count ≡ true) × ((line ≡ number (width_for count) a v) × (v < 2 ^ taken (width_for count) a))
 
 narrow : (n : ℕ) (a : Align) → n ≤ taken n a
 narrow n align.Bits = omega arith
@@ -31,21 +32,21 @@ one_fits false align.Bytes = omega arith
 one_fits true align.Bytes = omega arith
 
 pub item_bit : (a : Align) → Item {X = Bool} a (bit_at a) (SpellsBit a)
-unfolding bit_at Places
-item_bit a = item_spelled a (bit_at a) (Made (λ v. eqb v 1) (Places 1 a 2)) (SpellsBit a) to from (item_made a (place_at 1 a 2) (Places 1 a 2) (λ v. eqb v 1) (item_place 1 a 2))
+unfolding bit_at Places width_from
+item_bit a = item_spelled a (bit_at a) (Made (λ v. eqb v 1) (Places 2 a)) (SpellsBit a) to from (item_made a (below_at 2 a kind.BadPlace) (Places 2 a) (λ v. eqb v 1) (item_below 2 a kind.BadPlace))
   where
     bit_of : (v : ℕ) → v < 2 → one_if (eqb v 1) ≡ v
     bit_of zero lt = refl
     bit_of (suc zero) lt = refl
     bit_of (suc (suc v)) lt = absurd (omega arith)
 
-    to : (b : Bool) (line : List Bool) → Made (λ v. eqb v 1) (Places 1 a 2) b line → SpellsBit a b line
+    to : (b : Bool) (line : List Bool) → Made (λ v. eqb v 1) (Places 2 a) b line → SpellsBit a b line
     to b line m =
         let lt : m.from < 2 = ltb-true m.from 2 m.spelled.0 in
         let e : one_if b ≡ m.from = ap one_if (sym m.is) ∙ bit_of m.from lt in
         m.spelled.1.0 ∙ ap (λ (v : ℕ). number 1 a v) (sym e)
 
-    from : (b : Bool) (line : List Bool) → SpellsBit a b line → Made (λ v. eqb v 1) (Places 1 a 2) b line
+    from : (b : Bool) (line : List Bool) → SpellsBit a b line → Made (λ v. eqb v 1) (Places 2 a) b line
     from false line e = record { from = 0; is = refl; spelled = (refl, (e, one_fits false a)) }
     from true line e = record { from = 1; is = refl; spelled = (refl, (e, one_fits true a)) }
 
@@ -201,8 +202,8 @@ pair_below false true = refl
 pair_below true false = refl
 pair_below true true = refl
 
-spells_pair : (a : Align) (v : Value) (line : List Bool) → SpellsBoolean true a v line → Made pair_of (Places 2 a 4) v line
-unfolding Places
+spells_pair : (a : Align) (v : Value) (line : List Bool) → SpellsBoolean true a v line → Made pair_of (Places 4 a) v line
+unfolding Places width_from
 spells_pair a (boolean t d) line h = record { from = 2 * one_if t + one_if d; is = pair_made t d; spelled = (pair_below t d, (h, four_fit t d a)) }
 spells_pair a (text t) line h = absurd h
 spells_pair a (integer n) line h = absurd h
@@ -221,14 +222,14 @@ pair_back (suc (suc zero)) lt = refl
 pair_back (suc (suc (suc zero))) lt = refl
 pair_back (suc (suc (suc (suc n)))) lt = absurd (omega arith)
 
-spelled_pair : (a : Align) (v : Value) (line : List Bool) → Made pair_of (Places 2 a 4) v line → SpellsBoolean true a v line
-unfolding pair_of Places
+spelled_pair : (a : Align) (v : Value) (line : List Bool) → Made pair_of (Places 4 a) v line → SpellsBoolean true a v line
+unfolding pair_of Places width_from
 spelled_pair a v line m = subst (λ (w : Value). SpellsBoolean true a w line) m.is (m.spelled.1.0 ∙ ap (λ (n : ℕ). number 2 a n) (sym (pair_back m.from (ltb-true m.from 4 m.spelled.0))))
 
 pub item_boolean : (pattern : Bool) (a : Align) → Item {X = Value} a (boolean_at pattern a) (SpellsBoolean pattern a)
 unfolding boolean_at pair_at plain_of pair_of Places
 item_boolean false a = item_spelled a (boolean_at false a) (Made plain_of (SpellsBit a)) (SpellsBoolean false a) (spelled_plain a) (spells_plain a) (item_made a (bit_at a) (SpellsBit a) plain_of (item_bit a))
-item_boolean true a = item_spelled a (boolean_at true a) (Made pair_of (Places 2 a 4)) (SpellsBoolean true a) (spelled_pair a) (spells_pair a) (item_made a (place_at 2 a 4) (Places 2 a 4) pair_of (item_place 2 a 4))
+item_boolean true a = item_spelled a (boolean_at true a) (Made pair_of (Places 4 a)) (SpellsBoolean true a) (spelled_pair a) (spells_pair a) (item_made a (below_at 4 a kind.BadPlace) (Places 4 a) pair_of (item_below 4 a kind.BadPlace))
 
 -- ---- what is written
 pub boolean_written : (pattern : Bool) (a : Align) (v : Value) → IsBoolean pattern v → SpellsBoolean pattern a v (boolean_bits pattern a v)

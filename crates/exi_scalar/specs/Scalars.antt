@@ -6,7 +6,7 @@ use Rattle.exi_bits.specs.declared.fault.Fault.{Fault}
 use Rattle.exi_bits.specs.declared.fault.Kind.TheVariants as kind
 use Rattle.exi_bits.specs.Bits.{Spot, bits, number}
 use Rattle.exi_bits.specs.Repeat.{Reader, times}
-use Rattle.exi_bits.specs.Unsigned.{◌>>=◌, fault_at, field_at, place_at, shortest, unsigned_at}
+use Rattle.exi_bits.specs.Unsigned.{◌>>=◌, fault_at, field_at, below_at, shortest, unsigned_at}
 use Rattle.exi_items.specs.Charges.{Charged, text_charge, after_text}
 use Rattle.exi_meter.specs.Metering.{Metering}
 use Rattle.exi_names.specs.Wholes.{Number}
@@ -21,12 +21,12 @@ one_if true = 1
 -- one bit
 unfoldable pub bit_at : Align → Reader Bool
 bit_at a s = do
-  bit ← place_at 1 a 2 s
+  bit ← below_at 2 a kind.BadPlace s
   Ok (bit.0 == 1, bit.1)
 
 -- two bits, where the datatype has a pattern: 0 `false`, 1 `0`, 2 `true`, 3 `1`
 unfoldable pub pair_at : Align → Reader ℕ
-pair_at a s = place_at 2 a 4 s
+pair_at a s = below_at 4 a kind.BadPlace s
 
 unfoldable pub boolean_at : Bool → Align → Reader Value
 boolean_at false a s = do

@@ -86,7 +86,7 @@ pub fn read_binary(
     match binary(alloc, input, hex, align, meter) {
         Ok(value) => Ok(value),
         Err(stop) => {
-            input.back(start);
+            input.go_to_bit(start);
             if let Stop::Memory = stop {
                 *meter = before;
             }

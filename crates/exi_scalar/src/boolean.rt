@@ -6,7 +6,7 @@ ghost use Rattle.exi_names.specs.Seen.{seen};
 ghost use Rattle.exi_scalar.specs.Scalars.{IsBoolean, boolean_at, boolean_bits};
 
 use crate::signed::{put_bit, read_bit};
-use exi_bits::{Align, BitIn, BitOut, Fault};
+use exi_bits::{Align, BitIn, BitOut, Fault, Kind};
 use exi_names::Val;
 use std::alloc::AllocError;
 
@@ -31,7 +31,7 @@ pub fn read_boolean(input: &mut BitIn<'_>, pattern: bool, align: Align) -> Resul
         let yes = read_bit(input, align)?;
         return Ok(Val::Bool { yes, digit: false });
     }
-    let which = input.place(2, align, 4)?;
+    let which = input.below(4, align, Kind::BadPlace)?;
     Ok(Val::Bool {
         yes: which >= 2,
         digit: which % 2 == 1,

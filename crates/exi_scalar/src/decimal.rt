@@ -46,7 +46,7 @@ pub fn read_decimal(input: &mut BitIn<'_>, align: Align) -> Result<Val, Fault>
     match decimal_parts(input, align) {
         Ok(value) => Ok(value),
         Err(fault) => {
-            input.back(start);
+            input.go_to_bit(start);
             Err(fault)
         }
     }

@@ -107,7 +107,7 @@ pub fn read_float(input: &mut BitIn<'_>, align: Align) -> Result<Val, Fault>
     match float_parts(input, align) {
         Ok(value) => Ok(value),
         Err(fault) => {
-            input.back(start);
+            input.go_to_bit(start);
             Err(fault)
         }
     }

@@ -56,7 +56,7 @@ pub fn read_integer(input: &mut BitIn<'_>, align: Align) -> Result<Whole, Fault>
     match integer(input, align) {
         Ok(whole) => Ok(whole),
         Err(fault) => {
-            input.back(start);
+            input.go_to_bit(start);
             Err(fault)
         }
     }

@@ -18,7 +18,7 @@ pub fn read_bit(input: &mut BitIn<'_>, align: Align) -> Result<bool, Fault>
     ensures bytes { input.new.bytes ≡ input.old.bytes }
     ensures aligned { IsAligned align input.new }
 {
-    let bit = input.place(1, align, 2)?;
+    let bit = input.below(2, align, Kind::BadPlace)?;
     Ok(bit == 1)
 }
 

@@ -28,7 +28,7 @@ fn code(input: &mut BitIn<'_>) -> Result<char, Fault>
     match xml_char(code) {
         Some(c) => Ok(c),
         None => {
-            input.back(bit);
+            input.go_to_bit(bit);
             Err(Fault {
                 kind: Kind::BadChar,
                 bit,
@@ -154,7 +154,7 @@ pub fn read_chars(
     match charged_chars(alloc, input, count, set, align, meter) {
         Ok(text) => Ok(text),
         Err(stop) => {
-            input.back(start);
+            input.go_to_bit(start);
             if let Stop::Memory = stop {
                 *meter = before;
             }

@@ -3,10 +3,11 @@ use Rattle.std.proofs.Common.{◌≡◌, ℕ, zero, suc, ◌+◌, ◌-◌, ◌�
 use Rattle.std.proofs.lemmas.Bool.{leb-true}
 use Rattle.exi_bits.specs.declared.align.Align.{Align}
 use Rattle.exi_bits.specs.declared.fault.Fault.{Fault}
+use Rattle.exi_bits.specs.declared.fault.Kind.{Kind}
 use Rattle.exi_bits.specs.declared.fault.Kind.TheVariants as kind
 use Rattle.exi_bits.specs.Bits.{Spot, left, moved, number_at, taken, value_at as number_there}
 use Rattle.exi_bits.specs.Repeat.{Reader, times}
-use Rattle.exi_bits.specs.Unsigned.{◌>>=◌, at_spot, field_at, needed, place_at, unsigned_at}
+use Rattle.exi_bits.specs.Unsigned.{◌>>=◌, at_spot, field_at, needed, below_at, unsigned_at}
 use Rattle.exi_bits.specs.Widths.{width_for}
 use Rattle.exi_bits.proofs.Spelled.{guard_some}
 use Rattle.exi_bits.proofs.UnsignedLaws.{unsigned_spelled}
@@ -46,12 +47,12 @@ field_goes n a q s r =
     let g = guard_some (ltb (left s) (taken n a)) (number_there n a s, moved s (taken n a)) q (field_some (number_at n a s) s q r) in
     subst (λ (z : ℕ × Spot). Further s z.1) g.1 (record { bytes = refl; place = omega arith })
 
-place_goes : (n : ℕ) (a : Align) (count : ℕ) → GoesFurther (place_at n a count)
-unfolding place_at
-place_goes n a count q s r =
-    let u = bind_fine (field_at n a s) (λ (x : ℕ × Spot). cond (ltb x.0 count) (fine x) (Err (record { kind = kind.BadPlace; bit = s.place }))) q r in
-    let g = guard_fine (ltb u.0.0 count) u.0 q (record { kind = kind.BadPlace; bit = s.place }) u.2 in
-    subst (λ (z : ℕ × Spot). Further s z.1) g.1 (field_goes n a u.0 s u.1)
+below_goes : (count : ℕ) (a : Align) (k : Kind) → GoesFurther (below_at count a k)
+unfolding below_at
+below_goes count a k q s r =
+    let u = bind_fine (field_at (width_for count) a s) (λ (x : ℕ × Spot). cond (ltb x.0 count) (fine x) (Err (record { kind = k; bit = s.place }))) q r in
+    let g = guard_fine (ltb u.0.0 count) u.0 q (record { kind = k; bit = s.place }) u.2 in
+    subst (λ (z : ℕ × Spot). Further s z.1) g.1 (field_goes (width_for count) a u.0 s u.1)
 
 unsigned_goes : GoesFurther unsigned_at
 unsigned_goes q s r = let k = unsigned_spelled q.0 s q.1 r in record { bytes = k.2.bytes; place = omega (arith, k.2.place) }
@@ -175,7 +176,7 @@ placed_goes s (Some text) x c d r = paying_goes (length text) (λ e. told {X = L
 hit_goes : (a : Align) (partition : List (List ℕ)) → GoesOnward {X = List ℕ} (hit_at a partition)
 unfolding hit_at
 hit_goes a partition x c d r =
-    behind_goes (place_at (width_for (length partition)) a (length partition)) (λ place. placed_at c.spot (live_at partition place)) (place_goes (width_for (length partition)) a (length partition)) (λ place. placed_goes c.spot (live_at partition place)) x c d r
+    behind_goes (below_at (length partition) a kind.BadPlace) (λ place. placed_at c.spot (live_at partition place)) (below_goes (length partition) a kind.BadPlace) (λ place. placed_goes c.spot (live_at partition place)) x c d r
 
 -- what is added keeps each place
 abbrev KeepsEach : Growth → Type 0
@@ -209,7 +210,7 @@ literal_goes a grow keeps = behind_goes unsigned_at (missed_at None a grow) unsi
 indexed_goes : (a : Align) (partition : List (List ℕ)) (grow : Growth) → KeepsEach grow → GoesOnward {X = List ℕ} (indexed_at a partition grow)
 unfolding indexed_at
 indexed_goes a partition grow keeps x c d r =
-    behind_goes (place_at (width_for (length partition + 1)) a (length partition + 1)) (λ code e. cond (eqb code 0) (literal_at a grow e) (placed_at c.spot (live_at partition (code - 1)) e)) (place_goes (width_for (length partition + 1)) a (length partition + 1))
+    behind_goes (below_at (length partition + 1) a kind.BadPlace) (λ code e. cond (eqb code 0) (literal_at a grow e) (placed_at c.spot (live_at partition (code - 1)) e)) (below_goes (length partition + 1) a kind.BadPlace)
     (λ code. chosen_goes (eqb code 0) (literal_at a grow) (placed_at c.spot (live_at partition (code - 1))) (literal_goes a grow keeps) (placed_goes c.spot (live_at partition (code - 1)))) x c d r
 
 pub uri_goes : (a : Align) → GoesOnward {X = List ℕ} (uri_at a)
@@ -279,9 +280,9 @@ module _ (a : Align) where
   pub declaration_goes : GoesOnward {X = Declaration} (declaration_at a)
   unfolding declaration_at
   declaration_goes = chained_goes (uri_at a)
-      (λ uri c. indexed_at a (prefixes c.beside.tables (space_of uri c)) (λ p. with_prefix p (space_of uri c)) c >>= λ prefix. failing prefix.1.beside.meter (place_at 1 a 2 prefix.1.spot) >>= λ flag. told {X = Declaration × Course} (declared_as uri prefix.0 flag.0, at_spot_of prefix.1 flag.1))
+      (λ uri c. indexed_at a (prefixes c.beside.tables (space_of uri c)) (λ p. with_prefix p (space_of uri c)) c >>= λ prefix. failing prefix.1.beside.meter (below_at 2 a kind.BadPlace prefix.1.spot) >>= λ flag. told {X = Declaration × Course} (declared_as uri prefix.0 flag.0, at_spot_of prefix.1 flag.1))
       (uri_goes a)
       (λ uri. chained_goes (λ c. indexed_at a (prefixes c.beside.tables (space_of uri c)) (λ p. with_prefix p (space_of uri c)) c)
-      (λ prefix c. failing c.beside.meter (place_at 1 a 2 c.spot) >>= λ flag. told {X = Declaration × Course} (declared_as uri prefix flag.0, at_spot_of c flag.1))
+      (λ prefix c. failing c.beside.meter (below_at 2 a kind.BadPlace c.spot) >>= λ flag. told {X = Declaration × Course} (declared_as uri prefix flag.0, at_spot_of c flag.1))
       (λ x c. indexed_goes a (prefixes c.beside.tables (space_of uri c)) (λ p. with_prefix p (space_of uri c)) (λ p. keeps_prefix p (space_of uri c)) x c)
-      (λ prefix. behind_goes (place_at 1 a 2) (λ flag c. told {X = Declaration × Course} (declared_as uri prefix flag, c)) (place_goes 1 a 2) (λ flag. told_goes (λ c. declared_as uri prefix flag))))
+      (λ prefix. behind_goes (below_at 2 a kind.BadPlace) (λ flag c. told {X = Declaration × Course} (declared_as uri prefix flag, c)) (below_goes 2 a kind.BadPlace) (λ flag. told_goes (λ c. declared_as uri prefix flag))))

@@ -5,9 +5,10 @@ use Rattle.std.proofs.lemmas.List.{append-nil}
 use Rattle.std.proofs.lemmas.Option.{slice_get_within}
 use Rattle.exi_bits.specs.declared.align.Align.{Align}
 use Rattle.exi_bits.specs.Bits.{number}
-use Rattle.exi_bits.specs.Unsigned.{◌>>=◌, place_at}
-use Rattle.exi_bits.specs.Widths.{width_from}
-use Rattle.exi_items.proofs.Items.{item_place}
+use Rattle.exi_bits.specs.declared.fault.Kind.TheVariants as kind
+use Rattle.exi_bits.specs.Unsigned.{◌>>=◌, below_at}
+use Rattle.exi_bits.specs.Widths.{width_for, width_from}
+use Rattle.exi_items.proofs.Items.{item_below}
 use Rattle.exi_names.specs.declared.names.NameId.{NameId}
 use Rattle.exi_names.specs.declared.names.QName.{QName}
 use Rattle.exi_tables.specs.Partitions.{live_at, locals, prefixes, uris, with_prefix}
@@ -243,11 +244,11 @@ module _ (a : Align) where
   declared uri prefix element = record { uri = uri; prefix = prefix; element = element }
 
   abbrev FlagBits : List ℕ → List ℕ → Spelling Declaration
-  FlagBits uri prefix = Behind (Below 1 a 2) (λ flag. IsPure (declared uri prefix (eqb flag 1)))
+  FlagBits uri prefix = Behind (Below (width_for 2) a 2) (λ flag. IsPure (declared uri prefix (eqb flag 1)))
 
-  item_flag : (uri prefix : List ℕ) → CourseItem {X = Declaration} a (λ c. failing c.beside.meter (place_at 1 a 2 c.spot) >>= λ flag. told {X = Declaration × Course} (declared uri prefix (eqb flag.0 1), at_spot_of c flag.1)) (FlagBits uri prefix)
-  item_flag uri prefix = behind a (place_at 1 a 2) (λ flag c. told {X = Declaration × Course} (declared uri prefix (eqb flag 1), c)) (Below 1 a 2) (λ flag. IsPure (declared uri prefix (eqb flag 1)))
-      (item_place 1 a 2) (λ flag. pure a (declared uri prefix (eqb flag 1)))
+  item_flag : (uri prefix : List ℕ) → CourseItem {X = Declaration} a (λ c. failing c.beside.meter (below_at 2 a kind.BadPlace c.spot) >>= λ flag. told {X = Declaration × Course} (declared uri prefix (eqb flag.0 1), at_spot_of c flag.1)) (FlagBits uri prefix)
+  item_flag uri prefix = behind a (below_at 2 a kind.BadPlace) (λ flag c. told {X = Declaration × Course} (declared uri prefix (eqb flag 1), c)) (Below (width_for 2) a 2) (λ flag. IsPure (declared uri prefix (eqb flag 1)))
+      (item_below 2 a kind.BadPlace) (λ flag. pure a (declared uri prefix (eqb flag 1)))
 
   abbrev flag_number : Bool → ℕ
   flag_number element = cond element 1 0
@@ -257,7 +258,7 @@ module _ (a : Align) where
   told_flag (suc zero) lt = refl
   told_flag (suc (suc n)) lt = absurd (omega arith)
 
-  flag_fits : (element : Bool) → Below 1 a 2 (flag_number element) (number 1 a (flag_number element))
+  flag_fits : (element : Bool) → Below (width_for 2) a 2 (flag_number element) (number 1 a (flag_number element))
   unfolding width_from
   flag_fits true = (refl, (refl, below_fits 2 1 a (omega arith)))
   flag_fits false = (refl, (refl, below_fits 2 0 a (omega arith)))
@@ -267,6 +268,7 @@ module _ (a : Align) where
   flag_back false = refl
 
   to_flag : (uri prefix : List ℕ) (d : Declaration) (w v : Beside) (text : List Bool) → FlagBits uri prefix d w v text → SpellsFlag a d.element w v text
+  unfolding width_from
   to_flag uri prefix d w v text z =
       let h = z.spelled in
       let told : z.from ≡ flag_number d.element = told_flag z.from (ltb-true z.from 2 h.front.0) ∙ ap (λ (e : Declaration). flag_number e.element) h.behind.is in
@@ -276,6 +278,7 @@ module _ (a : Align) where
       }
 
   from_flag : (uri prefix : List ℕ) (d : Declaration) (w v : Beside) (text : List Bool) → uri ≡ d.uri → prefix ≡ d.prefix → SpellsFlag a d.element w v text → FlagBits uri prefix d w v text
+  unfolding width_from
   from_flag uri prefix d w v text e f h =
       let is : declared uri prefix (eqb (flag_number d.element) 1) ≡ d =
       ap (λ (x : List ℕ). declared x prefix (eqb (flag_number d.element) 1)) e ∙ ap (λ (x : List ℕ). declared d.uri x (eqb (flag_number d.element) 1)) f ∙ ap (λ (b : Bool). declared d.uri d.prefix b) (flag_back d.element) in
@@ -336,11 +339,11 @@ module _ (a : Align) where
   unfolding declaration_at
   item_declaration = in_words a (declaration_at a) DeclarationBits (SpellsDeclaration a) to_declaration from_declaration
       (chained a (uri_at a)
-      (λ uri c. indexed_at a (prefixes c.beside.tables (space_at uri c.beside)) (λ p. with_prefix p (space_at uri c.beside)) c >>= λ prefix. failing prefix.1.beside.meter (place_at 1 a 2 prefix.1.spot) >>= λ flag. told {X = Declaration × Course} (declared uri prefix.0 (eqb flag.0 1), at_spot_of prefix.1 flag.1))
+      (λ uri c. indexed_at a (prefixes c.beside.tables (space_at uri c.beside)) (λ p. with_prefix p (space_at uri c.beside)) c >>= λ prefix. failing prefix.1.beside.meter (below_at 2 a kind.BadPlace prefix.1.spot) >>= λ flag. told {X = Declaration × Course} (declared uri prefix.0 (eqb flag.0 1), at_spot_of prefix.1 flag.1))
       (SpellsUri a) (λ uri. Chained (SpellsNewPrefix a uri) (FlagBits uri))
       (item_uri a)
       (λ uri. chained a (λ c. indexed_at a (prefixes c.beside.tables (space_at uri c.beside)) (λ p. with_prefix p (space_at uri c.beside)) c)
-      (λ prefix c. failing c.beside.meter (place_at 1 a 2 c.spot) >>= λ flag. told {X = Declaration × Course} (declared uri prefix (eqb flag.0 1), at_spot_of c flag.1))
+      (λ prefix c. failing c.beside.meter (below_at 2 a kind.BadPlace c.spot) >>= λ flag. told {X = Declaration × Course} (declared uri prefix (eqb flag.0 1), at_spot_of c flag.1))
       (SpellsNewPrefix a uri) (FlagBits uri)
       (indexed_in a (λ w. prefixes w.tables (space_at uri w)) (λ w p. with_prefix p (space_at uri w)))
       (item_flag uri)))

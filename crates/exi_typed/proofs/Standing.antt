@@ -5,7 +5,8 @@ use Rattle.std.proofs.lemmas.List.{map-append}
 use Rattle.std.proofs.lemmas.Option.{slice_get-get_or, slice_get_within}
 use Rattle.exi_bits.specs.declared.align.Align.{Align}
 use Rattle.exi_bits.specs.Bits.{Spot}
-use Rattle.exi_bits.specs.Unsigned.{◌>>=◌, place_at, unsigned_at}
+use Rattle.exi_bits.specs.declared.fault.Kind.TheVariants as kind
+use Rattle.exi_bits.specs.Unsigned.{◌>>=◌, below_at, unsigned_at}
 use Rattle.exi_bits.specs.Widths.{width_for}
 use Rattle.exi_items.specs.Charges.{Charged, after_text, text_charge}
 use Rattle.exi_meter.specs.Metering.{Metering}
@@ -52,7 +53,7 @@ placed_leaves s (Some text) x c d r =
 hit_leaves : (a : Align) (partition : List (List ℕ)) (x : List ℕ) (c d : Course) → hit_at a partition c ≡ told (x, d) → StandsIn partition x × (d.beside.tables ≡ c.beside.tables)
 unfolding hit_at
 hit_leaves a partition x c d r =
-    let u = bind_told (failing c.beside.meter (place_at (width_for (length partition)) a (length partition) c.spot)) (λ (place : ℕ × Spot). placed_at c.spot (live_at partition place.0) (at_spot_of c place.1)) (x, d) r in
+    let u = bind_told (failing c.beside.meter (below_at (length partition) a kind.BadPlace c.spot)) (λ (place : ℕ × Spot). placed_at c.spot (live_at partition place.0) (at_spot_of c place.1)) (x, d) r in
     let k = placed_leaves c.spot (live_at partition u.0.0) x (at_spot_of c u.0.1) d u.2 in
     ((u.0.0, k.0), k.1)
 
@@ -72,7 +73,7 @@ literal_leaves a grow x c d r =
 indexed_leaves : (a : Align) (partition : List (List ℕ)) (grow : Growth) (x : List ℕ) (c d : Course) → indexed_at a partition grow c ≡ told (x, d) → Leaves partition grow x c d
 unfolding indexed_at
 indexed_leaves a partition grow x c d r =
-    let u = bind_told (failing c.beside.meter (place_at (width_for (length partition + 1)) a (length partition + 1) c.spot)) (λ (code : ℕ × Spot). cond (eqb code.0 0) (literal_at a grow (at_spot_of c code.1)) (placed_at c.spot (live_at partition (code.0 - 1)) (at_spot_of c code.1))) (x, d) r in
+    let u = bind_told (failing c.beside.meter (below_at (length partition + 1) a kind.BadPlace c.spot)) (λ (code : ℕ × Spot). cond (eqb code.0 0) (literal_at a grow (at_spot_of c code.1)) (placed_at c.spot (live_at partition (code.0 - 1)) (at_spot_of c code.1))) (x, d) r in
     by_code (eqb u.0.0 0) u.0 u.2
   where
     by_code : (b : Bool) (p : ℕ × Spot) → cond b (literal_at a grow (at_spot_of c p.1)) (placed_at c.spot (live_at partition (p.0 - 1)) (at_spot_of c p.1)) ≡ told (x, d) → Leaves partition grow x c d

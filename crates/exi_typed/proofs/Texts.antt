@@ -6,11 +6,12 @@ use Rattle.std.proofs.lemmas.Option.{slice_get_within}
 use Rattle.exi_bits.specs.declared.align.Align.{Align}
 use Rattle.exi_bits.specs.declared.align.Align.TheVariants as align
 use Rattle.exi_bits.specs.Bits.{number, taken}
-use Rattle.exi_bits.specs.Unsigned.{◌>>=◌, place_at, unsigned_at}
+use Rattle.exi_bits.specs.declared.fault.Kind.TheVariants as kind
+use Rattle.exi_bits.specs.Unsigned.{◌>>=◌, below_at, unsigned_at}
 use Rattle.exi_bits.specs.Widths.{width_for}
 use Rattle.exi_bits.proofs.BitLaws.{pow_up}
 use Rattle.exi_items.specs.Spellings.{SpellsUnsigned}
-use Rattle.exi_items.proofs.Items.{item_place, item_unsigned}
+use Rattle.exi_items.proofs.Items.{item_below, item_unsigned}
 use Rattle.exi_names.specs.declared.names.NameId.{NameId}
 use Rattle.exi_tables.specs.Partitions.{live_at, locals, name_values, uris, values, with_local, with_uri, with_value}
 use Rattle.exi_text.proofs.Sets.{width_covers}
@@ -67,9 +68,9 @@ from_hit a partition x w v text h =
 pub item_hit : (a : Align) (partition : List (List ℕ)) → CourseItem {X = List ℕ} a (hit_at a partition) (IsHit a partition)
 unfolding hit_at
 item_hit a partition = in_words a (hit_at a partition) (HitBits a partition) (IsHit a partition) (to_hit a partition) (from_hit a partition)
-    (at_start a (λ b c. failing c.beside.meter (place_at (width_for (length partition)) a (length partition) c.spot) >>= λ place. placed_at b.spot (live_at partition place.0) (at_spot_of c place.1)) (λ w. HitBits a partition)
-    (λ b. behind a (place_at (width_for (length partition)) a (length partition)) (λ place. placed_at b.spot (live_at partition place)) (Below (width_for (length partition)) a (length partition)) (λ place. IsTold (live_at partition place))
-    (item_place (width_for (length partition)) a (length partition)) (λ place. placed a b.spot (live_at partition place))))
+    (at_start a (λ b c. failing c.beside.meter (below_at (length partition) a kind.BadPlace c.spot) >>= λ place. placed_at b.spot (live_at partition place.0) (at_spot_of c place.1)) (λ w. HitBits a partition)
+    (λ b. behind a (below_at (length partition) a kind.BadPlace) (λ place. placed_at b.spot (live_at partition place)) (Below (width_for (length partition)) a (length partition)) (λ place. IsTold (live_at partition place))
+    (item_below (length partition) a kind.BadPlace) (λ place. placed a b.spot (live_at partition place))))
 
 -- in a partition of the tables
 pub hit_in : (a : Align) (partition : Beside → List (List ℕ)) → CourseItem {X = List ℕ} a (λ c. hit_at a (partition c.beside) c) (λ x w. IsHit a (partition w) x w)
@@ -150,11 +151,11 @@ pub item_indexed : (a : Align) (partition : List (List ℕ)) (grow : Growth) →
 unfolding indexed_at
 item_indexed a partition grow = in_words a (indexed_at a partition grow) (IndexedBits a partition grow) (SpellsIndexed a partition grow) (to_indexed a partition grow) (from_indexed a partition grow)
     (at_start a
-    (λ b c. failing c.beside.meter (place_at (width_for (length partition + 1)) a (length partition + 1) c.spot) >>= λ code. cond (eqb code.0 0) (literal_at a grow (at_spot_of c code.1)) (placed_at b.spot (live_at partition (code.0 - 1)) (at_spot_of c code.1)))
+    (λ b c. failing c.beside.meter (below_at (length partition + 1) a kind.BadPlace c.spot) >>= λ code. cond (eqb code.0 0) (literal_at a grow (at_spot_of c code.1)) (placed_at b.spot (live_at partition (code.0 - 1)) (at_spot_of c code.1)))
     (λ w. IndexedBits a partition grow)
-    (λ b. behind a (place_at (width_for (length partition + 1)) a (length partition + 1)) (λ code c. cond (eqb code 0) (literal_at a grow c) (placed_at b.spot (live_at partition (code - 1)) c))
+    (λ b. behind a (below_at (length partition + 1) a kind.BadPlace) (λ code c. cond (eqb code 0) (literal_at a grow c) (placed_at b.spot (live_at partition (code - 1)) c))
     (Below (width_for (length partition + 1)) a (length partition + 1)) (λ code. Chosen (eqb code 0) (SpellsLiteral a grow) (IsTold (live_at partition (code - 1))))
-    (item_place (width_for (length partition + 1)) a (length partition + 1))
+    (item_below (length partition + 1) a kind.BadPlace)
     (λ code. chosen a (eqb code 0) (literal_at a grow) (placed_at b.spot (live_at partition (code - 1))) (SpellsLiteral a grow) (IsTold (live_at partition (code - 1))) (item_literal a grow) (placed a b.spot (live_at partition (code - 1))))))
 
 -- in a partition of the tables

@@ -5,7 +5,7 @@ use Rattle.exi_bits.specs.declared.fault.Kind.{Kind}
 use Rattle.exi_bits.specs.declared.fault.Kind.TheVariants as kind
 use Rattle.exi_bits.specs.Bits.{bits, le_value, number_at, number_bits, value_of}
 use Rattle.exi_bits.specs.Repeat.{times}
-use Rattle.exi_bits.specs.Unsigned.{field_at, groups_at, narrow_groups_at, place_at, unsigned_at}
+use Rattle.exi_bits.specs.Unsigned.{field_at, groups_at, narrow_groups_at, below_at, unsigned_at}
 use Rattle.exi_bits.specs.Widths.{width_from}
 use Rattle.exi_items.specs.Charges.{text_charge}
 use Rattle.exi_meter.specs.Metering.{Metering, nothing_used, stream_bounds, with_text}
@@ -58,12 +58,12 @@ a_stands : locals with_a 0 ≡ a_text ∷ []
 a_stands = refl
 
 name_read : name_at false align.Bits (at_bit one_name 8 (after 0 fresh)) ≡ Ok (named 0 0 [] a_text, at_bit one_name 26 (after 1 with_a))
-unfolding name_at name_under local_at hit_at missed_at literal_at indexed_at charged_at place_at field_at unsigned_at narrow_groups_at groups_at number_at value_of bits number_bits width_from text_charge chars_at times code_at is_xml_char
+unfolding name_at name_under local_at hit_at missed_at literal_at indexed_at charged_at below_at field_at unsigned_at narrow_groups_at groups_at number_at value_of bits number_bits width_from text_charge chars_at times code_at is_xml_char
 name_read = refl
 
 -- spelled out once more it stands at the places 0 and 1, and goes on as place 0
 name_again : name_at false align.Bits (at_bit one_name 8 (after 1 with_a)) ≡ Ok (named 0 0 [] a_text, at_bit one_name 26 (after 2 (with_local with_a 0 a_text)))
-unfolding name_at name_under local_at hit_at missed_at literal_at indexed_at charged_at place_at field_at unsigned_at narrow_groups_at groups_at number_at value_of bits number_bits width_from text_charge chars_at times code_at is_xml_char
+unfolding name_at name_under local_at hit_at missed_at literal_at indexed_at charged_at below_at field_at unsigned_at narrow_groups_at groups_at number_at value_of bits number_bits width_from text_charge chars_at times code_at is_xml_char
 name_again = refl
 
 a_stands_twice : locals (with_local with_a 0 a_text) 0 ≡ a_text ∷ a_text ∷ []
@@ -74,12 +74,12 @@ abbrev full : Metering
 full = with_text (nothing_used (record stream_bounds { text = 3 })) 3
 
 name_too_long : name_at false align.Bits (at_bit one_name 8 (record { meter = full; tables = fresh })) ≡ Err (record { fault = record { kind = kind.TextLimit; bit = 18 }; meter = full })
-unfolding name_at name_under local_at hit_at missed_at literal_at indexed_at charged_at place_at field_at unsigned_at narrow_groups_at groups_at number_at value_of bits number_bits width_from text_charge chars_at times code_at is_xml_char
+unfolding name_at name_under local_at hit_at missed_at literal_at indexed_at charged_at below_at field_at unsigned_at narrow_groups_at groups_at number_at value_of bits number_bits width_from text_charge chars_at times code_at is_xml_char
 name_too_long = refl
 
 -- 02 00: the character 0 is none of XML, the fault is at it, and the text stays charged
 no_character : name_at false align.Bits (at_bit (0x80 ∷ 0x40 ∷ 0x80 ∷ 0x00 ∷ []) 8 (after 0 fresh)) ≡ Err (fault kind.BadChar 18 1)
-unfolding name_at name_under local_at hit_at missed_at literal_at indexed_at charged_at place_at field_at unsigned_at narrow_groups_at groups_at number_at value_of bits number_bits width_from text_charge chars_at times code_at is_xml_char
+unfolding name_at name_under local_at hit_at missed_at literal_at indexed_at charged_at below_at field_at unsigned_at narrow_groups_at groups_at number_at value_of bits number_bits width_from text_charge chars_at times code_at is_xml_char
 no_character = refl
 
 -- ---- the text of that element
@@ -91,7 +91,7 @@ abbrev a_name : NameId
 a_name = record { uri = 0; local = 0 }
 
 value_read : value_at None align.Bits a_name (at_bit one_value 28 (after 1 with_a)) ≡ Ok (x_text, at_bit one_value 44 (after 2 (with_value with_a a_name x_text)))
-unfolding value_at hit_at missed_at charged_at place_at field_at unsigned_at narrow_groups_at groups_at number_at value_of bits number_bits width_from text_charge chars_at times code_at is_xml_char
+unfolding value_at hit_at missed_at charged_at below_at field_at unsigned_at narrow_groups_at groups_at number_at value_of bits number_bits width_from text_charge chars_at times code_at is_xml_char
 value_read = refl
 
 x_stands : name_values (with_value with_a a_name x_text) a_name ≡ x_text ∷ []
@@ -99,12 +99,12 @@ x_stands = refl
 
 -- 02 spells the empty text, which is not added
 empty_read : value_at None align.Bits a_name (at_bit (0x02 ∷ []) 0 (after 1 with_a)) ≡ Ok ([], at_bit (0x02 ∷ []) 8 (after 1 with_a))
-unfolding value_at hit_at missed_at charged_at place_at field_at unsigned_at narrow_groups_at groups_at number_at value_of bits number_bits width_from text_charge chars_at times code_at is_xml_char
+unfolding value_at hit_at missed_at charged_at below_at field_at unsigned_at narrow_groups_at groups_at number_at value_of bits number_bits width_from text_charge chars_at times code_at is_xml_char
 empty_read = refl
 
 -- 00 tells a place among the values of the name, which has one: the place takes no bits, and its text is charged
 value_hit : value_at None align.Bits a_name (at_bit (0x00 ∷ []) 0 (after 2 (with_value with_a a_name x_text))) ≡ Ok (x_text, at_bit (0x00 ∷ []) 8 (after 3 (with_value with_a a_name x_text)))
-unfolding value_at hit_at missed_at charged_at place_at field_at unsigned_at narrow_groups_at groups_at number_at value_of bits number_bits width_from text_charge chars_at times code_at is_xml_char
+unfolding value_at hit_at missed_at charged_at below_at field_at unsigned_at narrow_groups_at groups_at number_at value_of bits number_bits width_from text_charge chars_at times code_at is_xml_char
 value_hit = refl
 
 -- where it has none the place is a fault, behind the code
@@ -112,7 +112,7 @@ abbrev no_value : List ℕ
 no_value = 0x80 ∷ 0x40 ∷ 0x98 ∷ 0x70 ∷ 0x00 ∷ []
 
 value_missing : value_at None align.Bits a_name (at_bit no_value 28 (after 1 with_a)) ≡ Err (fault kind.BadPlace 36 1)
-unfolding value_at hit_at missed_at charged_at place_at field_at unsigned_at narrow_groups_at groups_at number_at value_of bits number_bits width_from text_charge chars_at times code_at is_xml_char
+unfolding value_at hit_at missed_at charged_at below_at field_at unsigned_at narrow_groups_at groups_at number_at value_of bits number_bits width_from text_charge chars_at times code_at is_xml_char
 value_missing = refl
 
 -- ---- an element `a` in the namespace `u`, which it declares with the prefix `p`
@@ -124,12 +124,12 @@ with_u = with_local (with_uri fresh u_text) 3 a_text
 
 -- 00, 01 75 spells the URI out, and 02 61 the local name; the URI has no prefix, so the name has none
 name_in_u : name_at true align.Bits (at_bit one_declaration 8 (after 0 fresh)) ≡ Ok (named 3 0 u_text a_text, at_bit one_declaration 42 (after 2 with_u))
-unfolding name_at name_under local_at hit_at missed_at literal_at indexed_at charged_at place_at field_at unsigned_at narrow_groups_at groups_at number_at value_of bits number_bits width_from text_charge chars_at times code_at is_xml_char
+unfolding name_at name_under local_at hit_at missed_at literal_at indexed_at charged_at below_at field_at unsigned_at narrow_groups_at groups_at number_at value_of bits number_bits width_from text_charge chars_at times code_at is_xml_char
 name_in_u = refl
 
 -- 100 is the place 3 of the URIs, 01 70 spells the prefix out where there is none yet, and 1 says that it is that of the element
 declared : declaration_at align.Bits (at_bit one_declaration 45 (after 2 with_u)) ≡ Ok (record { uri = u_text; prefix = p_text; element = true }, at_bit one_declaration 65 (after 4 (with_prefix with_u 3 p_text)))
-unfolding declaration_at missed_at literal_at indexed_at charged_at place_at field_at unsigned_at narrow_groups_at groups_at number_at value_of bits number_bits width_from text_charge chars_at times code_at is_xml_char
+unfolding declaration_at missed_at literal_at indexed_at charged_at below_at field_at unsigned_at narrow_groups_at groups_at number_at value_of bits number_bits width_from text_charge chars_at times code_at is_xml_char
 declared = refl
 
 p_stands : prefixes (with_prefix with_u 3 p_text) 3 ≡ p_text ∷ []
@@ -137,16 +137,16 @@ p_stands = refl
 
 -- from then on the name, where the event code tells it, has that prefix, in no bits
 known_read : known_at true align.Bits (record { uri = 3; local = 0 }) (at_bit [] 0 (after 4 (with_prefix with_u 3 p_text))) ≡ Ok (record { id = record { uri = 3; local = 0 }; name = record { uri = u_text; local = a_text; prefix = Some p_text } }, at_bit [] 0 (after 7 (with_prefix with_u 3 p_text)))
-unfolding known_at hit_at charged_at place_at field_at number_at value_of bits number_bits width_from text_charge
+unfolding known_at hit_at charged_at below_at field_at number_at value_of bits number_bits width_from text_charge
 known_read = refl
 
 -- ---- in whole bytes
 -- 00 is a byte, 01 75 spells the URI out, and 02 61 the local name
 name_in_bytes : name_at false align.Bytes (at_bit (0x00 ∷ 0x01 ∷ 0x75 ∷ 0x02 ∷ 0x61 ∷ []) 0 (after 0 fresh)) ≡ Ok (named 3 0 u_text a_text, at_bit (0x00 ∷ 0x01 ∷ 0x75 ∷ 0x02 ∷ 0x61 ∷ []) 40 (after 2 with_u))
-unfolding name_at name_under local_at hit_at missed_at literal_at indexed_at charged_at place_at field_at unsigned_at narrow_groups_at groups_at number_at value_of bits number_bits width_from text_charge chars_at times code_at is_xml_char le_value
+unfolding name_at name_under local_at hit_at missed_at literal_at indexed_at charged_at below_at field_at unsigned_at narrow_groups_at groups_at number_at value_of bits number_bits width_from text_charge chars_at times code_at is_xml_char le_value
 name_in_bytes = refl
 
 -- 4 is above the three URIs: no such place, in a byte that is wide enough for it
 no_such_uri : name_at false align.Bytes (at_bit (0x04 ∷ []) 0 (after 0 fresh)) ≡ Err (fault kind.BadPlace 0 0)
-unfolding name_at name_under local_at hit_at missed_at literal_at indexed_at charged_at place_at field_at unsigned_at narrow_groups_at groups_at number_at value_of bits number_bits width_from text_charge chars_at times code_at is_xml_char le_value
+unfolding name_at name_under local_at hit_at missed_at literal_at indexed_at charged_at below_at field_at unsigned_at narrow_groups_at groups_at number_at value_of bits number_bits width_from text_charge chars_at times code_at is_xml_char le_value
 no_such_uri = refl

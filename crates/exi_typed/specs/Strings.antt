@@ -16,7 +16,7 @@ use Rattle.std.specs.Prelude.{ℕ, ◌+◌, ◌-◌, ◌==◌, Bool, true, false
 use Rattle.exi_bits.specs.declared.align.Align.{Align}
 use Rattle.exi_bits.specs.declared.fault.Kind.TheVariants as kind
 use Rattle.exi_bits.specs.Bits.{Spot}
-use Rattle.exi_bits.specs.Unsigned.{◌>>=◌, fault_at, place_at, unsigned_at}
+use Rattle.exi_bits.specs.Unsigned.{◌>>=◌, fault_at, below_at, unsigned_at}
 use Rattle.exi_bits.specs.Widths.{width_for}
 use Rattle.exi_items.specs.Charges.{after_text, text_charge}
 use Rattle.exi_names.specs.declared.names.NameId.{NameId}
@@ -56,7 +56,7 @@ placed_at s None c = failing c.beside.meter (fault_at kind.BadPlace s)
 -- a hit: the place in the partition, in the fewest bits that tell its places apart
 unfoldable pub hit_at : Align → Partition → Courser (List ℕ)
 hit_at a partition c = do
-  place ← failing c.beside.meter (place_at (width_for (count_of partition)) a (count_of partition) c.spot)
+  place ← failing c.beside.meter (below_at (count_of partition) a kind.BadPlace c.spot)
   placed_at c.spot (live_at partition place.0) (at_spot_of c place.1)
 
 -- a miss of so many characters
@@ -74,7 +74,7 @@ literal_at a grow c = do
 -- a place or a literal, told apart by one number: 0 is a miss, and a literal follows; k is a hit at place k - 1
 unfoldable pub indexed_at : Align → Partition → Growth → Courser (List ℕ)
 indexed_at a partition grow c = do
-  code ← failing c.beside.meter (place_at (width_for (count_of partition + 1)) a (count_of partition + 1) c.spot)
+  code ← failing c.beside.meter (below_at (count_of partition + 1) a kind.BadPlace c.spot)
   if code.0 == 0 then literal_at a grow (at_spot_of c code.1) else placed_at c.spot (live_at partition (code.0 - 1)) (at_spot_of c code.1)
 
 -- ---- names
@@ -151,7 +151,7 @@ unfoldable pub declaration_at : Align → Courser Declaration
 declaration_at a c = do
   uri ← uri_at a c
   prefix ← indexed_at a (prefixes uri.1.beside.tables (place_in (uris uri.1.beside.tables) uri.0)) (λ p. with_prefix p (place_in (uris uri.1.beside.tables) uri.0)) uri.1
-  flag ← failing prefix.1.beside.meter (place_at 1 a 2 prefix.1.spot)
+  flag ← failing prefix.1.beside.meter (below_at 2 a kind.BadPlace prefix.1.spot)
   Ok (record { uri = uri.0; prefix = prefix.0; element = is_one flag.0 }, at_spot_of prefix.1 flag.1)
 
 -- ---- values

@@ -19,4 +19,4 @@ pub returns-in-Ok-clause-below : goal.returns-in-Ok-clause-below
 returns-in-Ok-clause-below c = view_below _ _ _ _ _ c.args.align c.args.input.now _ c.self.invariant c.self.view_is c.deref.ensures.value c.in-Ok.ensures.read
 
 pub returns-in-Err-clause-read : goal.returns-in-Err-clause-read
-returns-in-Err-clause-read c = (placed_view _ _ _ _ _ c.args.align c.args.input.now _ c.self.invariant c.self.view_is c.deref.ensures.value c.in-Err.ensures.read, rw (c.back.ensures, c.in-Err.ensures.bytes, c.at-bit.ensures.place) refl)
+returns-in-Err-clause-read c = (placed_view _ _ _ _ _ c.args.align c.args.input.now _ c.self.invariant c.self.view_is c.deref.ensures.value c.in-Err.ensures.read, rw (c.go_to_bit.ensures, c.in-Err.ensures.bytes, c.at-bit.ensures.place) refl)
