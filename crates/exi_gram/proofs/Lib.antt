@@ -1,8 +1,11 @@
 pub mod CodeItems
 pub mod CodeLaws
 pub mod CodeLists
+pub mod CodeSets
 pub mod PartLaws
 pub mod Reading
 pub mod TableLists
+pub mod Trees
+pub mod Walks
 pub mod WithoutSchema
 pub mod Writing

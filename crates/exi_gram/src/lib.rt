@@ -22,8 +22,11 @@
 #![tactic(auto)]
 
 mod book;
+mod cell;
 mod code;
+pub mod code_table;
 mod entry;
+mod front;
 mod grammar;
 mod items;
 pub mod laws;
@@ -31,6 +34,7 @@ mod named;
 mod options;
 mod part;
 mod read;
+mod rows;
 mod schema;
 mod second;
 mod state;
