@@ -117,13 +117,16 @@ set_tree zero cs ne a g h = elim (option_cases (ended cs)) [
   | inr found ↦ (found.0, alone cs found.0 a found.1)
 ]
 set_tree (suc more) cs ne a g h = elim (option_cases (ended cs)) [
-  | inl none ↦ inr (none, λ part less.
-      let e : parts_in (behind (part ∷ []) cs) ≡ going_on part (parts_in cs) = parts_behind part cs in
-      set_tree more (behind (part ∷ []) cs)
-      (λ is. g [] part less (sym e ∙ ap parts_in is))
-      (subst AllApart (sym e) (apart_on part (parts_in cs) a))
-      (subst NoGaps (sym e) (λ front other within. g (part ∷ front) other within))
-      (subst (All (λ c. length c ≤ more)) (sym e) (shorter_on part more (parts_in cs) h)))
+  | inl none ↦ inr (
+    none,
+    λ part less.
+        let e : parts_in (behind (part ∷ []) cs) ≡ going_on part (parts_in cs) = parts_behind part cs in
+        set_tree more (behind (part ∷ []) cs)
+        (λ is. g [] part less (sym e ∙ ap parts_in is))
+        (subst AllApart (sym e) (apart_on part (parts_in cs) a))
+        (subst NoGaps (sym e) (λ front other within. g (part ∷ front) other within))
+        (subst (All (λ c. length c ≤ more)) (sym e) (shorter_on part more (parts_in cs) h)),
+  )
   | inr found ↦ inl (found.0, alone cs found.0 a found.1)
 ]
 

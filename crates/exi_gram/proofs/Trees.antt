@@ -7,7 +7,7 @@ use Rattle.exi_gram.specs.declared.code.Code.{Code}
 use Rattle.exi_gram.specs.declared.front.Front.{Front}
 use Rattle.exi_gram.specs.Codes.{Coded, going_on, values_of}
 use Rattle.exi_gram.specs.CodeTrees.{along, behind, counted, ended, left_with, parts_in, told_by}
-use Rattle.exi_gram.specs.Cells.{Branches, IsTree, Kept, RowStands, Stands, TellsEnds, all_parts, behind_front, cell_at, front_parts, leaf_of, next_part, parts_left}
+use Rattle.exi_gram.specs.Cells.{Branches, IsTree, Kept, RowStands, CellStands, TellsEnds, all_parts, behind_front, cell_at, front_parts, leaf_of, next_part, parts_left}
 use Rattle.exi_gram.specs.declared.cell.Branch.{Branch}
 use Rattle.exi_gram.specs.declared.cell.Cell.{Cell}
 use Rattle.exi_gram.specs.declared.cell.Cell.TheVariants as cell
@@ -195,17 +195,21 @@ none_ends o e other g = absurd cc
 
 -- ---- cells
 -- what stands goes on standing where the cells from its lower bound on stay
-pub stands_kept : (old new : List Cell) (low more : ℕ) (c : Cell) (cs : List (Coded ℕ)) → length old ≤ length new → ((i : ℕ) → low ≤ i → i < length old → cell_at new i ≡ cell_at old i) → Stands old low more c cs → Stands new low more c cs
+pub stands_kept : (old new : List Cell) (low more : ℕ) (c : Cell) (cs : List (Coded ℕ)) → length old ≤ length new → ((i : ℕ) → low ≤ i → i < length old → cell_at new i ≡ cell_at old i) → CellStands old low more c cs → CellStands new low more c cs
 stands_kept old new low zero (cell.Leaf place) cs len same s = s
 stands_kept old new low zero (cell.Branch row) cs len same s = absurd s
 stands_kept old new low (suc more) (cell.Leaf place) cs len same s = s
-stands_kept old new low (suc more) (cell.Branch row) cs len same s =
-    (s.0, s.1, s.2, omega (arith, s.3, len),
-    λ part less. subst (λ (c : Cell). Stands new low more c (behind (part ∷ []) cs)) (sym (same (row.begin + part) (omega (arith, s.2)) (omega (arith, s.3, less))))
-    (stands_kept old new low more (cell_at old (row.begin + part)) (behind (part ∷ []) cs) len same (s.4 part less)))
+stands_kept old new low (suc more) (cell.Branch row) cs len same s = (
+  s.0,
+  s.1,
+  s.2,
+  omega (arith, s.3, len),
+  λ part less. subst (λ (c : Cell). CellStands new low more c (behind (part ∷ []) cs)) (sym (same (row.begin + part) (omega (arith, s.2)) (omega (arith, s.3, less))))
+      (stands_kept old new low more (cell_at old (row.begin + part)) (behind (part ∷ []) cs) len same (s.4 part less)),
+)
 
 -- with a smaller lower bound
-pub stands_lower : (cells : List Cell) (low less more : ℕ) (c : Cell) (cs : List (Coded ℕ)) → less ≤ low → Stands cells low more c cs → Stands cells less more c cs
+pub stands_lower : (cells : List Cell) (low less more : ℕ) (c : Cell) (cs : List (Coded ℕ)) → less ≤ low → CellStands cells low more c cs → CellStands cells less more c cs
 stands_lower cells low less zero (cell.Leaf place) cs le s = s
 stands_lower cells low less zero (cell.Branch row) cs le s = absurd s
 stands_lower cells low less (suc more) (cell.Leaf place) cs le s = s
@@ -257,16 +261,16 @@ row_leaf cells others row count more place cs within tree here r = record {
     alone : behind (count ∷ []) cs ≡ record { parts = []; item = place } ∷ []
     alone = tree_leaf (more - 1) (behind (count ∷ []) cs) place tree (ap leaf_of (sym here) ∙ r.ends count (omega arith) within)
 
-    leaf : (n : ℕ) → Stands cells (row.begin + row.count) n (cell.Leaf place) (behind (count ∷ []) cs)
+    leaf : (n : ℕ) → CellStands cells (row.begin + row.count) n (cell.Leaf place) (behind (count ∷ []) cs)
     leaf zero = alone
     leaf (suc n) = alone
 
-    by : (part : ℕ) → (part ≡ count) ⊎ (part ≢ count) → part < count + 1 → Stands cells (row.begin + row.count) (more - 1) (cell_at cells (row.begin + part)) (behind (part ∷ []) cs)
-    by part (inl e) less = subst (λ (k : ℕ). Stands cells (row.begin + row.count) (more - 1) (cell_at cells (row.begin + k)) (behind (k ∷ []) cs)) (sym e) (subst (λ (c : Cell). Stands cells (row.begin + row.count) (more - 1) c (behind (count ∷ []) cs)) (sym here) (leaf (more - 1)))
+    by : (part : ℕ) → (part ≡ count) ⊎ (part ≢ count) → part < count + 1 → CellStands cells (row.begin + row.count) (more - 1) (cell_at cells (row.begin + part)) (behind (part ∷ []) cs)
+    by part (inl e) less = subst (λ (k : ℕ). CellStands cells (row.begin + row.count) (more - 1) (cell_at cells (row.begin + k)) (behind (k ∷ []) cs)) (sym e) (subst (λ (c : Cell). CellStands cells (row.begin + row.count) (more - 1) c (behind (count ∷ []) cs)) (sym here) (leaf (more - 1)))
     by part (inr ne) less = r.stands part (omega (arith, ne, less))
 
 pub row_branch : (cells others grown new : List Cell) (row branch : Branch) (count more : ℕ) (cs : List (Coded ℕ)) → count < row.count → row.begin + row.count ≡ length others → Kept cells grown → length grown < 2 ^ 32 →
-    Stands grown (length cells) (more - 1) (cell.Branch branch) (behind (count ∷ []) cs) → new ≡ set grown (row.begin + count) (cell.Branch branch) →
+    CellStands grown (length cells) (more - 1) (cell.Branch branch) (behind (count ∷ []) cs) → new ≡ set grown (row.begin + count) (cell.Branch branch) →
     RowStands cells others row count more cs → RowStands new others row (count + 1) more cs
 row_branch cells others grown new row branch count more cs within end kept few stands is r = record {
   kept = omega (arith, r.kept, kept.more, len);
@@ -291,25 +295,29 @@ row_branch cells others grown new row branch count more cs within end kept few s
     low : row.begin + row.count ≤ length cells
     low = omega (arith, end, r.kept)
 
-    by : (part : ℕ) → (part ≡ count) ⊎ (part ≢ count) → part < count + 1 → Stands new (row.begin + row.count) (more - 1) (cell_at new (row.begin + part)) (behind (part ∷ []) cs)
-    by part (inl e) less = subst (λ (k : ℕ). Stands new (row.begin + row.count) (more - 1) (cell_at new (row.begin + k)) (behind (k ∷ []) cs)) (sym e)
-      (subst (λ (c : Cell). Stands new (row.begin + row.count) (more - 1) c (behind (count ∷ []) cs)) (sym here)
-      (stands_lower new (length cells) (row.begin + row.count) (more - 1) (cell.Branch branch) (behind (count ∷ []) cs) low
-      (stands_kept grown new (length cells) (more - 1) (cell.Branch branch) (behind (count ∷ []) cs) (omega (arith, len)) (λ i le less. set_other i (omega (arith, le, low, within))) stands)))
+    by : (part : ℕ) → (part ≡ count) ⊎ (part ≢ count) → part < count + 1 → CellStands new (row.begin + row.count) (more - 1) (cell_at new (row.begin + part)) (behind (part ∷ []) cs)
+    by part (inl e) less = subst (λ (k : ℕ). CellStands new (row.begin + row.count) (more - 1) (cell_at new (row.begin + k)) (behind (k ∷ []) cs)) (sym e)
+        (subst (λ (c : Cell). CellStands new (row.begin + row.count) (more - 1) c (behind (count ∷ []) cs)) (sym here)
+        (stands_lower new (length cells) (row.begin + row.count) (more - 1) (cell.Branch branch) (behind (count ∷ []) cs) low
+        (stands_kept grown new (length cells) (more - 1) (cell.Branch branch) (behind (count ∷ []) cs) (omega (arith, len)) (λ i le less. set_other i (omega (arith, le, low, within))) stands)))
     by part (inr ne) less =
-      let before : part < count = omega (arith, ne, less) in
-      subst (λ (c : Cell). Stands new (row.begin + row.count) (more - 1) c (behind (part ∷ []) cs)) (sym (other (row.begin + part) (omega (arith, ne)) (omega (arith, before, within, low))))
-      (stands_kept cells new (row.begin + row.count) (more - 1) (cell_at cells (row.begin + part)) (behind (part ∷ []) cs) (omega (arith, kept.more, len)) (λ i le less. other i (omega (arith, le, within)) less) (r.stands part before))
+        let before : part < count = omega (arith, ne, less) in
+        subst (λ (c : Cell). CellStands new (row.begin + row.count) (more - 1) c (behind (part ∷ []) cs)) (sym (other (row.begin + part) (omega (arith, ne)) (omega (arith, before, within, low))))
+        (stands_kept cells new (row.begin + row.count) (more - 1) (cell_at cells (row.begin + part)) (behind (part ∷ []) cs) (omega (arith, kept.more, len)) (λ i le less. other i (omega (arith, le, within)) less) (r.stands part before))
 
 -- the row stands for the codes once each of its cells does
 pub row_stands : (cells others : List Cell) (row : Branch) (count more low : ℕ) (cs : List (Coded ℕ)) → Branches more cs → row.begin ≡ low → row.count ≡ values_of (parts_in cs) → row.begin + row.count ≡ length others → row.count ≤ count →
-    RowStands cells others row count more cs → Stands cells low more (cell.Branch row) cs
+    RowStands cells others row count more cs → CellStands cells low more (cell.Branch row) cs
 row_stands cells others row count zero low cs b begin values end all r = absurd b
 row_stands cells others row count (suc more) low cs b begin values end all r =
-    let n : suc more - 1 ≡ more = omega arith in
-    (b.0, sym values, omega (arith, begin), omega (arith, end, r.kept),
-    λ part less. stands_lower cells (row.begin + row.count) low more (cell_at cells (row.begin + part)) (behind (part ∷ []) cs) (omega (arith, begin))
-    (subst (λ (k : ℕ). Stands cells (row.begin + row.count) k (cell_at cells (row.begin + part)) (behind (part ∷ []) cs)) n (r.stands part (omega (arith, less, all)))))
+    let n : suc more - 1 ≡ more = omega arith in (
+      b.0,
+      sym values,
+      omega (arith, begin),
+      omega (arith, end, r.kept),
+      λ part less. stands_lower cells (row.begin + row.count) low more (cell_at cells (row.begin + part)) (behind (part ∷ []) cs) (omega (arith, begin))
+          (subst (λ (k : ℕ). CellStands cells (row.begin + row.count) k (cell_at cells (row.begin + part)) (behind (part ∷ []) cs)) n (r.stands part (omega (arith, less, all)))),
+    )
 
 -- behind the last part that there can be a code has ended
 pub never_last : (more : ℕ) (cs : List (Coded ℕ)) → more ≡ 1 → IsTree (more - 1) cs → None ≡ ended cs → ⊥

@@ -10,7 +10,7 @@ use Rattle.exi_gram.specs.declared.cell.Cell.{Cell}
 use Rattle.exi_gram.specs.declared.cell.Cell.TheVariants as cell
 use Rattle.exi_gram.specs.Codes.{Coded, part_at, told, values_of}
 use Rattle.exi_gram.specs.CodeTrees.{along, behind, chosen_at, counted, ended, left_with, parts_in, place_read, told_or}
-use Rattle.exi_gram.specs.Cells.{Stands, Walked, cell_at}
+use Rattle.exi_gram.specs.Cells.{CellStands, Walked, cell_at}
 
 -- ---- the places of codes
 counted_below : (place : ℕ) (codes : List (List ℕ)) (most : ℕ) → place + length codes ≤ most → All (λ c. c.item < most) (counted place codes)
@@ -47,31 +47,31 @@ unfolding chosen_at
 tells zero a place s = refl
 tells (suc n) a place s = refl
 
-stands_leaf : (cells : List Cell) (low n place : ℕ) (cs : List (Coded ℕ)) → Stands cells low n (cell.Leaf place) cs → cs ≡ record { parts = []; item = place } ∷ []
+stands_leaf : (cells : List Cell) (low n place : ℕ) (cs : List (Coded ℕ)) → CellStands cells low n (cell.Leaf place) cs → cs ≡ record { parts = []; item = place } ∷ []
 stands_leaf cells low zero place cs h = h
 stands_leaf cells low (suc n) place cs h = h
 
 -- ---- a walk
-pub walk_starts : (a : Align) (cells : List Cell) (codes : List (List ℕ)) (row : Branch) (s : Spot) → Stands cells 0 3 (cell.Branch row) (counted 0 codes) → Walked a cells codes (cell.Branch row) 0 s s
+pub walk_starts : (a : Align) (cells : List Cell) (codes : List (List ℕ)) (row : Branch) (s : Spot) → CellStands cells 0 3 (cell.Branch row) (counted 0 codes) → Walked a cells codes (cell.Branch row) 0 s s
 walk_starts a cells codes row s h = record { left = counted 0 codes; stands = h; reads = refl; below = counted_below 0 codes (length codes) (omega arith) }
 
 pub walk_fails : (a : Align) (cells : List Cell) (codes : List (List ℕ)) (row : Branch) (count : ℕ) (first now : Spot) (f : Fault) → Walked a cells codes (cell.Branch row) count first now → count < 3 → part_at row.count a now ≡ Err f → place_read a codes first ≡ Err f
 walk_fails a cells codes row count first now f w less e =
     let n : 3 - count ≡ suc (3 - (count + 1)) = omega (arith, less) in
-    let s = subst (λ (k : ℕ). Stands cells 0 k (cell.Branch row) w.left) n w.stands in
+    let s = subst (λ (k : ℕ). CellStands cells 0 k (cell.Branch row) w.left) n w.stands in
     w.reads ∙ ap (λ (k : ℕ). chosen_at k a w.left now) n ∙ fails (3 - (count + 1)) a w.left row.count now f s.0 s.1 e
 
 pub walk_within : (a : Align) (cells : List Cell) (codes : List (List ℕ)) (row : Branch) (count : ℕ) (first now : Spot) → Walked a cells codes (cell.Branch row) count first now → count < 3 → row.begin + row.count ≤ length cells
 walk_within a cells codes row count first now w less =
     let n : 3 - count ≡ suc (3 - (count + 1)) = omega (arith, less) in
-    let s = subst (λ (k : ℕ). Stands cells 0 k (cell.Branch row) w.left) n w.stands in
+    let s = subst (λ (k : ℕ). CellStands cells 0 k (cell.Branch row) w.left) n w.stands in
     s.3
 
 pub walk_next : (a : Align) (cells : List Cell) (codes : List (List ℕ)) (row : Branch) (count part : ℕ) (first now next : Spot) → Walked a cells codes (cell.Branch row) count first now → count < 3 → part < row.count → part_at row.count a now ≡ Ok (part, next) →
     Walked a cells codes (cell_at cells (row.begin + part)) (count + 1) first next
 walk_next a cells codes row count part first now next w less within e =
     let n : 3 - count ≡ suc (3 - (count + 1)) = omega (arith, less) in
-    let s = subst (λ (k : ℕ). Stands cells 0 k (cell.Branch row) w.left) n w.stands in
+    let s = subst (λ (k : ℕ). CellStands cells 0 k (cell.Branch row) w.left) n w.stands in
     record {
       left = behind (part ∷ []) w.left;
       stands = s.4 part within;
@@ -90,4 +90,4 @@ walk_below a cells codes place count first now w =
 pub walk_over : (a : Align) (cells : List Cell) (codes : List (List ℕ)) (row : Branch) (count : ℕ) (first now : Spot) → Walked a cells codes (cell.Branch row) count first now → 3 ≤ count → ⊥
 walk_over a cells codes row count first now w le =
     let n : 3 - count ≡ 0 = omega (arith, le) in
-    subst (λ (k : ℕ). Stands cells 0 k (cell.Branch row) w.left) n w.stands
+    subst (λ (k : ℕ). CellStands cells 0 k (cell.Branch row) w.left) n w.stands

@@ -48,10 +48,10 @@ leaf_of (cell.Branch branch) = None
 
 -- The cell stands for these codes, of so many parts at most: it tells the place of one that has ended, or its branches
 -- stand side by side, each for the codes that go on with its part. None of them stands before a place.
-abbrev pub Stands : List Cell → ℕ → ℕ → Cell → List (Coded ℕ) → Type 0
-Stands cells low more (cell.Leaf place) cs = cs ≡ record { parts = []; item = place } ∷ []
-Stands cells low zero (cell.Branch branch) cs = ⊥
-Stands cells low (suc more) (cell.Branch branch) cs = (ended cs ≡ None) × (values_of (parts_in cs) ≡ branch.count) × (low ≤ branch.begin) × (branch.begin + branch.count ≤ length cells) × ((part : ℕ) → part < branch.count → Stands cells low more (cell_at cells (branch.begin + part)) (behind (part ∷ []) cs))
+abbrev pub CellStands : List Cell → ℕ → ℕ → Cell → List (Coded ℕ) → Type 0
+CellStands cells low more (cell.Leaf place) cs = cs ≡ record { parts = []; item = place } ∷ []
+CellStands cells low zero (cell.Branch branch) cs = ⊥
+CellStands cells low (suc more) (cell.Branch branch) cs = (ended cs ≡ None) × (values_of (parts_in cs) ≡ branch.count) × (low ≤ branch.begin) × (branch.begin + branch.count ≤ length cells) × ((part : ℕ) → part < branch.count → CellStands cells low more (cell_at cells (branch.begin + part)) (behind (part ∷ []) cs))
 
 -- the codes are a tree of so many parts at most: one that has ended stands alone, and where none has ended, what goes on
 -- with each value of the next part is a tree again
@@ -78,13 +78,13 @@ TellsEnds cells begin count cs = (part : ℕ) → part < count → leaf_of (cell
 pub record RowStands (cells others : List Cell) (row : Branch) (count more : ℕ) (cs : List (Coded ℕ)) : Type 0 where
   pub kept : length others ≤ length cells
   pub before : (place : ℕ) → place < row.begin → cell_at cells place ≡ cell_at others place
-  pub stands : (part : ℕ) → part < count → Stands cells (row.begin + row.count) (more - 1) (cell_at cells (row.begin + part)) (behind (part ∷ []) cs)
+  pub stands : (part : ℕ) → part < count → CellStands cells (row.begin + row.count) (more - 1) (cell_at cells (row.begin + part)) (behind (part ∷ []) cs)
   pub ends : (part : ℕ) → count ≤ part → part < row.count → leaf_of (cell_at cells (row.begin + part)) ≡ ended (behind (part ∷ []) cs)
   pub few : length cells < 2 ^ 32
 
 -- so many parts of a code were read, and what they leave goes on at a cell
 pub record Walked (a : Align) (cells : List Cell) (codes : List (List ℕ)) (at : Cell) (count : ℕ) (first now : Spot) : Type 0 where
   pub left : List (Coded ℕ)
-  pub stands : Stands cells 0 (3 - count) at left
+  pub stands : CellStands cells 0 (3 - count) at left
   pub reads : place_read a codes first ≡ chosen_at (3 - count) a left now
   pub below : All (λ c. c.item < length codes) left

@@ -41,7 +41,7 @@ pub struct CodeTable {
 
 impl Model for CodeTable {
     ghost use Rattle.std.specs.Prelude.{ℕ, List};
-    ghost use Rattle.exi_gram.specs.Cells.{Stands, all_parts};
+    ghost use Rattle.exi_gram.specs.Cells.{CellStands, all_parts};
     ghost use Rattle.exi_gram.specs.CodeTrees.{counted};
     ghost use Rattle.exi_gram.specs.declared.cell.Cell.TheVariants as cell;
 
@@ -49,7 +49,7 @@ impl Model for CodeTable {
 
     ghost view = { λ t. all_parts t.codes.items };
 
-    ghost invariant = { λ t. Stands t.cells.items 0 3 (cell.Branch t.root) (counted 0 (all_parts t.codes.items)) };
+    ghost invariant = { λ t. CellStands t.cells.items 0 3 (cell.Branch t.root) (counted 0 (all_parts t.codes.items)) };
 }
 
 impl CodeTable {

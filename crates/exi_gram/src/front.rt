@@ -41,10 +41,7 @@ impl Front {
             (Front::First(first), Code::Two(one, part)) if first == one => Some((part, true)),
             (Front::First(first), Code::Three(one, part, _)) if first == one => Some((part, false)),
             (Front::Second(first, second), Code::Three(one, two, part))
-                if first == one && second == two =>
-            {
-                Some((part, true))
-            }
+                if first == one && second == two => { Some((part, true)) }
             _ => None,
         }
     }

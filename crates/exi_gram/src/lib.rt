@@ -24,7 +24,7 @@
 mod book;
 mod cell;
 mod code;
-pub mod code_table;
+mod code_table;
 mod entry;
 mod front;
 mod grammar;
@@ -45,6 +45,7 @@ mod write;
 
 pub use book::{Book, read_code, write_code};
 pub use code::{Code, Coded};
+pub use code_table::CodeTable;
 pub use entry::{ElementEntry, TypeEntry};
 pub use grammar::{Grammar, Production, Proto, Step};
 pub use items::Items;

@@ -1,7 +1,7 @@
 ghost use Rattle.std.specs.Prelude.{◌≡◌, ◌+◌, ◌<◌, ◌≤◌, ◌^◌, ℕ, None, IfOk, OnOk, length};
 ghost use Rattle.exi_gram.specs.Codes.{values_of};
 ghost use Rattle.exi_gram.specs.CodeTrees.{parts_in};
-ghost use Rattle.exi_gram.specs.Cells.{Branches, Kept, Stands, TellsEnds, behind_front, cell_at, leaf_of, parts_left};
+ghost use Rattle.exi_gram.specs.Cells.{Branches, Kept, CellStands, TellsEnds, behind_front, cell_at, leaf_of, parts_left};
 ghost use Rattle.exi_gram.specs.declared.cell.Cell.TheVariants as cell;
 
 use crate::cell::{Branch, Cell};
@@ -93,7 +93,7 @@ fn add_row(codes: &[Code], front: Front, cells: &mut Vec<Cell>) -> Result<Branch
 pub fn add_rows(codes: &[Code], front: Front, cells: &mut Vec<Cell>) -> Result<Branch, AllocError>
     requires few { length codes.now ≤ 2 ^ 32 }
     requires tree { Branches (parts_left front) (behind_front front codes.now) }
-    ensures stands { IfOk result (λ row. Stands cells.new.items (length cells.old.items)
+    ensures stands { IfOk result (λ row. CellStands cells.new.items (length cells.old.items)
         (parts_left front) (cell.Branch row) (behind_front front codes.now)) }
     ensures kept { IfOk result (λ row. Kept cells.old.items cells.new.items) }
     ensures few { IfOk result (λ row. length cells.new.items < 2 ^ 32) }

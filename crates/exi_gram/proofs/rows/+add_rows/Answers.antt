@@ -4,7 +4,7 @@ use Rattle.exi_gram.specs.declared.cell.Cell.{Cell}
 use Rattle.exi_gram.specs.declared.cell.Cell.TheVariants as cell
 use Rattle.exi_gram.specs.Codes.{values_of}
 use Rattle.exi_gram.specs.CodeTrees.{behind, ended, parts_in}
-use Rattle.exi_gram.specs.Cells.{Branches, IsTree, RowStands, Stands, behind_front, cell_at, leaf_of, parts_left}
+use Rattle.exi_gram.specs.Cells.{Branches, IsTree, RowStands, CellStands, behind_front, cell_at, leaf_of, parts_left}
 use Rattle.exi_gram.proofs.Trees.{behind_longer, branch_tree, longer_branches, never_last, row_branch, row_leaf, row_stands, tree_branch}
 use Rattle.exi_gram.proofs.rows.+add_rows.Goals as goal
 use Rattle.exi_gram.proofs.rows.+add_rows.Goals.{in-Branch+in-Some+in_ok-branch, in-Branch+in_default-then, in_default}
@@ -19,9 +19,10 @@ add_rows-requires t c =
     let within : row.begin + part < length cells = omega (arith, c.loop-part-test.true, end, c.loop-part.invariant.kept) in
     let here : c.index.result.now ≡ cell_at cells (row.begin + part) = get_or_read cells (row.begin + part) c.index.result.now within c.index.ensures (cell.Leaf 0) in
     let none : None ≡ ended (behind (part ∷ []) codes) = sym (ap leaf_of (sym here ∙ c.in-Branch.is)) ∙ c.loop-part.invariant.ends part (omega arith) c.loop-part-test.true in
-    let less : part < values_of (parts_in codes) = omega (arith, c.loop-part-test.true, c.in_ok-row.ensures.count) in
-    (omega (arith, c.in-Some.ensures.left, c.decreases),
-    (c.requires.few, longer_branches c.args.front c.in-Some.longer part c.args.codes.now c.in-Some.ensures.parts c.in-Some.ensures.left c.requires.tree less none))
+    let less : part < values_of (parts_in codes) = omega (arith, c.loop-part-test.true, c.in_ok-row.ensures.count) in (
+      omega (arith, c.in-Some.ensures.left, c.decreases),
+      (c.requires.few, longer_branches c.args.front c.in-Some.longer part c.args.codes.now c.in-Some.ensures.parts c.in-Some.ensures.left c.requires.tree less none),
+    )
 
 pub loop-part-preserved : goal.loop-part-preserved
 loop-part-preserved t c =
@@ -42,9 +43,9 @@ loop-part-preserved t c =
           let branch = w.in_ok-branch.branch in
           let longer = w.in-Some.longer in
           let n : parts_left longer ≡ more - 1 = omega (arith, w.in-Some.ensures.left) in
-          let made : Stands grown (length cells) (more - 1) (cell.Branch branch) (behind (part ∷ []) codes)
-          = subst (λ k. Stands grown (length cells) k (cell.Branch branch) (behind (part ∷ []) codes)) n
-          (subst (Stands grown (length cells) (parts_left longer) (cell.Branch branch)) (behind_longer c.args.front longer part c.args.codes.now w.in-Some.ensures.parts) w.in_ok-branch.ensures.stands) in
+          let made : CellStands grown (length cells) (more - 1) (cell.Branch branch) (behind (part ∷ []) codes)
+          = subst (λ k. CellStands grown (length cells) k (cell.Branch branch) (behind (part ∷ []) codes)) n
+          (subst (CellStands grown (length cells) (parts_left longer) (cell.Branch branch)) (behind_longer c.args.front longer part c.args.codes.now w.in-Some.ensures.parts) w.in_ok-branch.ensures.stands) in
           row_branch cells others grown c.match-index.cells.items row branch part more codes c.loop-part-test.true end w.in_ok-branch.ensures.kept w.in_ok-branch.ensures.few made (ap (λ v. v.items) w.cells-is) c.loop-part.invariant
       | in-Branch+in_default-then w ↦
           let none : None ≡ ended (behind (part ∷ []) codes) = sym (ap leaf_of (sym here ∙ w.in-Branch.is)) ∙ c.loop-part.invariant.ends part (omega arith) c.loop-part-test.true in

@@ -34,10 +34,11 @@ loop-place-preserved c =
           let cells = c.loop-place.cells.items in
           let here : next_part (along (front_parts c.args.front) (parts_of (get_or codes place any))) ≡ Some (part, true) = sym c.next.ensures ∙ w.in-Some.is ∙ ap (λ last. Some (part, last)) w.if-last.true in
           let is : c.match-next.cells.items ≡ set cells (c.args.begin + part) (cell.Leaf place) = ap (λ v. v.items) w.cells-is in
-          let room : c.args.begin + count ≤ length cells = omega (arith, c.requires.room, c.loop-place.invariant.0) in
-          (ap length is ∙ length-set cells (c.args.begin + part) (cell.Leaf place) ∙ c.loop-place.invariant.0,
-          (λ at less. ap (λ cs. cell_at cs at) is ∙ get_or-set_other cells (c.args.begin + part) at (cell.Leaf place) (cell.Leaf 0) (λ e. omega (arith, e, less)) ∙ c.loop-place.invariant.1 at less),
-          ends_here c.args.front codes place any cells c.match-next.cells.items c.args.begin count part c.loop-place-test.true here is room c.loop-place.invariant.2)
+          let room : c.args.begin + count ≤ length cells = omega (arith, c.requires.room, c.loop-place.invariant.0) in (
+            ap length is ∙ length-set cells (c.args.begin + part) (cell.Leaf place) ∙ c.loop-place.invariant.0,
+            (λ at less. ap (λ cs. cell_at cs at) is ∙ get_or-set_other cells (c.args.begin + part) at (cell.Leaf place) (cell.Leaf 0) (λ e. omega (arith, e, less)) ∙ c.loop-place.invariant.1 at less),
+            ends_here c.args.front codes place any cells c.match-next.cells.items c.args.begin count part c.loop-place-test.true here is room c.loop-place.invariant.2,
+          )
       | in-Some+else-last w ↦
           let not = no_end (along (front_parts c.args.front) (parts_of (get_or codes place any))) w.in-Some.part w.in-Some.last (sym c.next.ensures ∙ w.in-Some.is) w.if-last.false in
           rw w.cells-is (c.loop-place.invariant.0, c.loop-place.invariant.1, ends_past c.args.front codes place any c.loop-place.cells.items c.args.begin count c.loop-place-test.true not c.loop-place.invariant.2)

@@ -1,7 +1,7 @@
 use Rattle.std.proofs.Common.{◌≡◌, ◌≤◌, ◌∙◌, length, map, take, arith, rules, sym, subst, ap}
 use Rattle.std.proofs.lemmas.List.{take_all}
 use Rattle.exi_gram.specs.CodeTrees.{IsCodeSet, counted}
-use Rattle.exi_gram.specs.Cells.{Branches, Stands, all_parts, behind_front}
+use Rattle.exi_gram.specs.Cells.{Branches, CellStands, all_parts, behind_front}
 use Rattle.exi_gram.specs.declared.cell.Cell.TheVariants as cell
 use Rattle.exi_gram.specs.declared.front.Front.TheVariants as front
 use Rattle.exi_gram.specs.Tables.{parts_of}
@@ -21,5 +21,5 @@ invariant_of-result c =
     let cells = c.add_rows.new.cells.items in
     let at : behind_front front.Empty c.deref.result.now ≡ counted 0 (all_parts own) = ap (behind_front front.Empty) c.deref.ensures.value ∙ behind_none (counted 0 (all_parts own)) in
     let low : length c.new-cells.result.items ≡ 0 = ap length c.new-cells.ensures.items in
-    subst (λ k. Stands cells k 3 (cell.Branch c.in_ok-root.root) (counted 0 (all_parts own))) low
-    (subst (Stands cells (length c.new-cells.result.items) 3 (cell.Branch c.in_ok-root.root)) at c.in_ok-root.ensures.stands)
+    subst (λ k. CellStands cells k 3 (cell.Branch c.in_ok-root.root) (counted 0 (all_parts own))) low
+    (subst (CellStands cells (length c.new-cells.result.items) 3 (cell.Branch c.in_ok-root.root)) at c.in_ok-root.ensures.stands)

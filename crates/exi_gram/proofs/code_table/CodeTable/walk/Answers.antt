@@ -1,7 +1,7 @@
 use Rattle.std.proofs.Common.{◌≡◌, ◌≤◌, ◌<◌, ◌+◌, ◌∙◌, List, ℕ, length, refl, arith, rules, sym, subst, ap}
 use Rattle.std.proofs.lemmas.List.{get_or_read}
 use Rattle.std.proofs.lemmas.Result.{err_from_is_err_and}
-use Rattle.exi_gram.specs.Cells.{Stands, Walked, all_parts, cell_at}
+use Rattle.exi_gram.specs.Cells.{CellStands, Walked, all_parts, cell_at}
 use Rattle.exi_gram.specs.CodeTrees.{counted, place_read}
 use Rattle.exi_gram.specs.declared.cell.Cell.{Cell}
 use Rattle.exi_gram.specs.declared.cell.Cell.TheVariants as cell
@@ -10,10 +10,13 @@ use Rattle.exi_gram.proofs.code_table.CodeTable.walk.Goals as goal
 
 pub loop-init : goal.loop-init
 loop-init g c =
-    let all = all_parts c.self.inside.codes.items in
-    (subst (λ (codes : List (List ℕ)). Walked c.args.align c.self.inside.cells.items codes (cell.Branch c.self.inside.root) 0 c.args.input.now c.args.input.now) c.self.view_is
-    (walk_starts c.args.align c.self.inside.cells.items all c.self.inside.root c.args.input.now c.self.invariant),
-    omega arith, refl, c.requires.aligned)
+    let all = all_parts c.self.inside.codes.items in (
+      subst (λ (codes : List (List ℕ)). Walked c.args.align c.self.inside.cells.items codes (cell.Branch c.self.inside.root) 0 c.args.input.now c.args.input.now) c.self.view_is
+          (walk_starts c.args.align c.self.inside.cells.items all c.self.inside.root c.args.input.now c.self.invariant),
+      omega arith,
+      refl,
+      c.requires.aligned,
+    )
 
 pub returns-in_err-part-clause-read : goal.returns-in_err-part-clause-read
 returns-in_err-part-clause-read g c =
@@ -44,6 +47,9 @@ loop-preserved g c =
     let part = c.in_ok-part.part in
     let within : c.loop.row.begin + part < length cells = omega (arith, c.in_ok-part.ensures.below, walk_within c.args.align cells c.args.self.now c.loop.row c.loop.counter c.args.input.now c.loop.input c.loop.invariant.0 c.loop-test.true) in
     let here : cell_at cells (c.loop.row.begin + part) ≡ cell.Branch c.in-Branch.next = sym (get_or_read cells (c.loop.row.begin + part) c.index.result.now within c.index.ensures (cell.Leaf 0)) ∙ c.in-Branch.is in
-    let next = walk_next c.args.align cells c.args.self.now c.loop.row c.loop.counter part c.args.input.now c.loop.input c.read_part.new.input c.loop.invariant.0 c.loop-test.true c.in_ok-part.ensures.below c.in_ok-part.ensures.read in
-    (subst (λ (at : Cell). Walked c.args.align cells c.args.self.now at (c.loop.counter + 1) c.args.input.now c.read_part.new.input) here next,
-    omega (arith, c.tick.ensures, c.loop.invariant.1), c.in_ok-part.ensures.bytes ∙ c.loop.invariant.2, c.in_ok-part.ensures.aligned)
+    let next = walk_next c.args.align cells c.args.self.now c.loop.row c.loop.counter part c.args.input.now c.loop.input c.read_part.new.input c.loop.invariant.0 c.loop-test.true c.in_ok-part.ensures.below c.in_ok-part.ensures.read in (
+      subst (λ (at : Cell). Walked c.args.align cells c.args.self.now at (c.loop.counter + 1) c.args.input.now c.read_part.new.input) here next,
+      omega (arith, c.tick.ensures, c.loop.invariant.1),
+      c.in_ok-part.ensures.bytes ∙ c.loop.invariant.2,
+      c.in_ok-part.ensures.aligned,
+    )
