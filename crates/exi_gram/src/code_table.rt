@@ -101,7 +101,7 @@ impl CodeTable {
         match self.walk(input, align, steps) {
             Ok(place) => Ok(place),
             Err(fault) => {
-                input.back(bit);
+                input.go_to_bit(bit);
                 Err(fault)
             }
         }
