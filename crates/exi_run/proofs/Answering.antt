@@ -23,6 +23,7 @@ IsKind name due = ((name ≡ None) × (due ≡ usage_due)) ⊎ ((due ≡ failed_
 told_of : (s : Status) (e : End) → s ≡ status_of e → IsTold s
 told_of s (end.Done bit) is = subst IsTold (sym is) tt
 told_of s (end.Fault f) is = subst IsTold (sym is) tt
+told_of s (end.NotBuilt bit) is = subst IsTold (sym is) tt
 
 of_bytes : (name : Option (List ℕ)) (bytes : List ℕ) (due : Due) → OwedOf bytes due → IsKind name due
 of_bytes name bytes due owed =

@@ -13,6 +13,6 @@ pub no_bits : (s : Spot) → field_at 0 align.Bits s ≡ Ok (0, s)
 unfolding field_at number_at value_of
 no_bits s = rw (le-ltb (left s) 0 (omega arith), add-zero) refl
 
-pub no_place : (s : Spot) → hit_at [] s ≡ fault_at kind.NotBuilt s
+pub no_place : (s : Spot) → hit_at [] s ≡ fault_at kind.BadPlace s
 unfolding hit_at below_at width_from
 no_place s = rw (no_bits s) refl

@@ -42,7 +42,7 @@ good_text : (r : Result (List ℕ × Spot) Fault) → IsGood 3 (r >>= λ value. 
 good_text (Ok x) = (refl, lit< tt)
 good_text (Err f) = tt
 
-tag_chosen : (a b : Bool) (s t : Spot) → IsGood 3 (if a then Ok (ee, config t state.DocEnd) else (if b then text_at t else fault_at kind.NotBuilt s))
+tag_chosen : (a b : Bool) (s t : Spot) → IsGood 3 (if a then Ok (ee, config t state.DocEnd) else (if b then text_at t else fault_at kind.NoCode s))
 unfolding text_at
 tag_chosen true b s t = (refl, lit< tt)
 tag_chosen false true s t = good_text (value_at [] [] t)
@@ -52,11 +52,11 @@ good_tag : (s : Spot) (r : Result (ℕ × Spot) Fault) → IsGood 3 (r >>= λ co
 good_tag s (Ok x) = tag_chosen (x.0 == 0) (x.0 == 3) s x.1
 good_tag s (Err f) = tt
 
-content_chosen : (a : Bool) (s t : Spot) → IsGood 2 (if a then Ok (ee, config t state.DocEnd) else fault_at kind.NotBuilt s)
+content_chosen : (a : Bool) (s t : Spot) → IsGood 2 (if a then Ok (ee, config t state.DocEnd) else fault_at kind.NoCode s)
 content_chosen true s t = (refl, lit< tt)
 content_chosen false s t = tt
 
-good_content : (s : Spot) (r : Result (ℕ × Spot) Fault) → IsGood 2 (r >>= λ code. if code.0 == 0 then Ok (ee, config code.1 state.DocEnd) else fault_at kind.NotBuilt s)
+good_content : (s : Spot) (r : Result (ℕ × Spot) Fault) → IsGood 2 (r >>= λ code. if code.0 == 0 then Ok (ee, config code.1 state.DocEnd) else fault_at kind.NoCode s)
 good_content s (Ok x) = content_chosen (x.0 == 0) s x.1
 good_content s (Err f) = tt
 

@@ -49,7 +49,7 @@ one_root c e = rw (e, no_bits c.spot) (bind_bind (name_at first_partitions c.spo
 
 -- ---- the start tag
 abbrev tag_part : Spot → ℕ × Spot → Result (Production × Spot) Fault
-tag_part s part = if any_read (going_on part.0 (going_on 0 (productions state.StartTagContent))) then code_at 1 (going_on part.0 (going_on 0 (productions state.StartTagContent))) part.1 else fault_at kind.NotBuilt s
+tag_part s part = if any_read (going_on part.0 (going_on 0 (productions state.StartTagContent))) then code_at 1 (going_on part.0 (going_on 0 (productions state.StartTagContent))) part.1 else fault_at kind.NoCode s
 
 tag_at : (s t : Spot) (n : ℕ) → (tag_part s (n, t) >>= finished) ≡ start_tag_by s n t
 unfolding code_at content_at text_at
@@ -78,10 +78,10 @@ one_start_tag c e = rw (e, no_bits c.spot) (tag_all c.spot (field_at 2 align.Bit
 
 -- ---- after the text
 abbrev content_part : Spot → ℕ × Spot → Result (Production × Spot) Fault
-content_part s part = if any_read (going_on part.0 (productions state.ElementContent)) then code_at 2 (going_on part.0 (productions state.ElementContent)) part.1 else fault_at kind.NotBuilt s
+content_part s part = if any_read (going_on part.0 (productions state.ElementContent)) then code_at 2 (going_on part.0 (productions state.ElementContent)) part.1 else fault_at kind.NoCode s
 
 abbrev content_by : Spot → ℕ × Spot → Result (Happening × Config) Fault
-content_by s code = if code.0 == 0 then Ok (ee, config code.1 state.DocEnd) else fault_at kind.NotBuilt s
+content_by s code = if code.0 == 0 then Ok (ee, config code.1 state.DocEnd) else fault_at kind.NoCode s
 
 part_at : (s t : Spot) (n : ℕ) → (content_part s (n, t) >>= finished) ≡ content_by s (n, t)
 unfolding code_at content_at

@@ -52,6 +52,7 @@ long_due = one_line (codes "too long input") status.TooLong
 abbrev pub status_of : End → Status
 status_of (end.Done bit) = status.Ok
 status_of (end.Fault f) = status.Fault
+status_of (end.NotBuilt bit) = status.Fault
 
 -- the lines of the events, and the line of the end
 abbrev pub whole_due : List Happening → End → Due

@@ -84,9 +84,9 @@ spelled_at (p ∷ ps) s = Ok (p, s)
 
 -- The production whose code comes next, of codes with at most so many parts: part by part, each a
 -- number in the fewest bits that tell its values apart. A part that leads only to productions that
--- this program does not read is NotBuilt at that part.
+-- this program does not read is at fault there.
 unfoldable pub code_at : ℕ → List Production → Spot → Result (Production × Spot) Fault
 code_at zero ps s = spelled_at ps s
 code_at (suc parts) ps s = if is_spelled ps then spelled_at ps s else (do
   part ← field_at (width_for (values_of ps)) align.Bits s
-  if any_read (going_on part.0 ps) then code_at parts (going_on part.0 ps) part.1 else fault_at kind.NotBuilt s)
+  if any_read (going_on part.0 ps) then code_at parts (going_on part.0 ps) part.1 else fault_at kind.NoCode s)

@@ -42,7 +42,7 @@ text_at s = do
   Ok (ch (text value.0), config value.1 state.ElementContent)
 
 abbrev pub start_tag_by : Spot → ℕ → Spot → Result (Happening × Config) Fault
-start_tag_by s code after = if code == 0 then Ok (ee, config after state.DocEnd) else (if code == 3 then text_at after else fault_at kind.NotBuilt s)
+start_tag_by s code after = if code == 0 then Ok (ee, config after state.DocEnd) else (if code == 3 then text_at after else fault_at kind.NoCode s)
 
 unfoldable pub start_tag_at : Spot → Result (Happening × Config) Fault
 start_tag_at s = do
@@ -52,4 +52,4 @@ start_tag_at s = do
 unfoldable pub element_content_at : Spot → Result (Happening × Config) Fault
 element_content_at s = do
   code ← field_at 1 align.Bits s
-  if code.0 == 0 then Ok (ee, config code.1 state.DocEnd) else fault_at kind.NotBuilt s
+  if code.0 == 0 then Ok (ee, config code.1 state.DocEnd) else fault_at kind.NoCode s

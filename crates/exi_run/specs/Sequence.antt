@@ -2,6 +2,7 @@
 use Rattle.std.specs.Prelude.{◌≡◌, ℕ, ◌+◌, ◌*◌, ◌/◌, ◌==◌, nat_lt, Bool, true, false, List, [], ◌∷◌, length, unwrap_or, Result, Ok, Err, if◌then◌else◌}
 use Rattle.exi_bits.specs.declared.align.Align.TheVariants as align
 use Rattle.exi_bits.specs.declared.fault.Fault.{Fault}
+use Rattle.exi_bits.specs.declared.fault.Kind.{Kind}
 use Rattle.exi_bits.specs.declared.fault.Kind.TheVariants as kind
 use Rattle.exi_bits.specs.declared.fault.Part.TheVariants as part
 use Rattle.exi_bits.specs.Bits.{Spot}
@@ -32,7 +33,7 @@ content_at start_element s = do
   name ← name_at first_partitions s
   Ok (se name.0, name.1)
 content_at end_element s = Ok (ee, s)
-content_at attribute s = fault_at kind.NotBuilt s
+content_at attribute s = fault_at kind.NoCode s
 content_at characters s = do
   value ← value_at [] [] s
   Ok (ch (text value.0), value.1)
@@ -45,9 +46,37 @@ one c = do
   Ok (event.0, config event.1 (unwrap_or chosen.0.to state.Ended))
 
 -- ---- the end
+-- The kinds that this program tells. Each other fault of a body is NotBuilt: it may be one of the stream, or
+-- a construct that is not read yet.
+abbrev pub is_told : Kind → Bool
+is_told kind.NoExi = true
+is_told (kind.Unsupported p) = true
+is_told kind.Short = true
+is_told kind.TooWide = true
+is_told kind.Version = false
+is_told kind.Conflict = false
+is_told kind.WrongSchema = false
+is_told kind.BadFloat = false
+is_told kind.BadChar = false
+is_told kind.BadMoment = false
+is_told kind.BadPlace = false
+is_told kind.ListTooLong = false
+is_told kind.NoCode = false
+is_told kind.BadType = false
+is_told kind.ScPlace = false
+is_told kind.ScRoot = false
+is_told kind.ScNotOne = false
+is_told kind.EventLimit = false
+is_told kind.TextLimit = false
+is_told kind.DepthLimit = false
+is_told kind.TrailingBytes = false
+
+abbrev pub end_of : Fault → End
+end_of f = if is_told f.kind then end.Fault f else end.NotBuilt f.bit
+
 -- After ED the rest of the last byte may hold anything; a whole byte more is at fault.
 unfoldable pub closed_at : Spot → End
-closed_at s = if nat_lt ((s.place + 7) / 8) (length s.bytes) then end.Fault (record { kind = kind.NotBuilt; bit = 8 * ((s.place + 7) / 8) }) else end.Done s.place
+closed_at s = if nat_lt ((s.place + 7) / 8) (length s.bytes) then end.NotBuilt (8 * ((s.place + 7) / 8)) else end.Done s.place
 
 -- what comes next in a configuration: an event and the next configuration, or the end
 pub data Move : Type 0 where
@@ -56,7 +85,7 @@ pub data Move : Type 0 where
 
 abbrev pub moved_by : Result (Happening × Config) Fault → Move
 moved_by (Ok next) = goes next.0 next.1
-moved_by (Err f) = ends (end.Fault f)
+moved_by (Err f) = ends (end_of f)
 
 abbrev pub has_ended : State → Bool
 has_ended state.Document = false

@@ -34,7 +34,7 @@ locals_of (p ∷ ps) uri = if bytes_eq uri p.uri then p.locals else locals_of ps
 unfoldable pub char_at : Spot → Result (ℕ × Spot) Fault
 char_at s = do
   c ← unsigned_at s
-  if is_xml_char c.0 then Ok c else fault_at kind.NotBuilt s
+  if is_xml_char c.0 then Ok c else fault_at kind.BadChar s
 
 -- a literal: its length in characters, and its characters
 unfoldable pub literal_at : Spot → Result (List ℕ × Spot) Fault
@@ -46,7 +46,7 @@ literal_at s = do
 unfoldable pub below_at : ℕ → Spot → Result (ℕ × Spot) Fault
 below_at count s = do
   found ← field_at (width_for count) align.Bits s
-  if nat_lt found.0 count then Ok found else fault_at kind.NotBuilt s
+  if nat_lt found.0 count then Ok found else fault_at kind.BadPlace s
 
 -- a hit: the text at a place
 unfoldable pub hit_at : List (List ℕ) → Spot → Result (List ℕ × Spot) Fault

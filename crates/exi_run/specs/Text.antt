@@ -127,3 +127,4 @@ kind_words k = kind_word k ++ part_words k
 unfoldable pub last_line : End → List ℕ
 last_line (end.Done bit) = codes "done " ++ decimal bit ++ 10 ∷ []
 last_line (end.Fault f) = codes "fault " ++ kind_words f.kind ++ 32 ∷ decimal f.bit ++ 10 ∷ []
+last_line (end.NotBuilt bit) = codes "fault NotBuilt " ++ decimal bit ++ 10 ∷ []

@@ -22,7 +22,7 @@ fn read_char(input: &mut BitIn<'_>) -> Result<char, Fault>
     }
     input.go_to_bit(bit);
     Err(Fault {
-        kind: Kind::NotBuilt,
+        kind: Kind::BadChar,
         bit,
     })
 }
@@ -64,7 +64,7 @@ fn read_below(input: &mut BitIn<'_>, count: u64) -> Result<u64, Fault>
     }
     input.go_to_bit(bit);
     Err(Fault {
-        kind: Kind::NotBuilt,
+        kind: Kind::BadPlace,
         bit,
     })
 }
@@ -127,7 +127,7 @@ fn read_no_hit(input: &mut BitIn<'_>) -> Result<Txt, Stop>
     ensures bytes { input.new.bytes ≡ input.old.bytes }
 {
     Err(Stop::Fault(Fault {
-        kind: Kind::NotBuilt,
+        kind: Kind::BadPlace,
         bit: input.at(),
     }))
 }

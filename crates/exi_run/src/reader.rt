@@ -1,5 +1,5 @@
 ghost use Rattle.std.specs.Prelude.{◌≡◌, ◌≢◌, ◌≤◌, ◌<◌, IfOk};
-ghost use Rattle.exi_run.specs.Sequence.{Config, config, one, move, closed_at, has_ended};
+ghost use Rattle.exi_run.specs.Sequence.{Config, config, one, move, closed_at, end_of, has_ended};
 ghost use Rattle.exi_run.specs.Reading.{Steps, Turns, start_tag_at, element_content_at, root_at};
 
 use crate::names::{read_first_value, read_name};
@@ -26,6 +26,21 @@ pub enum End {
     Done(u64),
     /// It has this fault.
     Fault(Fault),
+    /// What stands at this bit is at fault, or is not read by this program yet.
+    NotBuilt(u64),
+}
+
+impl End {
+    /// The end by a fault of a body.
+    fn of(fault: Fault) -> End
+        ensures { result ≡ end_of fault }
+    {
+        if matches!(fault.kind, Kind::NoExi | Kind::Unsupported(_) | Kind::Short | Kind::TooWide) {
+            End::Fault(fault)
+        } else {
+            End::NotBuilt(fault.bit)
+        }
+    }
 }
 
 /// What comes next in a stream.
@@ -88,7 +103,7 @@ impl<'a> Reader<'a> {
                 Ok(Event::Ch(Val::Text(text)))
             }
             _ => Err(Stop::Fault(Fault {
-                kind: Kind::NotBuilt,
+                kind: Kind::NoCode,
                 bit,
             })),
         }
@@ -105,7 +120,7 @@ impl<'a> Reader<'a> {
             return Ok(Event::Ee);
         }
         Err(Stop::Fault(Fault {
-            kind: Kind::NotBuilt,
+            kind: Kind::NoCode,
             bit,
         }))
     }
@@ -141,10 +156,7 @@ impl<'a> Reader<'a> {
         if self.input.left() == 0 {
             return End::Done(place);
         }
-        End::Fault(Fault {
-            kind: Kind::NotBuilt,
-            bit: self.input.at(),
-        })
+        End::NotBuilt(self.input.at())
     }
 
     /// The next event, or the end.
@@ -160,7 +172,7 @@ impl<'a> Reader<'a> {
         }
         match self.event(alloc) {
             Ok(event) => Ok(Turn::Event(event)),
-            Err(Stop::Fault(fault)) => Ok(Turn::End(End::Fault(fault))),
+            Err(Stop::Fault(fault)) => Ok(Turn::End(End::of(fault))),
             Err(Stop::Memory) => Err(AllocError),
         }
     }

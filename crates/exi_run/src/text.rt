@@ -223,6 +223,7 @@ pub fn print_end(alloc: Global, end: End) -> Result<Vec<u8>, AllocError>
             push_kind(&mut out, fault.kind)?;
             push_number(&mut out, b" ", fault.bit)?;
         }
+        End::NotBuilt(bit) => push_number(&mut out, b"fault NotBuilt ", bit)?,
     }
     out.push(b'\n')?;
     Ok(out)

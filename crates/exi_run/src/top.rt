@@ -72,7 +72,7 @@ fn status(end: End) -> Status
 {
     match end {
         End::Done(_) => Status::Ok,
-        End::Fault(_) => Status::Fault,
+        End::Fault(_) | End::NotBuilt(_) => Status::Fault,
     }
 }
 
