@@ -35,7 +35,10 @@ impl End {
     fn of(fault: Fault) -> End
         ensures { result ≡ end_of fault }
     {
-        if matches!(fault.kind, Kind::NoExi | Kind::Unsupported(_) | Kind::Short | Kind::TooWide) {
+        if matches!(
+            fault.kind,
+            Kind::NoExi | Kind::Unsupported(_) | Kind::Short | Kind::TooWide
+        ) {
             End::Fault(fault)
         } else {
             End::NotBuilt(fault.bit)
