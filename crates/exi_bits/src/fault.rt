@@ -105,9 +105,6 @@ pub enum Kind {
     /// Bytes after the end of the stream.
     #[error("TrailingBytes")]
     TrailingBytes,
-    /// A construct that this program does not read yet.
-    #[error("NotBuilt")]
-    NotBuilt,
 }
 
 impl Kind {
@@ -137,7 +134,6 @@ impl Kind {
             Kind::TextLimit => "TextLimit",
             Kind::DepthLimit => "DepthLimit",
             Kind::TrailingBytes => "TrailingBytes",
-            Kind::NotBuilt => "NotBuilt",
         }
     }
 }

@@ -4,9 +4,9 @@ use Rattle.std.proofs.lemmas.Bool.{le-ltb}
 use Rattle.exi_bits.specs.declared.align.Align.TheVariants as align
 use Rattle.exi_bits.specs.declared.fault.Kind.TheVariants as kind
 use Rattle.exi_bits.specs.Bits.{Spot, left, number_at, value_of}
-use Rattle.exi_bits.specs.Unsigned.{field_at, fault_at}
+use Rattle.exi_bits.specs.Unsigned.{below_at, field_at, fault_at}
 use Rattle.exi_bits.specs.Widths.{width_from}
-use Rattle.exi_run.specs.StringTables.{below_at, hit_at}
+use Rattle.exi_run.specs.StringTables.{hit_at}
 
 -- a number of no bits is 0, and takes nothing
 pub no_bits : (s : Spot) → field_at 0 align.Bits s ≡ Ok (0, s)

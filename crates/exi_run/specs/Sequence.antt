@@ -66,12 +66,10 @@ is_told kind.BadType = false
 is_told kind.ScPlace = false
 is_told kind.ScRoot = false
 is_told kind.ScNotOne = false
-is_told kind.AmbiguousName = false
 is_told kind.EventLimit = false
 is_told kind.TextLimit = false
 is_told kind.DepthLimit = false
 is_told kind.TrailingBytes = false
-is_told kind.NotBuilt = false
 
 abbrev pub end_of : Fault → End
 end_of f = if is_told f.kind then end.Fault f else end.NotBuilt f.bit

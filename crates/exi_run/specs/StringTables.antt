@@ -1,15 +1,14 @@
 -- Names and values on the stream, as hits or misses in the string tables (W3C EXI 1.0, sections
 -- 7.1.10 and 7.3, appendix D). The stream is bit-packed. What a miss would add to the tables is not
 -- looked up again in a stream of one element, so no table grows here.
-use Rattle.std.specs.Prelude.{ℕ, ◌+◌, ◌-◌, ◌==◌, nat_lt, List, [], ◌∷◌, map, length, slice_index_or, None, Result, Ok, if◌then◌else◌, codes}
+use Rattle.std.specs.Prelude.{ℕ, ◌+◌, ◌-◌, ◌==◌, List, [], ◌∷◌, map, length, slice_index_or, None, Result, Ok, if◌then◌else◌, codes}
 use Rattle.std.specs.Str.{bytes_eq}
 use Rattle.exi_bits.specs.declared.align.Align.TheVariants as align
 use Rattle.exi_bits.specs.declared.fault.Fault.{Fault}
 use Rattle.exi_bits.specs.declared.fault.Kind.TheVariants as kind
 use Rattle.exi_bits.specs.Bits.{Spot}
-use Rattle.exi_bits.specs.Unsigned.{◌>>=◌, unsigned_at, field_at, fault_at}
+use Rattle.exi_bits.specs.Unsigned.{◌>>=◌, unsigned_at, below_at, fault_at}
 use Rattle.exi_bits.specs.Repeat.{times}
-use Rattle.exi_bits.specs.Widths.{width_for}
 use Rattle.exi_names.specs.declared.names.QName.{QName}
 use Rattle.exi_names.specs.Characters.{is_xml_char}
 
@@ -42,22 +41,16 @@ literal_at s = do
   count ← unsigned_at s
   times char_at count.0 count.1
 
--- a number below a count, in the fewest bits that tell so many apart
-unfoldable pub below_at : ℕ → Spot → Result (ℕ × Spot) Fault
-below_at count s = do
-  found ← field_at (width_for count) align.Bits s
-  if nat_lt found.0 count then Ok found else fault_at kind.BadPlace s
-
 -- a hit: the text at a place
 unfoldable pub hit_at : List (List ℕ) → Spot → Result (List ℕ × Spot) Fault
 hit_at texts s = do
-  place ← below_at (length texts) s
+  place ← below_at (length texts) align.Bits kind.BadPlace s
   Ok (slice_index_or texts place.0 [], place.1)
 
 -- a URI: 0 is a miss, with a literal, and k a hit at place k - 1 (section 7.3.2)
 unfoldable pub uri_at : List Partition → Spot → Result (List ℕ × Spot) Fault
 uri_at ps s = do
-  code ← below_at (length ps + 1) s
+  code ← below_at (length ps + 1) align.Bits kind.BadPlace s
   if code.0 == 0 then literal_at code.1 else Ok (slice_index_or (map (λ (p : Partition). p.uri) ps) (code.0 - 1) [], code.1)
 
 -- a local name: 0 is a hit, with its place, and n a miss of n - 1 characters (section 7.3.3)

@@ -118,7 +118,6 @@ part_words kind.EventLimit = []
 part_words kind.TextLimit = []
 part_words kind.DepthLimit = []
 part_words kind.TrailingBytes = []
-part_words kind.NotBuilt = []
 
 abbrev pub kind_words : Kind → List ℕ
 kind_words k = kind_word k ++ part_words k

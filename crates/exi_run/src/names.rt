@@ -1,11 +1,11 @@
 ghost use Rattle.std.specs.Prelude.{◌≡◌, ◌<◌, ◌≤◌, ◌^◌, [], length, IfOk};
 ghost use Rattle.exi_bits.specs.Repeat.{times};
 ghost use Rattle.exi_bits.specs.Unsigned.{Reads, Stops};
-ghost use Rattle.exi_run.specs.StringTables.{first_partitions, char_at, literal_at, below_at, hit_at, uri_at, local_at, name_at, value_at};
+ghost use Rattle.exi_run.specs.StringTables.{first_partitions, char_at, literal_at, hit_at, uri_at, local_at, name_at, value_at};
 ghost use Rattle.exi_run.specs.Spaces.{locals_in};
 
 use crate::spaces::{FIRST_URIS, Space, first_uri, space_of};
-use exi_bits::{Align, BitIn, Fault, Kind, Stop, bits_for};
+use exi_bits::{Align, BitIn, Fault, Kind, Stop};
 use exi_names::{QName, Txt, xml_char};
 use std::alloc::Global;
 
@@ -50,32 +50,13 @@ fn read_literal(alloc: Global, input: &mut BitIn<'_>) -> Result<Txt, Stop>
     read_chars(alloc, input, count)
 }
 
-/// A number that has to be below the count, in the fewest bits that tell so many values apart.
-#[tactic(auto, unfolding(crate::specs::StringTables::below_at))]
-fn read_below(input: &mut BitIn<'_>, count: u64) -> Result<u64, Fault>
-    ensures read { Reads (λ v. v) result input.old input.new (below_at count input.old) }
-    ensures below { IfOk result (λ v. v < count) }
-    ensures bytes { input.new.bytes ≡ input.old.bytes }
-{
-    let bit = input.at();
-    let value = input.number(bits_for(count), Align::Bits)?;
-    if value < count {
-        return Ok(value);
-    }
-    input.go_to_bit(bit);
-    Err(Fault {
-        kind: Kind::BadPlace,
-        bit,
-    })
-}
-
 /// The URI of a name.
 #[tactic(auto, unfolding(crate::specs::StringTables::uri_at))]
 fn read_uri(alloc: Global, input: &mut BitIn<'_>) -> Result<Txt, Stop>
     ensures read { Stops (λ t. t) result input.new (uri_at first_partitions input.old) }
     ensures bytes { input.new.bytes ≡ input.old.bytes }
 {
-    let code = read_below(input, FIRST_URIS + 1)?;
+    let code = input.below(FIRST_URIS + 1, Align::Bits, Kind::BadPlace)?;
     if code == 0 {
         return read_literal(alloc, input);
     }
@@ -88,7 +69,7 @@ fn read_local_hit(alloc: Global, input: &mut BitIn<'_>, space: Space) -> Result<
     ensures read { Stops (λ t. t) result input.new (hit_at (locals_in space) input.old) }
     ensures bytes { input.new.bytes ≡ input.old.bytes }
 {
-    let place = read_below(input, space.count())?;
+    let place = input.below(space.count(), Align::Bits, Kind::BadPlace)?;
     Ok(Txt::of(alloc, space.local(place))?)
 }
 
@@ -121,7 +102,7 @@ pub fn read_name(alloc: Global, input: &mut BitIn<'_>) -> Result<QName, Stop>
 }
 
 /// A hit among no values: the number takes no bits, and no value stands at it.
-#[tactic(auto, unfolding(crate::specs::StringTables::hit_at, crate::specs::StringTables::below_at))]
+#[tactic(auto, unfolding(crate::specs::StringTables::hit_at, exi_bits::specs::Unsigned::below_at))]
 fn read_no_hit(input: &mut BitIn<'_>) -> Result<Txt, Stop>
     ensures read { Stops (λ t. t) result input.new (hit_at [] input.old) }
     ensures bytes { input.new.bytes ≡ input.old.bytes }
