@@ -17,6 +17,7 @@
 //! bits before the item, `BIT` the place behind it. A line that is no case is answered by `?`.
 #![tactic(auto)]
 
+mod datatypes;
 mod fields;
 mod reads;
 mod show;
@@ -26,24 +27,17 @@ mod writes;
 use std::alloc::{AllocError, Global};
 use std::io;
 
-/// The answer to a case, and nothing where the line is none.
+/// The answer to a case, and nothing where the line is none. Each kind of case is named in one arm, and read in its
+/// own file.
 fn answer(alloc: Global, line: &str) -> Result<Option<String>, AllocError> {
-    let mut words = Vec::new(alloc);
-    for word in line.split(' ') {
-        words.push(word)?;
+    let mut fields = Vec::new(alloc);
+    for field in line.split(' ') {
+        fields.push(field)?;
     }
-    match words.as_slice() {
-        ["uint", skip, hex] => reads::unsigned(alloc, skip, hex),
-        ["nbit", align, width, skip, hex] => reads::number(alloc, align, width, skip, hex),
-        ["wbit", align, width, skip, number] => writes::number(alloc, align, width, skip, number),
-        ["wuint", skip, number] => writes::unsigned(alloc, skip, number),
-        ["read", kind, align, skip, hex] => reads::value(alloc, kind, align, skip, hex),
-        ["chars", set, align, count, skip, hex] => {
-            reads::chars(alloc, set, align, count, skip, hex)
-        }
-        ["wchars", set, align, skip, text] => writes::chars(alloc, set, align, skip, text),
-        ["value", kind, text] => texts::value(alloc, kind, text),
-        ["write", kind, align, skip, text] => texts::write(alloc, kind, align, skip, text),
+    match fields.as_slice() {
+        ["uint" | "nbit" | "read" | "chars", ..] => reads::answer(alloc, fields.as_slice()),
+        ["wuint" | "wbit" | "wchars", ..] => writes::answer(alloc, fields.as_slice()),
+        ["value" | "write", ..] => texts::answer(alloc, fields.as_slice()),
         _ => Ok(None),
     }
 }

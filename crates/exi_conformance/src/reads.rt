@@ -2,6 +2,7 @@
 
 ghost use Rattle.exi_bits.specs.Bits.{IsAligned};
 
+use crate::datatypes::moment_kind;
 use crate::fields::{align_of, bytes_of, open, set_of};
 use crate::show;
 use exi_bits::{Align, BitIn, Fault, Kind, Stop};
@@ -11,6 +12,17 @@ use exi_names::{MomentKind, Val};
 use exi_scalar::{read_binary, read_boolean, read_decimal, read_float, read_integer};
 use exi_text::read_chars;
 use std::alloc::{AllocError, Global};
+
+/// The answer to a case of this file.
+pub fn answer(alloc: Global, fields: &[&str]) -> Result<Option<String>, AllocError> {
+    match fields {
+        ["uint", skip, hex] => unsigned(alloc, skip, hex),
+        ["nbit", align, width, skip, hex] => number(alloc, align, width, skip, hex),
+        ["read", kind, align, skip, hex] => value(alloc, kind, align, skip, hex),
+        ["chars", set, align, count, skip, hex] => chars(alloc, set, align, count, skip, hex),
+        _ => Ok(None),
+    }
+}
 
 /// Behind the last byte, where no reader starts, an item lacks bits.
 fn behind(alloc: Global, bytes: &[u8], skip: u64) -> Result<Option<String>, AllocError> {
@@ -25,7 +37,7 @@ fn behind(alloc: Global, bytes: &[u8], skip: u64) -> Result<Option<String>, Allo
 }
 
 /// `uint SKIP HEX`
-pub fn unsigned(alloc: Global, skip: &str, hex: &str) -> Result<Option<String>, AllocError> {
+fn unsigned(alloc: Global, skip: &str, hex: &str) -> Result<Option<String>, AllocError> {
     let (Ok(skip), Some(bytes)) = (skip.parse::<u64>(), bytes_of(alloc, hex)?) else {
         return Ok(None);
     };
@@ -42,7 +54,7 @@ pub fn unsigned(alloc: Global, skip: &str, hex: &str) -> Result<Option<String>, 
 }
 
 /// `nbit ALIGN WIDTH SKIP HEX`
-pub fn number(
+fn number(
     alloc: Global,
     align: &str,
     width: &str,
@@ -77,21 +89,6 @@ fn stops(read: Result<Val, Fault>) -> Result<Val, Stop> {
     }
 }
 
-/// The kind of dates or times of that name.
-pub fn moment_kind(name: &str) -> Option<MomentKind> {
-    match name {
-        "gYear" => Some(MomentKind::GYear),
-        "gYearMonth" => Some(MomentKind::GYearMonth),
-        "date" => Some(MomentKind::Date),
-        "dateTime" => Some(MomentKind::DateTime),
-        "gMonth" => Some(MomentKind::GMonth),
-        "gMonthDay" => Some(MomentKind::GMonthDay),
-        "gDay" => Some(MomentKind::GDay),
-        "time" => Some(MomentKind::Time),
-        _ => None,
-    }
-}
-
 fn moment(input: &mut BitIn<'_>, kind: MomentKind, align: Align) -> Result<Val, Stop>
     requires { IsAligned align input.old }
 {
@@ -102,7 +99,7 @@ fn moment(input: &mut BitIn<'_>, kind: MomentKind, align: Align) -> Result<Val, 
 }
 
 /// `read DATATYPE ALIGN SKIP HEX`
-pub fn value(
+fn value(
     alloc: Global,
     kind: &str,
     align: &str,
@@ -142,7 +139,7 @@ pub fn value(
 }
 
 /// `chars SET ALIGN COUNT SKIP HEX`
-pub fn chars(
+fn chars(
     alloc: Global,
     set: &str,
     align: &str,

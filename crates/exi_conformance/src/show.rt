@@ -2,11 +2,11 @@
 
 ghost use Rattle.std.specs.Prelude.{◌≡◌, true, IfSome};
 ghost use Rattle.exi_names.specs.Seen.{seen};
-ghost use Rattle.exi_lexical.specs.Values.{has_text};
+ghost use Rattle.exi_names.specs.Texts.{has_text};
 
 use exi_bits::{BitOut, Fault, Stop};
 use exi_lexical::canon;
-use exi_names::Val;
+use exi_names::{Txt, Val, ValList};
 use std::alloc::{AllocError, Global};
 
 /// Bytes as hex digits, `-` where there are none.
@@ -61,8 +61,14 @@ fn word(value: &Val) -> Option<&'static str>
     }
 }
 
+/// A string, by the hex of its UTF-8.
+fn text(alloc: Global, text: &Txt) -> Result<Option<String>, AllocError> {
+    let hex = hex(alloc, text.as_str().as_bytes())?;
+    Ok(Some(format!(in alloc; "text {hex}")?))
+}
+
 /// A value's kind and canonical text, `-` where that is empty.
-pub fn value(alloc: Global, value: &Val) -> Result<Option<String>, AllocError> {
+fn scalar(alloc: Global, value: &Val) -> Result<Option<String>, AllocError> {
     let Some(word) = word(value) else {
         return Ok(None);
     };
@@ -70,6 +76,31 @@ pub fn value(alloc: Global, value: &Val) -> Result<Option<String>, AllocError> {
     let text = text.as_str();
     let text = if text.is_empty() { "-" } else { text };
     Ok(Some(format!(in alloc; "{word} {text}")?))
+}
+
+/// A value by its kind: a string's hex, a list's items, any other value's canonical text.
+#[cycle(value)]
+pub fn value(alloc: Global, found: &Val) -> Result<Option<String>, AllocError> {
+    match found {
+        Val::Text(found) => text(alloc, found),
+        Val::Items(items) => list(alloc, items),
+        _ => scalar(alloc, found),
+    }
+}
+
+/// The number of values, and each of them.
+#[cycle(value)]
+fn list(alloc: Global, items: &ValList) -> Result<Option<String>, AllocError> {
+    let count = items.items.len();
+    let mut line = format!(in alloc; "list {count}")?;
+    for item in &items.items {
+        let Some(shown) = value(alloc, item)? else {
+            return Ok(None);
+        };
+        line.push(' ')?;
+        line.push_str(shown.as_str())?;
+    }
+    Ok(Some(line))
 }
 
 /// A value's kind and canonical text, and the place behind it.

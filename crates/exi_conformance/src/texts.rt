@@ -5,8 +5,8 @@ ghost use Rattle.exi_bits.specs.Written.{IsWholeBytes};
 ghost use Rattle.exi_names.specs.Seen.{float};
 ghost use Rattle.exi_scalar.specs.Scalars.{IsFloat, IsInteger};
 
+use crate::datatypes::datatype;
 use crate::fields::{align_of, text_of, zeros};
-use crate::reads::moment_kind;
 use crate::show;
 use exi_bits::{Align, BitOut};
 use exi_lexical::value_of;
@@ -15,23 +15,18 @@ use exi_names::{Datatype, Val, Whole};
 use exi_scalar::{write_binary, write_boolean, write_decimal, write_float, write_integer};
 use std::alloc::{AllocError, Global};
 
-/// The datatype of that name.
-fn datatype(name: &str) -> Option<Datatype> {
-    match name {
-        "integer" => Some(Datatype::Integer),
-        "boolean" => Some(Datatype::Boolean { pattern: false }),
-        "boolean-pattern" => Some(Datatype::Boolean { pattern: true }),
-        "decimal" => Some(Datatype::Decimal),
-        "float" => Some(Datatype::Float),
-        "hex" => Some(Datatype::Binary { hex: true }),
-        "base64" => Some(Datatype::Binary { hex: false }),
-        _ => moment_kind(name).map(Datatype::Moment),
+/// The answer to a case of this file.
+pub fn answer(alloc: Global, fields: &[&str]) -> Result<Option<String>, AllocError> {
+    match fields {
+        ["value", kind, text] => value(alloc, kind, text),
+        ["write", kind, align, skip, text] => write(alloc, kind, align, skip, text),
+        _ => Ok(None),
     }
 }
 
 /// `value DATATYPE TEXT`
-pub fn value(alloc: Global, kind: &str, text: &str) -> Result<Option<String>, AllocError> {
-    let (Some(kind), Some(text)) = (datatype(kind), text_of(alloc, text)?) else {
+fn value(alloc: Global, kind: &str, text: &str) -> Result<Option<String>, AllocError> {
+    let (Some(kind), Some(text)) = (datatype(alloc, kind)?, text_of(alloc, text)?) else {
         return Ok(None);
     };
     match value_of(alloc, &kind, &text)? {
@@ -83,7 +78,7 @@ fn put(out: &mut BitOut, pattern: bool, value: &Val, align: Align) -> Result<boo
 }
 
 /// `write DATATYPE ALIGN SKIP TEXT`
-pub fn write(
+fn write(
     alloc: Global,
     kind: &str,
     align: &str,
@@ -93,7 +88,7 @@ pub fn write(
     let (Some(align), Ok(skip)) = (align_of(align), skip.parse::<u64>()) else {
         return Ok(None);
     };
-    let (Some(kind), Some(text)) = (datatype(kind), text_of(alloc, text)?) else {
+    let (Some(kind), Some(text)) = (datatype(alloc, kind)?, text_of(alloc, text)?) else {
         return Ok(None);
     };
     let Some(mut out) = zeros(alloc, align, skip)? else {

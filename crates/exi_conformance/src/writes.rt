@@ -6,8 +6,18 @@ use exi_bits::Align;
 use exi_text::{is_writable, write_chars};
 use std::alloc::{AllocError, Global};
 
+/// The answer to a case of this file.
+pub fn answer(alloc: Global, fields: &[&str]) -> Result<Option<String>, AllocError> {
+    match fields {
+        ["wbit", align, width, skip, value] => number(alloc, align, width, skip, value),
+        ["wuint", skip, value] => unsigned(alloc, skip, value),
+        ["wchars", set, align, skip, text] => chars(alloc, set, align, skip, text),
+        _ => Ok(None),
+    }
+}
+
 /// `wbit ALIGN WIDTH SKIP NUMBER`
-pub fn number(
+fn number(
     alloc: Global,
     align: &str,
     width: &str,
@@ -40,7 +50,7 @@ pub fn number(
 }
 
 /// `wuint SKIP NUMBER`
-pub fn unsigned(alloc: Global, skip: &str, number: &str) -> Result<Option<String>, AllocError> {
+fn unsigned(alloc: Global, skip: &str, number: &str) -> Result<Option<String>, AllocError> {
     let (Ok(skip), Ok(number)) = (skip.parse::<u64>(), number.parse::<u128>()) else {
         return Ok(None);
     };
@@ -52,7 +62,7 @@ pub fn unsigned(alloc: Global, skip: &str, number: &str) -> Result<Option<String
 }
 
 /// `wchars SET ALIGN SKIP TEXT`
-pub fn chars(
+fn chars(
     alloc: Global,
     set: &str,
     align: &str,
