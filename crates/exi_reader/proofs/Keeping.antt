@@ -23,8 +23,6 @@ all_same p = record {
   each_uri = λ place text is. is;
   each_local = λ uri place text is. is;
   each_prefix = λ uri place text is. is;
-  each_value = λ place text is. is;
-  each_own = λ name place text is. is;
 }
 
 pub all_then : (p q r : Partitions) → KeepsAll p q → KeepsAll q r → KeepsAll p r
@@ -32,8 +30,6 @@ all_then p q r x y = record {
   each_uri = λ place text is. y.each_uri place text (x.each_uri place text is);
   each_local = λ uri place text is. y.each_local uri place text (x.each_local uri place text is);
   each_prefix = λ uri place text is. y.each_prefix uri place text (x.each_prefix uri place text is);
-  each_value = λ place text is. y.each_value place text (x.each_value place text is);
-  each_own = λ name place text is. y.each_own name place text (x.each_own name place text is);
 }
 
 -- ---- courses

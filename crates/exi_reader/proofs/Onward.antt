@@ -15,10 +15,10 @@ use Rattle.exi_items.specs.Charges.{Charged, after_text, text_charge}
 use Rattle.exi_meter.specs.Metering.{Metering, text_fits, with_text}
 use Rattle.exi_names.specs.declared.names.NameId.{NameId}
 use Rattle.exi_names.specs.Characters.{is_xml_char}
-use Rattle.exi_tables.specs.Partitions.{live_at, locals, name_values, prefixes, uris, values, with_local, with_prefix, with_uri, with_value}
+use Rattle.exi_tables.specs.Partitions.{live_at, locals, prefixes, uris, values, with_local, with_prefix, with_uri, with_value}
 use Rattle.exi_text.specs.Literals.{char_at, chars_at, code_at as char_code_at, in_set_at, width_in}
 use Rattle.exi_typed.specs.Courses.{Course, Courser, at_spot_of, failing}
-use Rattle.exi_typed.specs.Strings.{Declaration, Growth, Named, charged_at, declaration_at, hit_at, indexed_at, known_at, literal_at, local_at, missed_at, name_at, name_under, place_in, placed_at, prefix_at, told_prefix, uri_at, value_at}
+use Rattle.exi_typed.specs.Strings.{Declaration, Growth, Named, Partition, charged_at, declaration_at, hit_at, indexed_at, known_at, listed, literal_at, local_at, missed_at, name_at, name_under, own_values, place_in, placed_at, prefix_at, told_prefix, uri_at, value_at}
 
 -- ---- results
 abbrev pub good : {A E : Type 0} → A → Result A E
@@ -219,9 +219,9 @@ pub placed_onward : (s : Spot) (o : Option (List ℕ)) → GoesOnward (placed_at
 placed_onward s (Some text) c d x e = charged_onward text c d x e
 placed_onward s None c d x e = absurd cc
 
-pub hit_onward : (a : Align) (partition : List (List ℕ)) → GoesOnward (hit_at a partition)
+pub hit_onward : (a : Align) (partition : Partition) → GoesOnward (hit_at a partition)
 unfolding hit_at
-hit_onward a partition = onward_behind (below_at (length partition) a kind.BadPlace) (λ c place. placed_at c.spot (live_at partition place)) (below_ahead (length partition) a kind.BadPlace) (λ c place. placed_onward c.spot (live_at partition place))
+hit_onward a partition = onward_behind (below_at partition.count a kind.BadPlace) (λ c place. placed_at c.spot (partition.text_at place)) (below_ahead partition.count a kind.BadPlace) (λ c place. placed_onward c.spot (partition.text_at place))
 
 chars_is : (set : Option (List ℕ)) (a : Align) (count : ℕ) (c d : Charged) (x : List ℕ) → chars_at set a count c ≡ good (x, d) → (times (char_at set a) count c.spot ≡ good (x, d.spot)) × (with_text c.meter count ≡ d.meter)
 unfolding chars_at
@@ -268,13 +268,13 @@ pub local_onward : (a : Align) (uri : ℕ) → GoesOnward (local_at a uri)
 unfolding local_at
 local_onward a uri =
     onward_behind unsigned_at
-    (λ c code d. cond (eqb code 0) (hit_at a (locals c.beside.tables uri) d) (missed_at None a (λ p. with_local p uri) (code - 1) d))
+    (λ c code d. cond (eqb code 0) (hit_at a (listed (locals c.beside.tables uri)) d) (missed_at None a (λ p. with_local p uri) (code - 1) d))
     unsigned_ahead
-    (λ c code. onward_either (eqb code 0) (hit_at a (locals c.beside.tables uri)) (missed_at None a (λ p. with_local p uri) (code - 1)) (hit_onward a (locals c.beside.tables uri)) (missed_onward None a (λ p. with_local p uri) (code - 1)))
+    (λ c code. onward_either (eqb code 0) (hit_at a (listed (locals c.beside.tables uri))) (missed_at None a (λ p. with_local p uri) (code - 1)) (hit_onward a (listed (locals c.beside.tables uri))) (missed_onward None a (λ p. with_local p uri) (code - 1)))
 
 told_onward : (a : Align) (partition : List (List ℕ)) → GoesOnward (told_prefix a partition)
 told_onward a [] c d x e = given_onward None c d x e
-told_onward a (p ∷ ps) c d x e = onward_made (hit_at a (p ∷ ps)) (λ text end. Some text) (hit_onward a (p ∷ ps)) c d x e
+told_onward a (p ∷ ps) c d x e = onward_made (hit_at a (listed (p ∷ ps))) (λ text end. Some text) (hit_onward a (listed (p ∷ ps))) c d x e
 
 pub prefix_onward : (keep : Bool) (a : Align) (uri : ℕ) → GoesOnward (prefix_at keep a uri)
 prefix_onward true a uri c d x e = told_onward a (prefixes c.beside.tables uri) c d x e
@@ -332,7 +332,7 @@ pub value_onward : (set : Option (List ℕ)) (a : Align) (name : NameId) → Goe
 unfolding value_at
 value_onward set a name =
     onward_behind unsigned_at
-    (λ c code d. cond (eqb code 0) (hit_at a (name_values c.beside.tables name) d) (cond (eqb code 1) (hit_at a (values c.beside.tables) d) (missed_at set a (λ p. with_value p name) (code - 2) d)))
+    (λ c code d. cond (eqb code 0) (hit_at a (own_values c.beside.tables name) d) (cond (eqb code 1) (hit_at a (listed (values c.beside.tables)) d) (missed_at set a (λ p. with_value p name) (code - 2) d)))
     unsigned_ahead
-    (λ c code. onward_either (eqb code 0) (hit_at a (name_values c.beside.tables name)) (λ d. cond (eqb code 1) (hit_at a (values c.beside.tables) d) (missed_at set a (λ p. with_value p name) (code - 2) d)) (hit_onward a (name_values c.beside.tables name))
-    (onward_either (eqb code 1) (hit_at a (values c.beside.tables)) (missed_at set a (λ p. with_value p name) (code - 2)) (hit_onward a (values c.beside.tables)) (missed_onward set a (λ p. with_value p name) (code - 2))))
+    (λ c code. onward_either (eqb code 0) (hit_at a (own_values c.beside.tables name)) (λ d. cond (eqb code 1) (hit_at a (listed (values c.beside.tables)) d) (missed_at set a (λ p. with_value p name) (code - 2) d)) (hit_onward a (own_values c.beside.tables name))
+    (onward_either (eqb code 1) (hit_at a (listed (values c.beside.tables))) (missed_at set a (λ p. with_value p name) (code - 2)) (hit_onward a (listed (values c.beside.tables))) (missed_onward set a (λ p. with_value p name) (code - 2))))

@@ -15,7 +15,7 @@ use Rattle.exi_reader.proofs.Soundness.{steps_keep_sound}
 -- ---- the first configuration
 pub first_is_sound : FirstIsSound
 first_is_sound g start limits begin names =
-    let p : Partitions = first_partitions g.names in
+    let p : Partitions = first_partitions g.names g.options.most g.options.capacity in
     record {
       learned = record { grammars = All-nil (IsSoundGrammar p); fragment = All-nil (IsElementOfName p) };
       elements = All-nil (IsSoundElement p nothing_learned);

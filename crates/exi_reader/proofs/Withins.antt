@@ -18,11 +18,11 @@ use Rattle.exi_names.specs.declared.names.NameId.{NameId}
 use Rattle.exi_names.specs.Events.{Happening}
 use Rattle.exi_names.specs.Seen.{Value}
 use Rattle.exi_names.specs.Seen as value
-use Rattle.exi_tables.specs.Partitions.{live_at, locals, name_values, prefixes as prefixes_of, uris, values, with_local, with_prefix, with_uri, with_value}
+use Rattle.exi_tables.specs.Partitions.{live_at, locals, prefixes as prefixes_of, uris, values, with_local, with_prefix, with_uri, with_value}
 use Rattle.exi_text.specs.Literals.{char_at, chars_at}
 use Rattle.exi_typed.specs.Courses.{Course, Courser, Failure, at_spot_of, failing}
 use Rattle.exi_typed.specs.NameValues.{name_value_at, with_meter}
-use Rattle.exi_typed.specs.Strings.{Declaration, Growth, Named, charged_at, declaration_at, hit_at, indexed_at, known_at, literal_at, local_at, missed_at, name_at, name_under, no_growth, place_in, placed_at, prefix_at, told_prefix, uri_at, value_at}
+use Rattle.exi_typed.specs.Strings.{Declaration, Growth, Named, Partition, charged_at, declaration_at, hit_at, indexed_at, known_at, listed, literal_at, local_at, missed_at, name_at, name_under, no_growth, own_values, place_in, placed_at, prefix_at, told_prefix, uri_at, value_at}
 use Rattle.exi_reader.specs.Configurations.{Config, Setting, Terminal, any_attribute, any_element, characters, comment, declaration, document_type, end_document, end_element, entity, first_config, instruction, known_attribute, known_element, productions_of, self_contained, start_document}
 use Rattle.exi_reader.specs.Laws.{IsWithinLimits, LimitsAreKept}
 use Rattle.exi_reader.specs.OneEvent.{Given, any_attribute_at, any_attribute_made, any_element_at, any_element_made, at_event, attribute_value_at, characters_at, characters_made, charged_if, comment_at, comment_made, declaration_event_at, declaration_made, document_type_at, document_type_made, entity_at, entity_made, event_charge, event_of, instruction_at, instruction_made, known_attribute_at, known_attribute_made, known_element_at, known_element_made, level_charge, name_of, one, remembered, string_at, text_at, type_at, went}
@@ -92,9 +92,9 @@ placed_within : (s : Spot) (o : Option (List ℕ)) → StaysWithin (placed_at s 
 placed_within s (Some text) limits c w = charged_within text limits c w
 placed_within s None limits c w = w
 
-hit_within : (a : Align) (partition : List (List ℕ)) → StaysWithin (hit_at a partition)
+hit_within : (a : Align) (partition : Partition) → StaysWithin (hit_at a partition)
 unfolding hit_at
-hit_within a partition limits c w = fine_behind limits c (below_at (length partition) a kind.BadPlace c.spot) (λ (place : ℕ). placed_at c.spot (live_at partition place)) w (λ place. placed_within c.spot (live_at partition place))
+hit_within a partition limits c w = fine_behind limits c (below_at partition.count a kind.BadPlace c.spot) (λ (place : ℕ). placed_at c.spot (partition.text_at place)) w (λ place. placed_within c.spot (partition.text_at place))
 
 -- ---- a miss
 abbrev missing : Growth → Course → List ℕ × Charged → Course
@@ -138,12 +138,12 @@ local_within : (a : Align) (uri : ℕ) → StaysWithin (local_at a uri)
 unfolding local_at
 local_within a uri limits c w =
     fine_behind limits c (unsigned_at c.spot)
-    (λ (code : ℕ) d. cond (eqb code 0) (hit_at a (locals c.beside.tables uri) d) (missed_at None a (λ p. with_local p uri) (code - 1) d)) w
-    (λ code. within_either (eqb code 0) (hit_at a (locals c.beside.tables uri)) (missed_at None a (λ p. with_local p uri) (code - 1)) (hit_within a (locals c.beside.tables uri)) (missed_within None a (λ p. with_local p uri) (code - 1)))
+    (λ (code : ℕ) d. cond (eqb code 0) (hit_at a (listed (locals c.beside.tables uri)) d) (missed_at None a (λ p. with_local p uri) (code - 1) d)) w
+    (λ code. within_either (eqb code 0) (hit_at a (listed (locals c.beside.tables uri))) (missed_at None a (λ p. with_local p uri) (code - 1)) (hit_within a (listed (locals c.beside.tables uri))) (missed_within None a (λ p. with_local p uri) (code - 1)))
 
 told_within : (a : Align) (partition : List (List ℕ)) → StaysWithin (told_prefix a partition)
 told_within a [] limits c w = w
-told_within a (p ∷ ps) limits c w = fine_made limits (hit_at a (p ∷ ps) c) (λ text end. Some text) (hit_within a (p ∷ ps) limits c w)
+told_within a (p ∷ ps) limits c w = fine_made limits (hit_at a (listed (p ∷ ps)) c) (λ text end. Some text) (hit_within a (listed (p ∷ ps)) limits c w)
 
 prefix_within : (keep : Bool) (a : Align) (uri : ℕ) → StaysWithin (prefix_at keep a uri)
 prefix_within true a uri limits c w = told_within a (prefixes_of c.beside.tables uri) limits c w
@@ -207,9 +207,9 @@ value_within : (set : Option (List ℕ)) (a : Align) (name : NameId) → StaysWi
 unfolding value_at
 value_within set a name limits c w =
     fine_behind limits c (unsigned_at c.spot)
-    (λ (code : ℕ) d. cond (eqb code 0) (hit_at a (name_values c.beside.tables name) d) (cond (eqb code 1) (hit_at a (values c.beside.tables) d) (missed_at set a (λ p. with_value p name) (code - 2) d))) w
-    (λ code. within_either (eqb code 0) (hit_at a (name_values c.beside.tables name)) (λ d. cond (eqb code 1) (hit_at a (values c.beside.tables) d) (missed_at set a (λ p. with_value p name) (code - 2) d)) (hit_within a (name_values c.beside.tables name))
-    (within_either (eqb code 1) (hit_at a (values c.beside.tables)) (missed_at set a (λ p. with_value p name) (code - 2)) (hit_within a (values c.beside.tables)) (missed_within set a (λ p. with_value p name) (code - 2))))
+    (λ (code : ℕ) d. cond (eqb code 0) (hit_at a (own_values c.beside.tables name) d) (cond (eqb code 1) (hit_at a (listed (values c.beside.tables)) d) (missed_at set a (λ p. with_value p name) (code - 2) d))) w
+    (λ code. within_either (eqb code 0) (hit_at a (own_values c.beside.tables name)) (λ d. cond (eqb code 1) (hit_at a (listed (values c.beside.tables)) d) (missed_at set a (λ p. with_value p name) (code - 2) d)) (hit_within a (own_values c.beside.tables name))
+    (within_either (eqb code 1) (hit_at a (listed (values c.beside.tables))) (missed_at set a (λ p. with_value p name) (code - 2)) (hit_within a (listed (values c.beside.tables))) (missed_within set a (λ p. with_value p name) (code - 2))))
 
 -- ---- values
 type_within : (g : Setting) → StaysWithin (type_at g)

@@ -25,8 +25,8 @@ use Rattle.exi_names.specs.StartTables.{Names}
 use Rattle.exi_tables.specs.Partitions.{Partitions, first_partitions}
 use Rattle.exi_typed.specs.Courses.{Course}
 
--- what a stream is read by: its options, and the first string tables. The string tables of values are unbounded, and
--- the options have no conflict: both are for whoever makes a setting
+-- what a stream is read by: its options, and the first string tables. The options have no
+-- conflict, which is for whoever makes a setting
 pub record Setting : Type 0 where
   pub options : Options
   pub names : Names
@@ -144,7 +144,7 @@ first_outer g body = start_of (fragment g.options)
 abbrev pub first_config : Setting → Start → Bounds → Spot → Config
 first_config g start limits begin = record {
   start = start;
-  course = record { spot = begin; beside = record { meter = nothing_used limits; tables = first_partitions g.names } };
+  course = record { spot = begin; beside = record { meter = nothing_used limits; tables = first_partitions g.names g.options.most g.options.capacity } };
   elements = [];
   outer = first_outer g start;
   learned = nothing_learned;

@@ -3,7 +3,7 @@ use Rattle.std.proofs.Common.{◌≡◌, ℕ, zero, suc, ◌<◌, ◌+◌, Bool,
 use Rattle.std.specs.Prelude.{position}
 use Rattle.std.specs.List.{prefix_len}
 use Rattle.std.proofs.lemmas.List.{length-map}
-use Rattle.exi_tables.specs.Partitions.{changed_at}
+use Rattle.exi_tables.specs.Values.{changed_at}
 
 pub set-changed_at : {X : Type 0} (f : X → X) (xs : List X) (i : ℕ) (n : X) → i < length xs → n ≡ get_or xs i n → set xs i (f n) ≡ changed_at xs i f
 set-changed_at f [] i n h e = absurd (omega (arith, h))

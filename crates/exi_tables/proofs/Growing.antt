@@ -6,9 +6,8 @@ use Rattle.std.proofs.lemmas.List.{length-map, map-append}
 use Rattle.std.proofs.lemmas.List.Elements.{filter-append}
 use Rattle.std.proofs.lemmas.Option.{slice_get_within, slice_get-get_or}
 use Rattle.exi_names.specs.declared.names.NameId.{NameId}
-use Rattle.exi_tables.specs.declared.partitions.Namespace.{Namespace}
-use Rattle.exi_tables.specs.declared.partitions.Added.{Added}
-use Rattle.exi_tables.specs.Partitions.{Partitions, IsName, uris, locals, locals_in, prefixes, prefixes_in, values, name_values, texts_under, same_name, changed_at, and_local, and_prefix, with_uri, with_local, with_prefix, with_value}
+use Rattle.exi_tables.specs.Partitions.{Namespace, Partitions, IsName, uris, locals, locals_in, prefixes, prefixes_in, and_local, and_prefix, with_uri, with_local, with_prefix, with_value}
+use Rattle.exi_tables.specs.Values.{ValueTable, changed_at}
 use Rattle.exi_tables.specs.Growth.{KeepsPlaces, KeepsAll, NoneLonger}
 
 -- lists that have grown
@@ -99,8 +98,6 @@ keeps_uri p text =
       each_uri = keeps_along (uris p) (uris (with_uri p text)) (text ∷ []) (map-append (λ m. m.uri) p.namespaces (n ∷ []));
       each_local = appended_keeps locals_in refl p.namespaces n;
       each_prefix = appended_keeps prefixes_in refl p.namespaces n;
-      each_value = keeps_same (values p);
-      each_own = λ name. keeps_same (name_values p name);
     }
 
 keeps_more_locals : (text : List ℕ) (o : Option Namespace) → KeepsPlaces (locals_in o) (locals_in (option_map (and_local text) o))
@@ -126,8 +123,6 @@ keeps_local p uri text =
       each_uri = rw (uris_changed f p.namespaces uri (λ n. refl)) (keeps_same (uris p));
       each_local = changed_keeps locals_in f (keeps_more_locals text) p.namespaces uri;
       each_prefix = changed_keeps prefixes_in f (keeps_those_prefixes text) p.namespaces uri;
-      each_value = keeps_same (values p);
-      each_own = λ name. keeps_same (name_values p name);
     }
 
 pub keeps_prefix : (p : Partitions) (uri : ℕ) (text : List ℕ) → KeepsAll p (with_prefix p uri text)
@@ -137,32 +132,14 @@ keeps_prefix p uri text =
       each_uri = rw (uris_changed f p.namespaces uri (λ n. refl)) (keeps_same (uris p));
       each_local = changed_keeps locals_in f (keeps_those_locals text) p.namespaces uri;
       each_prefix = changed_keeps prefixes_in f (keeps_more_prefixes text) p.namespaces uri;
-      each_value = keeps_same (values p);
-      each_own = λ name. keeps_same (name_values p name);
     }
 
-pub under_append : (name : NameId) (added more : List Added) → texts_under name (added ++ more) ≡ texts_under name added ++ texts_under name more
-under_append name added more =
-    ap (map (λ a. a.text)) (filter-append (λ a. same_name name a.name) added more)
-    ∙ map-append (λ a. a.text) (filter (λ a. same_name name a.name) added) (filter (λ a. same_name name a.name) more)
-
 pub keeps_value : (p : Partitions) (name : NameId) (text : List ℕ) → KeepsAll p (with_value p name text)
-keeps_value p name [] = record {
+keeps_value p name text = record {
   each_uri = keeps_same (uris p);
   each_local = λ uri. keeps_same (locals p uri);
   each_prefix = λ uri. keeps_same (prefixes p uri);
-  each_value = keeps_same (values p);
-  each_own = λ other. keeps_same (name_values p other);
 }
-keeps_value p name (c ∷ cs) =
-    let a : Added = record { name = name; text = c ∷ cs } in
-    record {
-      each_uri = keeps_same (uris p);
-      each_local = λ uri. keeps_same (locals p uri);
-      each_prefix = λ uri. keeps_same (prefixes p uri);
-      each_value = keeps_along (values p) (values (with_value p name (c ∷ cs))) ((c ∷ cs) ∷ []) (map-append (λ b. b.text) p.added (a ∷ []));
-      each_own = λ other. keeps_along (name_values p other) (name_values (with_value p name (c ∷ cs)) other) (texts_under other (a ∷ [])) (under_append other p.added (a ∷ []));
-    }
 
 pub keeps_within : (xs ys : List (List ℕ)) (i : ℕ) → KeepsPlaces xs ys → i < length xs → i < length ys
 keeps_within xs ys i keeps within = slice_get_within ys i (get_or xs i []) (keeps i (get_or xs i []) (slice_get-get_or xs i [] within))
@@ -240,30 +217,4 @@ longer_prefix most p uri text few =
       few_prefixes = changed_longer prefixes_in f most (longer_prefixes text) p.namespaces uri few.few_prefixes;
       few_values = omega (arith, few.few_values);
       few_own = λ name. omega (arith, few.few_own name);
-    }
-
-few_of_one : (name : NameId) (a : Added) → length (texts_under name (a ∷ [])) ≤ 1
-few_of_one name a = elim (cases_Bool (same_name name a.name)) [
-  | inl yes_is ↦ rw yes_is (omega arith)
-  | inr no_is ↦ rw no_is (omega arith)
-]
-
-pub longer_value : (most : ℕ) (p : Partitions) (name : NameId) (text : List ℕ) → NoneLonger most p → NoneLonger (most + 1) (with_value p name text)
-longer_value most p name [] few = record {
-  few_uris = omega (arith, few.few_uris);
-  few_locals = λ uri. omega (arith, few.few_locals uri);
-  few_prefixes = λ uri. omega (arith, few.few_prefixes uri);
-  few_values = omega (arith, few.few_values);
-  few_own = λ other. omega (arith, few.few_own other);
-}
-longer_value most p name (c ∷ cs) few =
-    let a : Added = record { name = name; text = c ∷ cs } in
-    let long : values (with_value p name (c ∷ cs)) ≡ values p ++ (c ∷ cs) ∷ [] = map-append (λ b. b.text) p.added (a ∷ []) in
-    record {
-      few_uris = omega (arith, few.few_uris);
-      few_locals = λ uri. omega (arith, few.few_locals uri);
-      few_prefixes = λ uri. omega (arith, few.few_prefixes uri);
-      few_values = rw long (omega (arith, length-append (values p) ((c ∷ cs) ∷ []), few.few_values));
-      few_own = λ other. rw (under_append other p.added (a ∷ []))
-          (omega (arith, length-append (texts_under other p.added) (texts_under other (a ∷ [])), few.few_own other, few_of_one other a));
     }

@@ -1,13 +1,17 @@
 -- A look-up by text finds the least place.
-use Rattle.std.proofs.Common.{◌≡◌, ◌≢◌, ℕ, zero, suc, ◌<◌, Bool, not, true, List, [], ◌∷◌, length, get_or, ap, ◌∙◌, arith, inl, inr, ltb, Some, None}
+use Rattle.std.proofs.Common.{◌≡◌, ◌≢◌, ℕ, zero, suc, ◌<◌, ◌≤◌, ◌+◌, ◌-◌, ◌^◌, Bool, not, cond, true, false, List, [], ◌∷◌, ◌++◌, length, get_or, refl, sym, ap, ◌∙◌, arith, inl, inr, ltb, Option, Some, None, length-append}
+use Rattle.std.specs.Prelude.{position, slice_get, unwrap_or, option_and_then}
+use Rattle.std.specs.List.{position_from}
+use Rattle.std.proofs.lemmas.Iterator.Adapters.{position_from-zero}
 use Rattle.std.specs.List.{prefix_len}
 use Rattle.std.specs.Str.{bytes_eq}
-use Rattle.std.proofs.lemmas.Bool.{cases_Bool, both_ways, lt-ltb}
+use Rattle.std.proofs.lemmas.Bool.{cases_Bool, cases_lt, both_ways, lt-ltb}
 use Rattle.std.proofs.lemmas.Slice.Eq.{bytes_eq-Decides}
 use Rattle.std.proofs.lemmas.List.Quantifiers.{position-Some}
 use Rattle.std.proofs.lemmas.Option.{slice_get-get_or, slice_get_within, get_or_from_slice_get}
 use Rattle.exi_tables.specs.Partitions.{live_at, least_place}
 use Rattle.exi_tables.specs.Growth.{IsLeast}
+use Rattle.exi_tables.specs.Kept.{IsLeastKept}
 
 pub least_found : (partition : List (List ℕ)) (text : List ℕ) (place : ℕ) → least_place partition text ≡ Some place → IsLeast partition text place
 least_found partition text place e =
@@ -42,3 +46,86 @@ least_none partition text place none is =
     let below : ltb (prefix_len (λ t. not (bytes_eq t text)) partition) (length partition) ≡ true
     = lt-ltb (prefix_len (λ t. not (bytes_eq t text)) partition) (length partition) (prefix_below (λ t. bytes_eq t text) partition place [] within passes) in
     none_some (prefix_len (λ t. not (bytes_eq t text)) partition) (rw below at none)
+
+-- ---- one text more
+from_append : {X : Type 0} (p : X → Bool) (k i : ℕ) (xs ys : List X) → position_from p k xs ≡ Some i → position_from p k (xs ++ ys) ≡ Some i
+from_append p k i [] ys e = absurd (none_some i (sym e))
+from_append p k i (x ∷ xs) ys e = elim (cases_Bool (p x)) [
+  | inl yes_is ↦ rw yes_is (rw yes_is at e)
+  | inr no_is ↦ rw no_is (from_append p (k + 1) i xs ys (rw no_is at e))
+]
+
+pub position_append : {X : Type 0} (p : X → Bool) (i : ℕ) (xs ys : List X) → position p xs ≡ Some i → position p (xs ++ ys) ≡ Some i
+position_append p i xs ys e = position_from-zero p (xs ++ ys) ∙ from_append p 0 i xs ys (sym (position_from-zero p xs) ∙ e)
+
+from_new : {X : Type 0} (p : X → Bool) (i : ℕ) (xs : List X) (x : X) → position_from p i xs ≡ None → p x ≡ true → position_from p i (xs ++ x ∷ []) ≡ Some (i + length xs)
+from_new p i [] x none passes = let same : i + 0 ≡ i = omega arith in rw (passes, same) refl
+from_new p i (y ∷ ys) x none passes = elim (cases_Bool (p y)) [
+  | inl yes_is ↦ absurd (none_some i (rw yes_is at none))
+  | inr no_is ↦
+      let rest : position_from p (i + 1) ys ≡ None = rw no_is at none in
+      let same : i + 1 + length ys ≡ i + length (y ∷ ys) = omega arith in
+      rw no_is (rw same at (from_new p (i + 1) ys x rest passes))
+]
+
+pub position_new : {X : Type 0} (p : X → Bool) (xs : List X) (x : X) → position p xs ≡ None → p x ≡ true → position p (xs ++ x ∷ []) ≡ Some (length xs)
+position_new p xs x none passes =
+    let absent : position_from p 0 xs ≡ None = sym (position_from-zero p xs) ∙ none in
+    let same : 0 + length xs ≡ length xs = omega arith in
+    position_from-zero p (xs ++ x ∷ []) ∙ rw same at (from_new p 0 xs x absent passes)
+
+from_other : {X : Type 0} (p : X → Bool) (i : ℕ) (xs : List X) (x : X) → p x ≡ false → position_from p i (xs ++ x ∷ []) ≡ position_from p i xs
+from_other p i [] x past = rw past refl
+from_other p i (y ∷ ys) x past = ap (λ o. cond (p y) (Some i) o) (from_other p (i + 1) ys x past)
+
+pub position_other : {X : Type 0} (p : X → Bool) (xs : List X) (x : X) → p x ≡ false → position p (xs ++ x ∷ []) ≡ position p xs
+position_other p xs x past = position_from-zero p (xs ++ x ∷ []) ∙ from_other p 0 xs x past ∙ sym (position_from-zero p xs)
+
+-- the new text's least place
+pub least_of_last : (xs : List (List ℕ)) (x : List ℕ) → least_place (xs ++ x ∷ []) x ≡ Some (unwrap_or (least_place xs x) (length xs))
+least_of_last xs x = by (least_place xs x) refl
+  where
+    by : (o : Option ℕ) → least_place xs x ≡ o → least_place (xs ++ x ∷ []) x ≡ Some (unwrap_or o (length xs))
+    by None e = position_new (λ t. bytes_eq t x) xs x e ((bytes_eq-Decides x x).1 refl)
+    by (Some i) e = position_append (λ t. bytes_eq t x) i xs (x ∷ []) e
+
+get_end : (xs : List (List ℕ)) (x : List ℕ) → live_at (xs ++ x ∷ []) (length xs) ≡ Some x
+get_end [] x = refl
+get_end (y ∷ ys) x = get_end ys x
+
+pub get_last : {X : Type 0} (xs : List X) (x : X) → slice_get (xs ++ x ∷ []) (length xs) ≡ Some x
+get_last [] x = refl
+get_last (y ∷ ys) x = get_last ys x
+
+pub get_before : {X : Type 0} (xs : List X) (x : X) (k : ℕ) → k < length xs → slice_get (xs ++ x ∷ []) k ≡ slice_get xs k
+get_before [] x k within = absurd (omega (arith, within))
+get_before (y ∷ ys) x zero within = refl
+get_before (y ∷ ys) x (suc k) within = get_before ys x k (omega (arith, within))
+
+-- what is kept stays right with one text more
+pub kept_push : (items : List (List ℕ)) (least : List ℕ) (text : List ℕ) (m : ℕ) → IsLeastKept items least → length items < 2 ^ 32 - 1 →
+    m ≡ unwrap_or (least_place items text) (length items) → IsLeastKept (items ++ text ∷ []) (least ++ m ∷ [])
+kept_push items least text m kept room m_is = record {
+  same = omega (arith, kept.same, length-append items (text ∷ []), length-append least (m ∷ []));
+  few = omega (arith, room, length-append items (text ∷ []));
+  least_is = λ k n at. elim (cases_lt k (length least)) [
+    | inl before ↦ earlier k n before (sym (get_before least m k before) ∙ at)
+    | inr past ↦ last k n past at
+  ];
+}
+  where
+    earlier : (k n : ℕ) → k < length least → slice_get least k ≡ Some n → Some n ≡ option_and_then (least_place (items ++ text ∷ [])) (live_at (items ++ text ∷ []) k)
+    earlier k n before at =
+        let within : k < length items = omega (arith, before, kept.same) in
+        let there : live_at items k ≡ Some (get_or items k []) = slice_get-get_or items k [] within in
+        let found : Some n ≡ least_place items (get_or items k []) = rw there at (kept.least_is k n at) in
+        rw (get_before items text k within, there) (sym (position_append (λ t. bytes_eq t (get_or items k [])) n items (text ∷ []) (sym found)))
+
+    last : (k n : ℕ) → length least ≤ k → slice_get (least ++ m ∷ []) k ≡ Some n → Some n ≡ option_and_then (least_place (items ++ text ∷ [])) (live_at (items ++ text ∷ []) k)
+    last k n past at =
+        let within : k < length (least ++ m ∷ []) = slice_get_within (least ++ m ∷ []) k n at in
+        let k_is : k ≡ length least = omega (arith, within, past, length-append least (m ∷ [])) in
+        let end : slice_get (least ++ m ∷ []) (length least) ≡ Some m = get_last least m in
+        let n_is : Some n ≡ Some m = sym at ∙ ap (slice_get (least ++ m ∷ [])) k_is ∙ end in
+        let there : live_at (items ++ text ∷ []) k ≡ Some text = ap (live_at (items ++ text ∷ [])) (k_is ∙ kept.same) ∙ get_end items text in
+        rw there (n_is ∙ ap (λ (i : ℕ). Some i) m_is ∙ sym (least_of_last items text))

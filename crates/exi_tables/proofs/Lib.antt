@@ -1,7 +1,10 @@
 pub mod Changes
-pub mod Under
 pub mod FirstPrefixes
 pub mod Firsts
-pub mod Empty
 pub mod Least
 pub mod Growing
+pub mod Spaces
+pub mod SomeText
+pub mod Counts
+pub mod Given
+pub mod Longer

@@ -1,3 +1,4 @@
+pub mod Values
 pub mod Partitions
-pub mod Places
 pub mod Growth
+pub mod Kept

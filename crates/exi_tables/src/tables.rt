@@ -1,5 +1,5 @@
-ghost use Rattle.std.specs.Prelude.{◌≡◌, ◌<◌, ◌-◌, ◌^◌, ◌↔◌, length, IsTrue, IfOk, OnOk, OnErr};
-ghost use Rattle.std.specs.Option.{option_copied};
+ghost use Rattle.std.specs.Prelude.{◌≡◌, ◌<◌, ◌-◌, ◌^◌, ◌↔◌, length, Some, IsTrue, IfOk, OnOk, OnErr};
+ghost use Rattle.std.specs.Option.{option_copied, option_and_then};
 ghost use Rattle.exi_tables.specs.Partitions.{
   Partitions,
   IsName,
@@ -11,6 +11,8 @@ ghost use Rattle.exi_tables.specs.Partitions.{
   prefixes,
   values,
   name_values,
+  name_value_at,
+  name_value_place,
   with_uri,
   with_local,
   with_prefix,
@@ -20,8 +22,8 @@ ghost use Rattle.exi_tables.specs.Partitions.{
 use exi_names::{NameId, StartNames, Txt};
 use std::alloc::{AllocError, Global};
 
-/// String tables: URIs, for each URI its local names and its prefixes, the global values, and each
-/// name's own values (EXI 1.0, section 7.3).
+/// String tables: URIs, for each URI its local names and its prefixes, the values of all names, and those
+/// of each name (EXI 1.0, section 7.3).
 ///
 /// Places count from 0. A look-up by place gives `None` where no live text has that place, and one
 /// by text the least live place that has it, or `None` where none has. No look-up takes memory.
@@ -31,15 +33,23 @@ pub trait Tables {
     ghost held: { Self → Partitions };
 
     /// The tables at the start of a stream (EXI 1.0, appendix D): these names, the prefixes "",
-    /// `xml` and `xsi` for the first three URIs, and no values.
+    /// `xml` and `xsi` for the first three URIs, and no values. Values of more than `most` characters are
+    /// never added, and of those that are, the last `capacity` are live (EXI 1.0, section 7.3.3). No room is
+    /// made for the capacity, which may be any number.
     ///
     /// # Errors
     ///
     /// `AllocError` where memory is refused.
-    fn start(alloc: Global, names: &StartNames) -> Result<Self, AllocError>
+    fn start(
+        alloc: Global,
+        names: &StartNames,
+        most: Option<u128>,
+        capacity: Option<u128>,
+    ) -> Result<Self, AllocError>
     where
         Self: Sized,
-        ensures { IfOk result (λ tables. held tables ≡ first_partitions names.now) };
+        ensures { IfOk result (λ tables.
+            held tables ≡ first_partitions names.now most capacity) };
 
     /// How many URIs there are.
     fn uris(&self) -> u32
@@ -52,6 +62,12 @@ pub trait Tables {
     /// The least place of a URI.
     fn uri_of(&self, text: &Txt) -> Option<u32>
         ensures { result ≡ least_place (uris (held self.now)) text.now };
+
+    /// The least place of the URI that stands at a place.
+    fn least_uri(&self, place: u32) -> u32
+        requires place { place < length (uris (held self.now)) }
+        ensures { Some result ≡ option_and_then (least_place (uris (held self.now)))
+            (live_at (uris (held self.now)) place) };
 
     /// Adds a URI at the end, with no local names and no prefixes, and gives its place.
     ///
@@ -78,6 +94,13 @@ pub trait Tables {
     fn local_of(&self, uri: u32, text: &Txt) -> Option<u32>
         requires uri { uri < length (uris (held self.now)) }
         ensures { result ≡ least_place (locals (held self.now) uri) text.now };
+
+    /// The least place of the local name that stands at a place.
+    fn least_local(&self, uri: u32, place: u32) -> u32
+        requires uri { uri < length (uris (held self.now)) }
+        requires place { place < length (locals (held self.now) uri) }
+        ensures { Some result ≡ option_and_then (least_place (locals (held self.now) uri))
+            (live_at (locals (held self.now) uri) place) };
 
     /// Adds a local name at the end of those of a URI, and gives its place.
     ///
@@ -118,7 +141,7 @@ pub trait Tables {
         ensures added { OnOk result (held self.new ≡ with_prefix (held self.old) uri text) }
         ensures err { OnErr result (held self.new ≡ held self.old) };
 
-    /// How many values the global partition has.
+    /// How many places the global partition has.
     fn values(&self) -> u32
         ensures { result ≡ length (values (held self.now)) };
 
@@ -130,23 +153,24 @@ pub trait Tables {
     fn value_place(&self, text: &Txt) -> Option<u32>
         ensures { result ≡ least_place (values (held self.now)) text.now };
 
-    /// How many values a name's own partition has.
+    /// How many places were ever given in a name's own partition.
     fn name_values(&self, name: NameId) -> u32
         requires name { IsName (held self.now) name }
-        ensures { result ≡ length (name_values (held self.now) name) };
+        ensures { result ≡ name_values (held self.now) name };
 
-    /// The value at a place of a name's own partition.
+    /// The live value at a place of a name's own partition.
     fn name_value_at(&self, name: NameId, place: u32) -> Option<&Txt>
         requires name { IsName (held self.now) name }
-        ensures { option_copied result ≡ live_at (name_values (held self.now) name) place };
+        ensures { option_copied result ≡ name_value_at (held self.now) name place };
 
-    /// The least place of a value in a name's own partition.
+    /// The least place of a live value in a name's own partition.
     fn name_value_place(&self, name: NameId, text: &Txt) -> Option<u32>
         requires name { IsName (held self.now) name }
-        ensures { result ≡ least_place (name_values (held self.now) name) text.now };
+        ensures { result ≡ name_value_place (held self.now) name text.now };
 
-    /// Adds a value at the end of the global partition and of its name's own. The empty text is not
-    /// added.
+    /// Adds a value to the global partition and to its name's own, where it has a character, is not longer
+    /// than the greatest length, and the capacity is not 0. Where there are as many live values as the
+    /// capacity allows, the oldest is live no longer.
     ///
     /// # Errors
     ///
@@ -154,6 +178,7 @@ pub trait Tables {
     fn add_value(&mut self, name: NameId, text: Txt) -> Result<(), AllocError>
         requires name { IsName (held self.old) name }
         requires room { length (values (held self.old)) < 2 ^ 32 - 1 }
+        requires own { name_values (held self.old) name < 2 ^ 32 - 1 }
         ensures added { OnOk result (held self.new ≡ with_value (held self.old) name text) }
         ensures err { OnErr result (held self.new ≡ held self.old) };
 }

@@ -16,13 +16,13 @@ use Rattle.exi_meter.specs.Metering.{Metering, with_text}
 use Rattle.exi_names.specs.Characters.{is_xml_char}
 use Rattle.exi_names.specs.declared.names.NameId.{NameId}
 use Rattle.exi_tables.specs.Growth.{KeepsAll}
-use Rattle.exi_tables.specs.Partitions.{Partitions, live_at, locals, name_values, prefixes, uris, values, with_local, with_prefix, with_uri, with_value}
+use Rattle.exi_tables.specs.Partitions.{Partitions, live_at, locals, prefixes, uris, values, with_local, with_prefix, with_uri, with_value}
 use Rattle.exi_tables.proofs.Growing.{keeps_local, keeps_prefix, keeps_same, keeps_uri, keeps_value}
 use Rattle.exi_text.specs.Literals.{char_at, chars_at, code_at, in_set_at, width_in}
 use Rattle.exi_typed.specs.Courses.{Course, Courser, at_spot_of, failing}
 use Rattle.exi_typed.specs.NameValues.{name_value_at}
-use Rattle.exi_typed.specs.Onward.{GoesOnward, Onward}
-use Rattle.exi_typed.specs.Strings.{Declaration, Growth, Named, charged_at, declaration_at, hit_at, indexed_at, known_at, literal_at, local_at, missed_at, name_at, name_under, place_in, placed_at, prefix_at, told_prefix, uri_at, value_at}
+use Rattle.exi_typed.specs.Onward.{KeepsEach, GoesOnward, Onward}
+use Rattle.exi_typed.specs.Strings.{Declaration, Growth, Named, Partition, charged_at, declaration_at, hit_at, indexed_at, known_at, listed, literal_at, local_at, missed_at, name_at, name_under, own_values, place_in, placed_at, prefix_at, told_prefix, uri_at, value_at}
 use Rattle.exi_typed.proofs.CourseItems.{beside, bind_fine, bind_told, charge_is, charged, course, fine, fine_is, guard_fine, not_failing, told, told_is}
 
 -- ---- bits
@@ -93,8 +93,6 @@ same_keeps p = record {
   each_uri = keeps_same (uris p);
   each_local = λ uri. keeps_same (locals p uri);
   each_prefix = λ uri. keeps_same (prefixes p uri);
-  each_value = keeps_same (values p);
-  each_own = λ name. keeps_same (name_values p name);
 }
 
 keeps_then : (p q r : Partitions) → KeepsAll p q → KeepsAll q r → KeepsAll p r
@@ -102,8 +100,6 @@ keeps_then p q r f g = record {
   each_uri = λ place text is. g.each_uri place text (f.each_uri place text is);
   each_local = λ uri place text is. g.each_local uri place text (f.each_local uri place text is);
   each_prefix = λ uri place text is. g.each_prefix uri place text (f.each_prefix uri place text is);
-  each_value = λ place text is. g.each_value place text (f.each_value place text is);
-  each_own = λ name place text is. g.each_own name place text (f.each_own name place text is);
 }
 
 abbrev used_text : Metering → ℕ → Metering
@@ -173,14 +169,10 @@ unfolding charged_at
 placed_goes s None x c d r = absurd cc
 placed_goes s (Some text) x c d r = paying_goes (length text) (λ e. told {X = List ℕ × Course} (text, e)) (told_goes (λ e. text)) x c d r
 
-hit_goes : (a : Align) (partition : List (List ℕ)) → GoesOnward {X = List ℕ} (hit_at a partition)
+hit_goes : (a : Align) (partition : Partition) → GoesOnward {X = List ℕ} (hit_at a partition)
 unfolding hit_at
 hit_goes a partition x c d r =
-    behind_goes (below_at (length partition) a kind.BadPlace) (λ place. placed_at c.spot (live_at partition place)) (below_goes (length partition) a kind.BadPlace) (λ place. placed_goes c.spot (live_at partition place)) x c d r
-
--- what is added keeps each place
-abbrev KeepsEach : Growth → Type 0
-KeepsEach grow = (p : Partitions) (text : List ℕ) → KeepsAll p (grow p text)
+    behind_goes (below_at partition.count a kind.BadPlace) (λ place. placed_at c.spot (partition.text_at place)) (below_goes partition.count a kind.BadPlace) (λ place. placed_goes c.spot (partition.text_at place)) x c d r
 
 missed_goes : (set : Option (List ℕ)) (a : Align) (grow : Growth) (count : ℕ) → KeepsEach grow → GoesOnward {X = List ℕ} (missed_at set a grow count)
 unfolding missed_at chars_at
@@ -203,7 +195,7 @@ missed_goes set a grow count keeps x c d r =
       keeps = keeps c.beside.tables t.0.0;
     })
 
-literal_goes : (a : Align) (grow : Growth) → KeepsEach grow → GoesOnward {X = List ℕ} (literal_at a grow)
+pub literal_goes : (a : Align) (grow : Growth) → KeepsEach grow → GoesOnward {X = List ℕ} (literal_at a grow)
 unfolding literal_at
 literal_goes a grow keeps = behind_goes unsigned_at (missed_at None a grow) unsigned_goes (λ count. missed_goes None a grow count keeps)
 
@@ -218,20 +210,20 @@ uri_goes a x c d r = indexed_goes a (uris c.beside.tables) with_uri keeps_uri x 
 
 pub local_goes : (a : Align) (uri : ℕ) → GoesOnward {X = List ℕ} (local_at a uri)
 unfolding local_at
-local_goes a uri = behind_goes unsigned_at (λ code c. cond (eqb code 0) (hit_at a (locals c.beside.tables uri) c) (missed_at None a (λ p. with_local p uri) (code - 1) c)) unsigned_goes
-    (λ code. chosen_goes (eqb code 0) (λ c. hit_at a (locals c.beside.tables uri) c) (missed_at None a (λ p. with_local p uri) (code - 1)) (λ x c. hit_goes a (locals c.beside.tables uri) x c) (missed_goes None a (λ p. with_local p uri) (code - 1) (λ p. keeps_local p uri)))
+local_goes a uri = behind_goes unsigned_at (λ code c. cond (eqb code 0) (hit_at a (listed (locals c.beside.tables uri)) c) (missed_at None a (λ p. with_local p uri) (code - 1) c)) unsigned_goes
+    (λ code. chosen_goes (eqb code 0) (λ c. hit_at a (listed (locals c.beside.tables uri)) c) (missed_at None a (λ p. with_local p uri) (code - 1)) (λ x c. hit_goes a (listed (locals c.beside.tables uri)) x c) (missed_goes None a (λ p. with_local p uri) (code - 1) (λ p. keeps_local p uri)))
 
 pub value_goes : (set : Option (List ℕ)) (a : Align) (name : NameId) → GoesOnward {X = List ℕ} (value_at set a name)
 unfolding value_at
 value_goes set a name = behind_goes unsigned_at
-    (λ code c. cond (eqb code 0) (hit_at a (name_values c.beside.tables name) c) (cond (eqb code 1) (hit_at a (values c.beside.tables) c) (missed_at set a (λ p. with_value p name) (code - 2) c))) unsigned_goes
-    (λ code. chosen_goes (eqb code 0) (λ c. hit_at a (name_values c.beside.tables name) c) (λ c. cond (eqb code 1) (hit_at a (values c.beside.tables) c) (missed_at set a (λ p. with_value p name) (code - 2) c)) (λ x c. hit_goes a (name_values c.beside.tables name) x c)
-    (chosen_goes (eqb code 1) (λ c. hit_at a (values c.beside.tables) c) (missed_at set a (λ p. with_value p name) (code - 2)) (λ x c. hit_goes a (values c.beside.tables) x c) (missed_goes set a (λ p. with_value p name) (code - 2) (λ p. keeps_value p name))))
+    (λ code c. cond (eqb code 0) (hit_at a (own_values c.beside.tables name) c) (cond (eqb code 1) (hit_at a (listed (values c.beside.tables)) c) (missed_at set a (λ p. with_value p name) (code - 2) c))) unsigned_goes
+    (λ code. chosen_goes (eqb code 0) (λ c. hit_at a (own_values c.beside.tables name) c) (λ c. cond (eqb code 1) (hit_at a (listed (values c.beside.tables)) c) (missed_at set a (λ p. with_value p name) (code - 2) c)) (λ x c. hit_goes a (own_values c.beside.tables name) x c)
+    (chosen_goes (eqb code 1) (λ c. hit_at a (listed (values c.beside.tables)) c) (missed_at set a (λ p. with_value p name) (code - 2)) (λ x c. hit_goes a (listed (values c.beside.tables)) x c) (missed_goes set a (λ p. with_value p name) (code - 2) (λ p. keeps_value p name))))
 
 -- ---- names
 prefix_in_goes : (a : Align) (partition : List (List ℕ)) → GoesOnward {X = Option (List ℕ)} (told_prefix a partition)
 prefix_in_goes a [] = told_goes (λ c. None)
-prefix_in_goes a (p ∷ ps) = chained_goes (hit_at a (p ∷ ps)) (λ text c. told {X = Option (List ℕ) × Course} (Some text, c)) (hit_goes a (p ∷ ps)) (λ text. told_goes (λ c. Some text))
+prefix_in_goes a (p ∷ ps) = chained_goes (hit_at a (listed (p ∷ ps))) (λ text c. told {X = Option (List ℕ) × Course} (Some text, c)) (hit_goes a (listed (p ∷ ps))) (λ text. told_goes (λ c. Some text))
 
 pub prefix_goes : (keep : Bool) (a : Align) (uri : ℕ) → GoesOnward {X = Option (List ℕ)} (prefix_at keep a uri)
 prefix_goes true a uri x c d r = prefix_in_goes a (prefixes c.beside.tables uri) x c d r

@@ -5,3 +5,4 @@ pub mod Agree
 pub mod Worked
 pub mod Goings
 pub mod Standing
+pub mod Limits

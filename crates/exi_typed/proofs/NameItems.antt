@@ -16,14 +16,14 @@ use Rattle.exi_typed.specs.Courses.{Beside, Course, at_spot_of, failing}
 use Rattle.exi_typed.specs.Laws.{Spelling}
 use Rattle.exi_typed.specs.NameValues.{SpellsNameValue, name_value_at}
 use Rattle.exi_typed.specs.Spelled.{IsHit, IsNothing, SpellsDeclaration, SpellsFlag, SpellsKnown, SpellsLocal, SpellsName, SpellsNameUnder, SpellsNewPrefix, SpellsPrefix, SpellsUri}
-use Rattle.exi_typed.specs.Strings.{Declaration, Named, declaration_at, hit_at, indexed_at, known_at, local_at, name_at, name_under, place_in, placed_at, prefix_at, told_prefix, uri_at}
+use Rattle.exi_typed.specs.Strings.{Declaration, Named, declaration_at, hit_at, indexed_at, known_at, listed, local_at, name_at, name_under, place_in, placed_at, prefix_at, told_prefix, uri_at}
 use Rattle.exi_typed.proofs.CourseItems.{Behind, Chained, CourseItem, IsPure, IsTold, MadeBeside, PaysFirst, at_start, behind, chained, in_words, made, paying, placed, pure, some_is, told}
 use Rattle.exi_typed.proofs.Texts.{Below, below_fits, indexed_in, item_hit, item_local, item_uri}
 
 -- ---- a prefix
 abbrev PrefixIn : Align → List (List ℕ) → Spelling (Option (List ℕ))
 PrefixIn a partition None w v text = (partition ≡ []) × IsNothing w v text
-PrefixIn a partition (Some x) w v text = IsHit a partition x w v text
+PrefixIn a partition (Some x) w v text = IsHit a (listed partition) x w v text
 
 no_text : (x : List ℕ) → None ≡ Some x → ⊥
 no_text x e = absurd cc
@@ -38,13 +38,13 @@ prefix_in a [] = in_words a (told_prefix a []) (IsPure None) (PrefixIn a []) to 
     from : (x : Option (List ℕ)) (w v : Beside) (text : List Bool) → PrefixIn a [] x w v text → IsPure None x w v text
     from None w v text h = record { is = refl; nothing = h.1 }
     from (Some x) w v text h = let lt : h.place < 0 = slice_get_within [] h.place x h.stands in absurd (omega arith)
-prefix_in a (p ∷ ps) = in_words a (told_prefix a (p ∷ ps)) (MadeBeside (λ x v. Some x) (IsHit a (p ∷ ps))) (PrefixIn a (p ∷ ps)) to from (made a (hit_at a (p ∷ ps)) (λ x v. Some x) (IsHit a (p ∷ ps)) (item_hit a (p ∷ ps)))
+prefix_in a (p ∷ ps) = in_words a (told_prefix a (p ∷ ps)) (MadeBeside (λ x v. Some x) (IsHit a (listed (p ∷ ps)))) (PrefixIn a (p ∷ ps)) to from (made a (hit_at a (listed (p ∷ ps))) (λ x v. Some x) (IsHit a (listed (p ∷ ps))) (item_hit a (listed (p ∷ ps))))
   where
-    to : (x : Option (List ℕ)) (w v : Beside) (text : List Bool) → MadeBeside (λ x v. Some x) (IsHit a (p ∷ ps)) x w v text → PrefixIn a (p ∷ ps) x w v text
+    to : (x : Option (List ℕ)) (w v : Beside) (text : List Bool) → MadeBeside (λ x v. Some x) (IsHit a (listed (p ∷ ps))) x w v text → PrefixIn a (p ∷ ps) x w v text
     to None w v text z = absurd (no_text z.from (sym z.is))
-    to (Some x) w v text z = subst (λ (y : List ℕ). IsHit a (p ∷ ps) y w v text) (some_is z.from x z.is) z.spelled
+    to (Some x) w v text z = subst (λ (y : List ℕ). IsHit a (listed (p ∷ ps)) y w v text) (some_is z.from x z.is) z.spelled
 
-    from : (x : Option (List ℕ)) (w v : Beside) (text : List Bool) → PrefixIn a (p ∷ ps) x w v text → MadeBeside (λ x v. Some x) (IsHit a (p ∷ ps)) x w v text
+    from : (x : Option (List ℕ)) (w v : Beside) (text : List Bool) → PrefixIn a (p ∷ ps) x w v text → MadeBeside (λ x v. Some x) (IsHit a (listed (p ∷ ps))) x w v text
     from None w v text h = absurd (some_there h.0)
       where
         some_there : p ∷ ps ≡ [] → ⊥

@@ -17,7 +17,7 @@ use Rattle.exi_tables.proofs.Least.{least_found, least_none}
 use Rattle.exi_text.specs.Literals.{chars_at}
 use Rattle.exi_typed.specs.Courses.{Course, at_spot_of, failing}
 use Rattle.exi_typed.specs.Onward.{NamesGoOnStanding, NamesStand, Stands}
-use Rattle.exi_typed.specs.Strings.{Growth, Named, charged_at, hit_at, indexed_at, literal_at, local_at, missed_at, name_at, name_under, place_in, placed_at, prefix_at, told_prefix, uri_at}
+use Rattle.exi_typed.specs.Strings.{Growth, Named, Partition, charged_at, hit_at, indexed_at, listed, literal_at, local_at, missed_at, name_at, name_under, place_in, placed_at, prefix_at, told_prefix, uri_at}
 use Rattle.exi_typed.proofs.CourseItems.{beside, bind_told, charged, course, some_is, told, told_is}
 
 -- ---- places
@@ -50,11 +50,11 @@ placed_leaves s (Some text) x c d r =
     let e : (text, course c.spot (beside u.0 c.beside.tables)) ≡ (x, d) = told_is (text, course c.spot (beside u.0 c.beside.tables)) (x, d) u.2 in
     (ap (λ (p : List ℕ × Course). Some p.0) e, sym (ap (λ (p : List ℕ × Course). p.1.beside.tables) e))
 
-hit_leaves : (a : Align) (partition : List (List ℕ)) (x : List ℕ) (c d : Course) → hit_at a partition c ≡ told (x, d) → StandsIn partition x × (d.beside.tables ≡ c.beside.tables)
+hit_leaves : (a : Align) (partition : Partition) (x : List ℕ) (c d : Course) → hit_at a partition c ≡ told (x, d) → ((place : ℕ) × (partition.text_at place ≡ Some x)) × (d.beside.tables ≡ c.beside.tables)
 unfolding hit_at
 hit_leaves a partition x c d r =
-    let u = bind_told (failing c.beside.meter (below_at (length partition) a kind.BadPlace c.spot)) (λ (place : ℕ × Spot). placed_at c.spot (live_at partition place.0) (at_spot_of c place.1)) (x, d) r in
-    let k = placed_leaves c.spot (live_at partition u.0.0) x (at_spot_of c u.0.1) d u.2 in
+    let u = bind_told (failing c.beside.meter (below_at partition.count a kind.BadPlace c.spot)) (λ (place : ℕ × Spot). placed_at c.spot (partition.text_at place.0) (at_spot_of c place.1)) (x, d) r in
+    let k = placed_leaves c.spot (partition.text_at u.0.0) x (at_spot_of c u.0.1) d u.2 in
     ((u.0.0, k.0), k.1)
 
 missed_leaves : (set : Option (List ℕ)) (a : Align) (grow : Growth) (count : ℕ) (x : List ℕ) (c d : Course) → missed_at set a grow count c ≡ told (x, d) → d.beside.tables ≡ grow c.beside.tables x
@@ -83,19 +83,19 @@ indexed_leaves a partition grow x c d r =
 local_leaves : (a : Align) (uri : ℕ) (x : List ℕ) (c d : Course) → local_at a uri c ≡ told (x, d) → Leaves (locals c.beside.tables uri) (λ p. with_local p uri) x c d
 unfolding local_at
 local_leaves a uri x c d r =
-    let u = bind_told (failing c.beside.meter (unsigned_at c.spot)) (λ (code : ℕ × Spot). cond (eqb code.0 0) (hit_at a (locals c.beside.tables uri) (at_spot_of c code.1)) (missed_at None a (λ p. with_local p uri) (code.0 - 1) (at_spot_of c code.1))) (x, d) r in
+    let u = bind_told (failing c.beside.meter (unsigned_at c.spot)) (λ (code : ℕ × Spot). cond (eqb code.0 0) (hit_at a (listed (locals c.beside.tables uri)) (at_spot_of c code.1)) (missed_at None a (λ p. with_local p uri) (code.0 - 1) (at_spot_of c code.1))) (x, d) r in
     by_code (eqb u.0.0 0) u.0 u.2
   where
-    by_code : (b : Bool) (p : ℕ × Spot) → cond b (hit_at a (locals c.beside.tables uri) (at_spot_of c p.1)) (missed_at None a (λ q. with_local q uri) (p.0 - 1) (at_spot_of c p.1)) ≡ told (x, d) → Leaves (locals c.beside.tables uri) (λ q. with_local q uri) x c d
-    by_code true p h = inl (hit_leaves a (locals c.beside.tables uri) x (at_spot_of c p.1) d h)
+    by_code : (b : Bool) (p : ℕ × Spot) → cond b (hit_at a (listed (locals c.beside.tables uri)) (at_spot_of c p.1)) (missed_at None a (λ q. with_local q uri) (p.0 - 1) (at_spot_of c p.1)) ≡ told (x, d) → Leaves (locals c.beside.tables uri) (λ q. with_local q uri) x c d
+    by_code true p h = inl (hit_leaves a (listed (locals c.beside.tables uri)) x (at_spot_of c p.1) d h)
     by_code false p h = inr (missed_leaves None a (λ q. with_local q uri) (p.0 - 1) x (at_spot_of c p.1) d h)
 
 prefix_in_leaves : (a : Align) (partition : List (List ℕ)) (x : Option (List ℕ)) (c d : Course) → told_prefix a partition c ≡ told (x, d) → d.beside.tables ≡ c.beside.tables
 prefix_in_leaves a [] x c d r = sym (ap (λ (p : Option (List ℕ) × Course). p.1.beside.tables) (told_is {X = Option (List ℕ) × Course} (None, c) (x, d) r))
 prefix_in_leaves a (p ∷ ps) x c d r =
-    let u = bind_told (hit_at a (p ∷ ps) c) (λ (text : List ℕ × Course). told {X = Option (List ℕ) × Course} (Some text.0, text.1)) (x, d) r in
+    let u = bind_told (hit_at a (listed (p ∷ ps)) c) (λ (text : List ℕ × Course). told {X = Option (List ℕ) × Course} (Some text.0, text.1)) (x, d) r in
     let e : (Some u.0.0, u.0.1) ≡ (x, d) = told_is {X = Option (List ℕ) × Course} (Some u.0.0, u.0.1) (x, d) u.2 in
-    sym (ap (λ (q : Option (List ℕ) × Course). q.1.beside.tables) e) ∙ (hit_leaves a (p ∷ ps) u.0.0 c u.0.1 u.1).1
+    sym (ap (λ (q : Option (List ℕ) × Course). q.1.beside.tables) e) ∙ (hit_leaves a (listed (p ∷ ps)) u.0.0 c u.0.1 u.1).1
 
 prefix_leaves : (keep : Bool) (a : Align) (uri : ℕ) (x : Option (List ℕ)) (c d : Course) → prefix_at keep a uri c ≡ told (x, d) → d.beside.tables ≡ c.beside.tables
 prefix_leaves true a uri x c d r = prefix_in_leaves a (prefixes c.beside.tables uri) x c d r

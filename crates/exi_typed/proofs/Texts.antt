@@ -1,6 +1,6 @@
 -- Texts by their places and texts that are spelled out: spelled and read.
 use Rattle.std.proofs.Common.{◌≡◌, ℕ, zero, suc, ◌+◌, ◌-◌, ◌^◌, ◌<◌, ◌≤◌, inl, inr, Bool, true, false, cond, eqb, ltb, List, [], ◌++◌, length, Option, None, refl, sym, ap, ◌∙◌, subst, arith}
-use Rattle.std.proofs.lemmas.Bool.{eqb-true, lt-ltb, ne_eqb}
+use Rattle.std.proofs.lemmas.Bool.{eqb-true, lt-ltb, ltb-true, ne_eqb}
 use Rattle.std.proofs.lemmas.List.{append-nil}
 use Rattle.std.proofs.lemmas.Option.{slice_get_within}
 use Rattle.exi_bits.specs.declared.align.Align.{Align}
@@ -13,12 +13,12 @@ use Rattle.exi_bits.proofs.BitLaws.{pow_up}
 use Rattle.exi_items.specs.Spellings.{SpellsUnsigned}
 use Rattle.exi_items.proofs.Items.{item_below, item_unsigned}
 use Rattle.exi_names.specs.declared.names.NameId.{NameId}
-use Rattle.exi_tables.specs.Partitions.{live_at, locals, name_values, uris, values, with_local, with_uri, with_value}
+use Rattle.exi_tables.specs.Partitions.{live_at, locals, uris, values, with_local, with_uri, with_value}
 use Rattle.exi_text.proofs.Sets.{width_covers}
 use Rattle.exi_typed.specs.Courses.{Beside, at_spot_of, failing}
 use Rattle.exi_typed.specs.Laws.{Spelling}
 use Rattle.exi_typed.specs.Spelled.{IsHit, SpellsIndexed, SpellsLiteral, SpellsLocal, SpellsUri, SpellsValue}
-use Rattle.exi_typed.specs.Strings.{Growth, hit_at, indexed_at, literal_at, local_at, missed_at, placed_at, uri_at, value_at}
+use Rattle.exi_typed.specs.Strings.{Growth, Partition, hit_at, indexed_at, listed, literal_at, local_at, missed_at, own_values, placed_at, uri_at, value_at}
 use Rattle.exi_typed.proofs.CourseItems.{Behind, Chosen, CourseItem, IsTold, MissedOf, at_start, behind, chosen, in_words, missed, placed}
 
 -- ---- places
@@ -38,42 +38,42 @@ abbrev pub Below : ℕ → Align → ℕ → ℕ → List Bool → Type 0
 Below n a count v text = (ltb v count ≡ true) × ((text ≡ number n a v) × (v < 2 ^ taken n a))
 
 -- ---- a hit
-abbrev HitBits : Align → List (List ℕ) → Spelling (List ℕ)
-HitBits a partition = Behind (Below (width_for (length partition)) a (length partition)) (λ place. IsTold (live_at partition place))
+abbrev HitBits : Align → Partition → Spelling (List ℕ)
+HitBits a partition = Behind (Below (width_for partition.count) a partition.count) (λ place. IsTold (partition.text_at place))
 
-to_hit : (a : Align) (partition : List (List ℕ)) (x : List ℕ) (w v : Beside) (text : List Bool) → HitBits a partition x w v text → IsHit a partition x w v text
+to_hit : (a : Align) (partition : Partition) (x : List ℕ) (w v : Beside) (text : List Bool) → HitBits a partition x w v text → IsHit a partition x w v text
 to_hit a partition x w v text z =
     let h = z.spelled in
     record {
       place = z.from;
+      within = ltb-true z.from partition.count h.front.0;
       stands = h.behind.stands;
       bits = h.parts ∙ ap (λ (t : List Bool). h.first ++ t) h.behind.bits ∙ append-nil h.first ∙ h.front.1.0;
       pays = h.behind.pays;
     }
 
-from_hit : (a : Align) (partition : List (List ℕ)) (x : List ℕ) (w v : Beside) (text : List Bool) → IsHit a partition x w v text → HitBits a partition x w v text
+from_hit : (a : Align) (partition : Partition) (x : List ℕ) (w v : Beside) (text : List Bool) → IsHit a partition x w v text → HitBits a partition x w v text
 from_hit a partition x w v text h =
-    let lt : h.place < length partition = slice_get_within partition h.place x h.stands in
     record {
       from = h.place;
       spelled = record {
         first = text;
         second = [];
         parts = sym (append-nil text);
-        front = (lt-ltb h.place (length partition) lt, (h.bits, below_fits (length partition) h.place a lt));
+        front = (lt-ltb h.place partition.count h.within, (h.bits, below_fits partition.count h.place a h.within));
         behind = record { stands = h.stands; bits = refl; pays = h.pays };
       };
     }
 
-pub item_hit : (a : Align) (partition : List (List ℕ)) → CourseItem {X = List ℕ} a (hit_at a partition) (IsHit a partition)
+pub item_hit : (a : Align) (partition : Partition) → CourseItem {X = List ℕ} a (hit_at a partition) (IsHit a partition)
 unfolding hit_at
 item_hit a partition = in_words a (hit_at a partition) (HitBits a partition) (IsHit a partition) (to_hit a partition) (from_hit a partition)
-    (at_start a (λ b c. failing c.beside.meter (below_at (length partition) a kind.BadPlace c.spot) >>= λ place. placed_at b.spot (live_at partition place.0) (at_spot_of c place.1)) (λ w. HitBits a partition)
-    (λ b. behind a (below_at (length partition) a kind.BadPlace) (λ place. placed_at b.spot (live_at partition place)) (Below (width_for (length partition)) a (length partition)) (λ place. IsTold (live_at partition place))
-    (item_below (length partition) a kind.BadPlace) (λ place. placed a b.spot (live_at partition place))))
+    (at_start a (λ b c. failing c.beside.meter (below_at partition.count a kind.BadPlace c.spot) >>= λ place. placed_at b.spot (partition.text_at place.0) (at_spot_of c place.1)) (λ w. HitBits a partition)
+    (λ b. behind a (below_at partition.count a kind.BadPlace) (λ place. placed_at b.spot (partition.text_at place)) (Below (width_for partition.count) a partition.count) (λ place. IsTold (partition.text_at place))
+    (item_below partition.count a kind.BadPlace) (λ place. placed a b.spot (partition.text_at place))))
 
 -- in a partition of the tables
-pub hit_in : (a : Align) (partition : Beside → List (List ℕ)) → CourseItem {X = List ℕ} a (λ c. hit_at a (partition c.beside) c) (λ x w. IsHit a (partition w) x w)
+pub hit_in : (a : Align) (partition : Beside → Partition) → CourseItem {X = List ℕ} a (λ c. hit_at a (partition c.beside) c) (λ x w. IsHit a (partition w) x w)
 hit_in a partition = at_start a (λ b. hit_at a (partition b.beside)) (λ w. IsHit a (partition w)) (λ b. item_hit a (partition b.beside))
 
 -- ---- a literal
@@ -167,12 +167,12 @@ item_uri a = indexed_in a (λ w. uris w.tables) (λ w. with_uri)
 
 -- ---- a local name
 abbrev LocalBits : Align → ℕ → Spelling (List ℕ)
-LocalBits a uri = Behind SpellsUnsigned (λ code. Chosen (eqb code 0) (λ x w. IsHit a (locals w.tables uri) x w) (MissedOf None a (λ p. with_local p uri) (code - 1)))
+LocalBits a uri = Behind SpellsUnsigned (λ code. Chosen (eqb code 0) (λ x w. IsHit a (listed (locals w.tables uri)) x w) (MissedOf None a (λ p. with_local p uri) (code - 1)))
 
 to_local : (a : Align) (uri : ℕ) (x : List ℕ) (w v : Beside) (text : List Bool) → LocalBits a uri x w v text → SpellsLocal a uri x w v text
 to_local a uri x w v text z = by_code (eqb z.from 0) refl z.spelled.behind
   where
-    by_code : (b : Bool) → eqb z.from 0 ≡ b → Chosen b (λ x w. IsHit a (locals w.tables uri) x w) (MissedOf None a (λ p. with_local p uri) (z.from - 1)) x w v z.spelled.second → SpellsLocal a uri x w v text
+    by_code : (b : Bool) → eqb z.from 0 ≡ b → Chosen b (λ x w. IsHit a (listed (locals w.tables uri)) x w) (MissedOf None a (λ p. with_local p uri) (z.from - 1)) x w v z.spelled.second → SpellsLocal a uri x w v text
     by_code true e k = inl (record { first = z.spelled.first; second = z.spelled.second; parts = z.spelled.parts; front = subst (λ (n : ℕ). SpellsUnsigned n z.spelled.first) (eqb-true z.from 0 e) z.spelled.front; behind = k })
     by_code false e k =
         let long : z.from ≡ suc (length x) = omega (arith, not_zero z.from e, k.long) in
@@ -189,26 +189,26 @@ from_local a uri x w v text (inr h) =
         second = h.second;
         parts = h.parts;
         front = h.front;
-        behind = subst (λ (b : Bool). Chosen b (λ x w. IsHit a (locals w.tables uri) x w) (MissedOf None a (λ p. with_local p uri) (suc (length x) - 1)) x w v h.second) (sym other) (record { long = omega arith; missed = h.behind });
+        behind = subst (λ (b : Bool). Chosen b (λ x w. IsHit a (listed (locals w.tables uri)) x w) (MissedOf None a (λ p. with_local p uri) (suc (length x) - 1)) x w v h.second) (sym other) (record { long = omega arith; missed = h.behind });
       };
     }
 
 pub item_local : (a : Align) (uri : ℕ) → CourseItem {X = List ℕ} a (local_at a uri) (SpellsLocal a uri)
 unfolding local_at
 item_local a uri = in_words a (local_at a uri) (LocalBits a uri) (SpellsLocal a uri) (to_local a uri) (from_local a uri)
-    (behind a unsigned_at (λ code c. cond (eqb code 0) (hit_at a (locals c.beside.tables uri) c) (missed_at None a (λ p. with_local p uri) (code - 1) c))
-    SpellsUnsigned (λ code. Chosen (eqb code 0) (λ x w. IsHit a (locals w.tables uri) x w) (MissedOf None a (λ p. with_local p uri) (code - 1)))
+    (behind a unsigned_at (λ code c. cond (eqb code 0) (hit_at a (listed (locals c.beside.tables uri)) c) (missed_at None a (λ p. with_local p uri) (code - 1) c))
+    SpellsUnsigned (λ code. Chosen (eqb code 0) (λ x w. IsHit a (listed (locals w.tables uri)) x w) (MissedOf None a (λ p. with_local p uri) (code - 1)))
     (item_unsigned a)
-    (λ code. chosen a (eqb code 0) (λ c. hit_at a (locals c.beside.tables uri) c) (missed_at None a (λ p. with_local p uri) (code - 1)) (λ x w. IsHit a (locals w.tables uri) x w) (MissedOf None a (λ p. with_local p uri) (code - 1))
-    (hit_in a (λ w. locals w.tables uri)) (missed None a (λ p. with_local p uri) (code - 1))))
+    (λ code. chosen a (eqb code 0) (λ c. hit_at a (listed (locals c.beside.tables uri)) c) (missed_at None a (λ p. with_local p uri) (code - 1)) (λ x w. IsHit a (listed (locals w.tables uri)) x w) (MissedOf None a (λ p. with_local p uri) (code - 1))
+    (hit_in a (λ w. listed (locals w.tables uri))) (missed None a (λ p. with_local p uri) (code - 1))))
 
 -- ---- a string value
 module _ (set : Option (List ℕ)) (a : Align) (name : NameId) where
   abbrev OwnHit : Spelling (List ℕ)
-  OwnHit x w = IsHit a (name_values w.tables name) x w
+  OwnHit x w = IsHit a (own_values w.tables name) x w
 
   abbrev AnyHit : Spelling (List ℕ)
-  AnyHit x w = IsHit a (values w.tables) x w
+  AnyHit x w = IsHit a (listed (values w.tables)) x w
 
   abbrev Missed : ℕ → Spelling (List ℕ)
   Missed count = MissedOf set a (λ p. with_value p name) count
@@ -257,9 +257,9 @@ module _ (set : Option (List ℕ)) (a : Align) (name : NameId) where
   unfolding value_at
   item_value = in_words a (value_at set a name) ValueBits (SpellsValue set a name) to_value from_value
       (behind a unsigned_at
-      (λ code c. cond (eqb code 0) (hit_at a (name_values c.beside.tables name) c) (cond (eqb code 1) (hit_at a (values c.beside.tables) c) (missed_at set a (λ p. with_value p name) (code - 2) c)))
+      (λ code c. cond (eqb code 0) (hit_at a (own_values c.beside.tables name) c) (cond (eqb code 1) (hit_at a (listed (values c.beside.tables)) c) (missed_at set a (λ p. with_value p name) (code - 2) c)))
       SpellsUnsigned (λ code. Chosen (eqb code 0) OwnHit (Chosen (eqb code 1) AnyHit (Missed (code - 2))))
       (item_unsigned a)
-      (λ code. chosen a (eqb code 0) (λ c. hit_at a (name_values c.beside.tables name) c) (λ c. cond (eqb code 1) (hit_at a (values c.beside.tables) c) (missed_at set a (λ p. with_value p name) (code - 2) c)) OwnHit (Chosen (eqb code 1) AnyHit (Missed (code - 2)))
-      (hit_in a (λ w. name_values w.tables name))
-      (chosen a (eqb code 1) (λ c. hit_at a (values c.beside.tables) c) (missed_at set a (λ p. with_value p name) (code - 2)) AnyHit (Missed (code - 2)) (hit_in a (λ w. values w.tables)) (missed set a (λ p. with_value p name) (code - 2)))))
+      (λ code. chosen a (eqb code 0) (λ c. hit_at a (own_values c.beside.tables name) c) (λ c. cond (eqb code 1) (hit_at a (listed (values c.beside.tables)) c) (missed_at set a (λ p. with_value p name) (code - 2) c)) OwnHit (Chosen (eqb code 1) AnyHit (Missed (code - 2)))
+      (hit_in a (λ w. own_values w.tables name))
+      (chosen a (eqb code 1) (λ c. hit_at a (listed (values c.beside.tables)) c) (missed_at set a (λ p. with_value p name) (code - 2)) AnyHit (Missed (code - 2)) (hit_in a (λ w. listed (values w.tables))) (missed set a (λ p. with_value p name) (code - 2)))))

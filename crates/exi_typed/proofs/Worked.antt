@@ -1,5 +1,5 @@
 -- The definitions on small streams, with the first tables and nothing charged.
-use Rattle.std.proofs.Common.{◌≡◌, ℕ, true, false, List, [], ◌∷◌, Some, None, Ok, Err, refl}
+use Rattle.std.proofs.Common.{◌≡◌, ℕ, true, false, List, [], ◌∷◌, Option, Some, None, Ok, Err, refl}
 use Rattle.exi_bits.specs.declared.align.Align.TheVariants as align
 use Rattle.exi_bits.specs.declared.fault.Kind.{Kind}
 use Rattle.exi_bits.specs.declared.fault.Kind.TheVariants as kind
@@ -12,7 +12,7 @@ use Rattle.exi_meter.specs.Metering.{Metering, nothing_used, stream_bounds, with
 use Rattle.exi_names.specs.Characters.{is_xml_char}
 use Rattle.exi_names.specs.StartTables.{first_names}
 use Rattle.exi_names.specs.declared.names.NameId.{NameId}
-use Rattle.exi_tables.specs.Partitions.{Partitions, first_partitions, locals, name_values, prefixes, with_local, with_prefix, with_uri, with_value}
+use Rattle.exi_tables.specs.Partitions.{Partitions, first_partitions, locals, name_value_at, prefixes, values, with_local, with_prefix, with_uri, with_value}
 use Rattle.exi_text.specs.Literals.{chars_at, code_at}
 use Rattle.exi_typed.specs.Courses.{Beside, Course, Failure}
 use Rattle.exi_typed.specs.Strings.{Named, charged_at, declaration_at, hit_at, indexed_at, known_at, literal_at, local_at, missed_at, name_at, name_under, value_at}
@@ -21,7 +21,7 @@ abbrev at_bit : List ℕ → ℕ → Beside → Course
 at_bit bytes place w = record { spot = record { bytes = bytes; place = place }; beside = w }
 
 abbrev fresh : Partitions
-fresh = first_partitions first_names
+fresh = first_partitions first_names None None
 
 -- so many characters were charged
 abbrev after : ℕ → Partitions → Beside
@@ -94,8 +94,11 @@ value_read : value_at None align.Bits a_name (at_bit one_value 28 (after 1 with_
 unfolding value_at hit_at missed_at charged_at below_at field_at unsigned_at narrow_groups_at groups_at number_at value_of bits number_bits width_from text_charge chars_at times code_at is_xml_char
 value_read = refl
 
-x_stands : name_values (with_value with_a a_name x_text) a_name ≡ x_text ∷ []
+x_stands : values (with_value with_a a_name x_text) ≡ x_text ∷ []
 x_stands = refl
+
+x_stands_under : name_value_at (with_value with_a a_name x_text) a_name 0 ≡ Some x_text
+x_stands_under = refl
 
 -- 02 spells the empty text, which is not added
 empty_read : value_at None align.Bits a_name (at_bit (0x02 ∷ []) 0 (after 1 with_a)) ≡ Ok ([], at_bit (0x02 ∷ []) 8 (after 1 with_a))
@@ -114,6 +117,39 @@ no_value = 0x80 ∷ 0x40 ∷ 0x98 ∷ 0x70 ∷ 0x00 ∷ []
 value_missing : value_at None align.Bits a_name (at_bit no_value 28 (after 1 with_a)) ≡ Err (fault kind.BadPlace 36 1)
 unfolding value_at hit_at missed_at charged_at below_at field_at unsigned_at narrow_groups_at groups_at number_at value_of bits number_bits width_from text_charge chars_at times code_at is_xml_char
 value_missing = refl
+
+-- ---- the same where two values are live at most, once x, y and z were added
+abbrev y_text : List ℕ
+y_text = 0x79 ∷ []
+
+abbrev z_text : List ℕ
+z_text = 0x7A ∷ []
+
+abbrev bounded : Option ℕ → Option ℕ → Partitions
+bounded most capacity = with_local (first_partitions first_names most capacity) 0 a_text
+
+abbrev with_three : Partitions
+with_three = with_value (with_value (with_value (bounded None (Some 2)) a_name x_text) a_name y_text) a_name z_text
+
+-- 00 00: the place 0 of three under the name is live no longer
+pushed_out : value_at None align.Bits a_name (at_bit (0x00 ∷ 0x00 ∷ []) 0 (after 0 with_three)) ≡ Err (fault kind.BadPlace 8 0)
+unfolding value_at hit_at missed_at charged_at below_at field_at unsigned_at narrow_groups_at groups_at number_at value_of bits number_bits width_from text_charge chars_at times code_at is_xml_char
+pushed_out = refl
+
+-- 00 01 is the place 1 of three under the name
+still_live : value_at None align.Bits a_name (at_bit (0x00 ∷ 0x40 ∷ []) 0 (after 0 with_three)) ≡ Ok (y_text, at_bit (0x00 ∷ 0x40 ∷ []) 10 (after 1 with_three))
+unfolding value_at hit_at missed_at charged_at below_at field_at unsigned_at narrow_groups_at groups_at number_at value_of bits number_bits width_from text_charge chars_at times code_at is_xml_char
+still_live = refl
+
+-- 01 0 is the place 0 of two among all values, which went round
+gone_round : value_at None align.Bits a_name (at_bit (0x01 ∷ 0x00 ∷ []) 0 (after 0 with_three)) ≡ Ok (z_text, at_bit (0x01 ∷ 0x00 ∷ []) 9 (after 1 with_three))
+unfolding value_at hit_at missed_at charged_at below_at field_at unsigned_at narrow_groups_at groups_at number_at value_of bits number_bits width_from text_charge chars_at times code_at is_xml_char
+gone_round = refl
+
+-- 04 78 79 spells "xy" out, which is not added where no value may be longer than one character
+too_long : value_at None align.Bits a_name (at_bit (0x04 ∷ 0x78 ∷ 0x79 ∷ []) 0 (after 0 (bounded (Some 1) None))) ≡ Ok (0x78 ∷ 0x79 ∷ [], at_bit (0x04 ∷ 0x78 ∷ 0x79 ∷ []) 24 (after 2 (bounded (Some 1) None)))
+unfolding value_at hit_at missed_at charged_at below_at field_at unsigned_at narrow_groups_at groups_at number_at value_of bits number_bits width_from text_charge chars_at times code_at is_xml_char
+too_long = refl
 
 -- ---- an element `a` in the namespace `u`, which it declares with the prefix `p`
 abbrev one_declaration : List ℕ

@@ -3,17 +3,17 @@
 -- after.
 --
 -- A text that stands in a partition may be spelled by any place that has it, and may also be spelled out again.
-use Rattle.std.specs.Prelude.{◌≡◌, ℕ, suc, ◌+◌, ◌⊎◌, Bool, true, false, List, [], ◌++◌, length, Option, Some, None, if◌then◌else◌}
+use Rattle.std.specs.Prelude.{◌≡◌, ◌<◌, ℕ, suc, ◌+◌, ◌⊎◌, Bool, true, false, List, [], ◌++◌, length, Option, Some, None, if◌then◌else◌}
 use Rattle.exi_bits.specs.declared.align.Align.{Align}
 use Rattle.exi_bits.specs.Bits.{number}
 use Rattle.exi_bits.specs.Widths.{width_for}
 use Rattle.exi_items.specs.Spellings.{SpellsUnsigned, Then}
 use Rattle.exi_meter.specs.Metering.{text_fits, with_text}
 use Rattle.exi_names.specs.declared.names.NameId.{NameId}
-use Rattle.exi_tables.specs.Partitions.{live_at, locals, name_values, prefixes, uris, values, with_local, with_prefix, with_uri, with_value}
+use Rattle.exi_tables.specs.Partitions.{live_at, locals, prefixes, uris, values, with_local, with_prefix, with_uri, with_value}
 use Rattle.exi_text.specs.Spelled.{SpellsChars}
 use Rattle.exi_typed.specs.Courses.{Beside}
-use Rattle.exi_typed.specs.Strings.{Declaration, Growth, Named, Partition, count_of, place_in}
+use Rattle.exi_typed.specs.Strings.{Declaration, Growth, Named, Partition, listed, own_values, place_in}
 
 -- the meter takes a text of so many characters
 pub record Pays (units : ℕ) (w v : Beside) : Type 0 where
@@ -33,8 +33,9 @@ pub record Follows (First Second : Beside → Beside → List Bool → Type 0) (
 -- a text by a place that has it
 pub record IsHit (a : Align) (partition : Partition) (x : List ℕ) (w v : Beside) (text : List Bool) : Type 0 where
   pub place : ℕ
-  pub stands : live_at partition place ≡ Some x
-  pub bits : text ≡ number (width_for (count_of partition)) a place
+  pub within : place < partition.count
+  pub stands : partition.text_at place ≡ Some x
+  pub bits : text ≡ number (width_for partition.count) a place
   pub pays : Pays (length x) w v
 
 -- the characters of a text behind its length; the text is added
@@ -48,15 +49,15 @@ abbrev pub SpellsLiteral : Align → Growth → List ℕ → Beside → Beside �
 SpellsLiteral a grow x w v text = Then (SpellsUnsigned (length x)) (IsMissed None a grow x w v) text
 
 -- a text by a number one above a place that has it
-pub record IsIndexed (a : Align) (partition : Partition) (x : List ℕ) (w v : Beside) (text : List Bool) : Type 0 where
+pub record IsIndexed (a : Align) (texts : List (List ℕ)) (x : List ℕ) (w v : Beside) (text : List Bool) : Type 0 where
   pub place : ℕ
-  pub stands : live_at partition place ≡ Some x
-  pub bits : text ≡ number (width_for (count_of partition + 1)) a (place + 1)
+  pub stands : live_at texts place ≡ Some x
+  pub bits : text ≡ number (width_for (length texts + 1)) a (place + 1)
   pub pays : Pays (length x) w v
 
 -- the number 0 and a literal, or a number above 0
-abbrev pub SpellsIndexed : Align → Partition → Growth → List ℕ → Beside → Beside → List Bool → Type 0
-SpellsIndexed a partition grow x w v text = Then (λ code. code ≡ number (width_for (count_of partition + 1)) a 0) (SpellsLiteral a grow x w v) text ⊎ IsIndexed a partition x w v text
+abbrev pub SpellsIndexed : Align → List (List ℕ) → Growth → List ℕ → Beside → Beside → List Bool → Type 0
+SpellsIndexed a texts grow x w v text = Then (λ code. code ≡ number (width_for (length texts + 1)) a 0) (SpellsLiteral a grow x w v) text ⊎ IsIndexed a texts x w v text
 
 -- ---- names
 abbrev pub SpellsUri : Align → List ℕ → Beside → Beside → List Bool → Type 0
@@ -64,7 +65,7 @@ SpellsUri a x w v text = SpellsIndexed a (uris w.tables) with_uri x w v text
 
 abbrev pub SpellsLocal : Align → ℕ → List ℕ → Beside → Beside → List Bool → Type 0
 SpellsLocal a uri x w v text =
-    Then (SpellsUnsigned 0) (IsHit a (locals w.tables uri) x w v) text
+    Then (SpellsUnsigned 0) (IsHit a (listed (locals w.tables uri)) x w v) text
     ⊎ Then (SpellsUnsigned (suc (length x))) (IsMissed None a (λ p. with_local p uri) x w v) text
 
 -- no bits, and nothing beside changes
@@ -76,7 +77,7 @@ abbrev pub SpellsPrefix : Bool → Align → ℕ → Option (List ℕ) → Besid
 SpellsPrefix false a uri None w v text = IsNothing w v text
 SpellsPrefix false a uri (Some x) w v text = ⊥
 SpellsPrefix true a uri None w v text = (prefixes w.tables uri ≡ []) × IsNothing w v text
-SpellsPrefix true a uri (Some x) w v text = IsHit a (prefixes w.tables uri) x w v text
+SpellsPrefix true a uri (Some x) w v text = IsHit a (listed (prefixes w.tables uri)) x w v text
 
 -- the local name of a name and its prefix; the name goes on as the least place of its text
 pub record SpellsNameUnder (keep : Bool) (a : Align) (uri : ℕ) (space : List ℕ) (n : Named) (w v : Beside) (text : List Bool) : Type 0 where
@@ -126,6 +127,6 @@ SpellsDeclaration a d w v text = Follows (SpellsUri a d.uri) (Follows (SpellsNew
 -- ---- values
 abbrev pub SpellsValue : Option (List ℕ) → Align → NameId → List ℕ → Beside → Beside → List Bool → Type 0
 SpellsValue set a name x w v text =
-    Then (SpellsUnsigned 0) (IsHit a (name_values w.tables name) x w v) text
-    ⊎ Then (SpellsUnsigned 1) (IsHit a (values w.tables) x w v) text
+    Then (SpellsUnsigned 0) (IsHit a (own_values w.tables name) x w v) text
+    ⊎ Then (SpellsUnsigned 1) (IsHit a (listed (values w.tables)) x w v) text
     ⊎ Then (SpellsUnsigned (suc (suc (length x)))) (IsMissed set a (λ p. with_value p name) x w v) text

@@ -10,8 +10,8 @@
 -- Where the limit of text is passed, the fault's bit is where the text was charged: the first character, or behind
 -- the place (own). A reader of events puts the event's bit in its place.
 --
--- With bounded value partitions (valueMaxLength, valuePartitionCapacity: section 7.3.3) a `Partition` will also have
--- places that are no longer live: they count, and tell no text. The growth of values changes, and nothing else.
+-- Where values are bounded (valueMaxLength, valuePartitionCapacity: section 7.3.3), a place under a name may be live
+-- no longer: it still counts, and tells no text.
 use Rattle.std.specs.Prelude.{ℕ, ◌+◌, ◌-◌, ◌==◌, Bool, true, false, List, [], length, Option, Some, None, unwrap_or, Ok, if◌then◌else◌}
 use Rattle.exi_bits.specs.declared.align.Align.{Align}
 use Rattle.exi_bits.specs.declared.fault.Kind.TheVariants as kind
@@ -21,18 +21,23 @@ use Rattle.exi_bits.specs.Widths.{width_for}
 use Rattle.exi_items.specs.Charges.{after_text, text_charge}
 use Rattle.exi_names.specs.declared.names.NameId.{NameId}
 use Rattle.exi_names.specs.declared.names.QName.{QName}
-use Rattle.exi_tables.specs.Partitions.{Partitions, least_place, live_at, locals, name_values, prefixes, uris, values, with_local, with_prefix, with_uri, with_value}
+use Rattle.exi_tables.specs.Partitions.{Partitions, least_place, live_at, locals, name_value_at, name_values, prefixes, uris, values, with_local, with_prefix, with_uri, with_value}
 use Rattle.exi_text.specs.Literals.{chars_at}
 use Rattle.exi_typed.specs.Courses.{Courser, at_spot_of, failing}
 
 -- ---- one text
--- the texts of a partition of the string tables, by their places
-abbrev pub Partition : Type 0
-Partition = List (List ℕ)
+-- what a partition of the string tables tells: how many places were given, and the text of each that is live
+pub record Partition : Type 0 where
+  pub count : ℕ
+  pub text_at : ℕ → Option (List ℕ)
 
--- how many places were given
-abbrev pub count_of : Partition → ℕ
-count_of partition = length partition
+-- a list of texts, in which each place is live
+abbrev pub listed : List (List ℕ) → Partition
+listed texts = record { count = length texts; text_at = live_at texts }
+
+-- the values of a name
+abbrev pub own_values : Partitions → NameId → Partition
+own_values p name = record { count = name_values p name; text_at = name_value_at p name }
 
 -- how a missed text is added
 abbrev pub Growth : Type 0
@@ -56,8 +61,8 @@ placed_at s None c = failing c.beside.meter (fault_at kind.BadPlace s)
 -- a hit: the place in the partition, in the fewest bits that tell its places apart
 unfoldable pub hit_at : Align → Partition → Courser (List ℕ)
 hit_at a partition c = do
-  place ← failing c.beside.meter (below_at (count_of partition) a kind.BadPlace c.spot)
-  placed_at c.spot (live_at partition place.0) (at_spot_of c place.1)
+  place ← failing c.beside.meter (below_at partition.count a kind.BadPlace c.spot)
+  placed_at c.spot (partition.text_at place.0) (at_spot_of c place.1)
 
 -- a miss of so many characters
 unfoldable pub missed_at : Option (List ℕ) → Align → Growth → ℕ → Courser (List ℕ)
@@ -72,10 +77,10 @@ literal_at a grow c = do
   missed_at None a grow count.0 (at_spot_of c count.1)
 
 -- a place or a literal, told apart by one number: 0 is a miss, and a literal follows; k is a hit at place k - 1
-unfoldable pub indexed_at : Align → Partition → Growth → Courser (List ℕ)
-indexed_at a partition grow c = do
-  code ← failing c.beside.meter (below_at (count_of partition + 1) a kind.BadPlace c.spot)
-  if code.0 == 0 then literal_at a grow (at_spot_of c code.1) else placed_at c.spot (live_at partition (code.0 - 1)) (at_spot_of c code.1)
+unfoldable pub indexed_at : Align → List (List ℕ) → Growth → Courser (List ℕ)
+indexed_at a texts grow c = do
+  code ← failing c.beside.meter (below_at (length texts + 1) a kind.BadPlace c.spot)
+  if code.0 == 0 then literal_at a grow (at_spot_of c code.1) else placed_at c.spot (live_at texts (code.0 - 1)) (at_spot_of c code.1)
 
 -- ---- names
 -- a URI (7.3.2)
@@ -86,12 +91,12 @@ uri_at a c = indexed_at a (uris c.beside.tables) with_uri c
 unfoldable pub local_at : Align → ℕ → Courser (List ℕ)
 local_at a uri c = do
   code ← failing c.beside.meter (unsigned_at c.spot)
-  if code.0 == 0 then hit_at a (locals c.beside.tables uri) (at_spot_of c code.1) else missed_at None a (λ p. with_local p uri) (code.0 - 1) (at_spot_of c code.1)
+  if code.0 == 0 then hit_at a (listed (locals c.beside.tables uri)) (at_spot_of c code.1) else missed_at None a (λ p. with_local p uri) (code.0 - 1) (at_spot_of c code.1)
 
-abbrev pub told_prefix : Align → Partition → Courser (Option (List ℕ))
+abbrev pub told_prefix : Align → List (List ℕ) → Courser (Option (List ℕ))
 told_prefix a [] c = Ok (None, c)
-told_prefix a partition c = do
-  text ← hit_at a partition c
+told_prefix a texts c = do
+  text ← hit_at a (listed texts) c
   Ok (Some text.0, text.1)
 
 -- the prefix of a name under a URI, where prefixes are kept: a place among the URI's prefixes. Where it has
@@ -100,9 +105,9 @@ abbrev pub prefix_at : Bool → Align → ℕ → Courser (Option (List ℕ))
 prefix_at true a uri c = told_prefix a (prefixes c.beside.tables uri) c
 prefix_at false a uri c = Ok (None, c)
 
--- the least place of a text that stands in the partition
-abbrev pub place_in : Partition → List ℕ → ℕ
-place_in partition text = unwrap_or (least_place partition text) 0
+-- the least place of a text that stands in the list
+abbrev pub place_in : List (List ℕ) → List ℕ → ℕ
+place_in texts text = unwrap_or (least_place texts text) 0
 
 -- a name, and its places in the tables
 pub record Named : Type 0 where
@@ -160,4 +165,4 @@ declaration_at a c = do
 unfoldable pub value_at : Option (List ℕ) → Align → NameId → Courser (List ℕ)
 value_at set a name c = do
   code ← failing c.beside.meter (unsigned_at c.spot)
-  if code.0 == 0 then hit_at a (name_values c.beside.tables name) (at_spot_of c code.1) else (if code.0 == 1 then hit_at a (values c.beside.tables) (at_spot_of c code.1) else missed_at set a (λ p. with_value p name) (code.0 - 2) (at_spot_of c code.1))
+  if code.0 == 0 then hit_at a (own_values c.beside.tables name) (at_spot_of c code.1) else (if code.0 == 1 then hit_at a (listed (values c.beside.tables)) (at_spot_of c code.1) else missed_at set a (λ p. with_value p name) (code.0 - 2) (at_spot_of c code.1))

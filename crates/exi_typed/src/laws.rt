@@ -11,8 +11,9 @@ ghost use Rattle.std.specs.Prelude.{Bool, List, Option, ℕ};
 ghost use Rattle.exi_bits.specs.declared.align.Align.{Align};
 ghost use Rattle.exi_names.specs.declared.names.NameId.{NameId};
 ghost use Rattle.exi_typed.specs.NameValues.{NameValuesAgree, name_value_at};
-ghost use Rattle.exi_typed.specs.Onward.{GoesOnward, NamesGoOnStanding, NamesStand};
-ghost use Rattle.exi_typed.specs.Strings.{declaration_at, known_at, local_at, name_at, uri_at, value_at};
+ghost use Rattle.exi_typed.specs.Limits.{StaysWithin};
+ghost use Rattle.exi_typed.specs.Onward.{GoesOnward, KeepsEach, NamesGoOnStanding, NamesStand};
+ghost use Rattle.exi_typed.specs.Strings.{Growth, declaration_at, known_at, literal_at, local_at, name_at, uri_at, value_at};
 ghost use Rattle.exi_typed.specs.Laws.{DeclarationsAgree, KnownNamesAgree, LiteralsAgree, LocalsAgree, NamesAgree, UrisAgree, ValuesAgree};
 
 /// A literal is its length in characters and its characters.
@@ -59,8 +60,9 @@ pub fn values_agree()
 {}
 
 /// Reading goes onward in the same bytes. It charges text and nothing else, within its limit, and each place
-/// of the string tables keeps its text.
+/// of the URIs, local names and prefixes keeps its text, where what is added keeps it.
 pub fn reading_goes_onward()
+    ensures literals { (a : Align) (grow : Growth) → KeepsEach grow → GoesOnward (literal_at a grow) }
     ensures uris { (a : Align) → GoesOnward (uri_at a) }
     ensures locals { (a : Align) (uri : ℕ) → GoesOnward (local_at a uri) }
     ensures names { (keep : Bool) (a : Align) → GoesOnward (name_at keep a) }
@@ -68,6 +70,18 @@ pub fn reading_goes_onward()
     ensures name_values { (keep : Bool) (a : Align) → GoesOnward (name_value_at keep a) }
     ensures declarations { (a : Align) → GoesOnward (declaration_at a) }
     ensures values { (set : Option (List ℕ)) (a : Align) (name : NameId) → GoesOnward (value_at set a name) }
+{}
+
+/// No limit that was kept is passed by reading, whether it ends with a fault or not.
+pub fn limits_are_kept()
+    ensures literals { (a : Align) (grow : Growth) → StaysWithin (literal_at a grow) }
+    ensures uris { (a : Align) → StaysWithin (uri_at a) }
+    ensures locals { (a : Align) (uri : ℕ) → StaysWithin (local_at a uri) }
+    ensures names { (keep : Bool) (a : Align) → StaysWithin (name_at keep a) }
+    ensures known { (keep : Bool) (a : Align) (id : NameId) → StaysWithin (known_at keep a id) }
+    ensures name_values { (keep : Bool) (a : Align) → StaysWithin (name_value_at keep a) }
+    ensures declarations { (a : Align) → StaysWithin (declaration_at a) }
+    ensures values { (set : Option (List ℕ)) (a : Align) (name : NameId) → StaysWithin (value_at set a name) }
 {}
 
 /// The URI and the local name of a name that was read stand in the tables, and it goes on as the least places

@@ -1,5 +1,6 @@
 use Rattle.exi_tables.proofs.Firsts.{few_first}
-use Rattle.exi_tables.proofs.Growing.{longer_uri, longer_local, longer_prefix, longer_value}
+use Rattle.exi_tables.proofs.Growing.{longer_local, longer_prefix, longer_uri}
+use Rattle.exi_tables.proofs.Longer.{longer_value}
 use Rattle.exi_tables.proofs.laws.grows_by_one.Goals as goal
 
 pub returns-clause-start : goal.returns-clause-start

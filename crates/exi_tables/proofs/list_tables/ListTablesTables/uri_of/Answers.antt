@@ -1,9 +1,0 @@
-use Rattle.std.proofs.Common.{sym}
-use Rattle.std.specs.Str.{bytes_eq}
-use Rattle.exi_tables.proofs.Changes.{position-map}
-use Rattle.exi_tables.proofs.list_tables.ListTablesTables.uri_of.Goals as goal
-
-pub returns : goal.returns
-returns c =
-    rw (c.narrowed.ensures, c.least_uri.ensures, c.deref.ensures.value, ← c.self.view_is)
-    (sym (position-map (λ t. bytes_eq t c.args.text.now) (λ n. n.uri) c.self.inside.namespaces.items))

@@ -1,8 +1,0 @@
-use Rattle.std.proofs.Common.{◌≡◌, ◌+◌, ◌-◌, ℕ, [], get_or, length}
-use Rattle.exi_tables.proofs.places.Row.widen.Given as goal
-
-abbrev pub invariant-loop-alloc : goal.invariant-loop-alloc
-invariant-loop-alloc l = (k : ℕ) → get_or l.self-inside.items.items k [] ≡ get_or l.fn.self k []
-
-abbrev pub decreases-loop-alloc : goal.decreases-loop-alloc
-decreases-loop-alloc l = l.local + 1 - length l.self-inside.items.items
