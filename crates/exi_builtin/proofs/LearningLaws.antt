@@ -14,7 +14,8 @@ use Rattle.exi_builtin.specs.declared.learnable.Room.{Room}
 use Rattle.exi_builtin.specs.declared.learnable.Room.TheVariants as room
 use Rattle.exi_builtin.specs.BuiltIn.{left_of, written}
 use Rattle.exi_builtin.specs.Learning.{IsRoom, Learning, after_use, behind_learned, changed_at, grammar_number, grammar_place, in_front, is_new, learned_in, new_grammar, productions, with_grammar}
-use Rattle.exi_builtin.specs.Uses.{added_by, is_type, same_name, stands_already}
+use Rattle.exi_names.specs.NameMaps.{same_name}
+use Rattle.exi_builtin.specs.Uses.{added_by, is_type, stands_already}
 use Rattle.exi_builtin.proofs.Naming.{position_new, same_itself}
 
 abbrev of_these : List ElementGrammar → List Learnable → Learning

@@ -4,3 +4,4 @@ pub mod Numbering
 pub mod Naming
 pub mod LearningLaws
 mod Worked
+pub mod Rules

@@ -2,10 +2,9 @@
 use Rattle.std.specs.Prelude.{◌≡◌, ℕ, ◌≤◌, ◌^◌, Option, List, length, position}
 use Rattle.exi_names.specs.declared.names.NameId.{NameId}
 use Rattle.exi_builtin.specs.declared.element_grammar.ElementGrammar.{ElementGrammar}
-use Rattle.exi_builtin.specs.Numbers.{number_at}
-use Rattle.exi_builtin.specs.Uses.{same_name}
+use Rattle.exi_names.specs.NameMaps.{kept_for, same_name}
 
 -- the numbers kept are the places of the names' grammars, and there are not too many
 pub record IsNumbered (grammars : List ElementGrammar) (rows : List (List (Option ℕ))) : Type 0 where
-  pub numbers : (name : NameId) → number_at rows name ≡ position (λ (g : ElementGrammar). same_name g.name name) grammars
+  pub numbers : (name : NameId) → kept_for rows name ≡ position (λ (g : ElementGrammar). same_name g.name name) grammars
   pub few : length grammars ≤ 2 ^ 31

@@ -1,16 +1,18 @@
 -- How built-in grammars learn from what is used (W3C EXI 1.0, sections 8.4.2 and 8.4.3). A production that is
 -- learned gets the code 0 of one part, and the first parts of all others rise by one.
-use Rattle.std.specs.Prelude.{ℕ, zero, suc, ◌<◌, Bool, true, false, Option, Some, None, List, [], ◌∷◌, ◌++◌, length, position, slice_get, unwrap_or, if◌then◌else◌}
+use Rattle.std.specs.Prelude.{ℕ, zero, suc, ◌<◌, ◌≡◌, Bool, true, false, ◌&&◌, Option, Some, None, List, [], ◌∷◌, ◌++◌, length, map, position, slice_get, unwrap_or, if◌then◌else◌}
 use Rattle.exi_names.specs.declared.names.NameId.{NameId}
 use Rattle.exi_gram.specs.declared.options.Options.{Options}
-use Rattle.exi_gram.specs.Codes.{Productions}
+use Rattle.exi_gram.specs.Codes.{Productions, mapped, pruned}
 use Rattle.exi_builtin.specs.declared.element_grammar.ElementGrammar.{ElementGrammar}
 use Rattle.exi_builtin.specs.declared.learnable.Learnable.{Learnable}
 use Rattle.exi_builtin.specs.declared.learnable.Learned.{Learned}
 use Rattle.exi_builtin.specs.declared.learnable.Room.{Room}
 use Rattle.exi_builtin.specs.declared.learnable.Room.TheVariants as room
-use Rattle.exi_builtin.specs.BuiltIn.{left_of, written}
-pub use Rattle.exi_builtin.specs.Uses.{added_by, is_type, same_name, stands_already}
+use Rattle.exi_builtin.specs.declared.learnable.Learnable.TheVariants as learnable
+use Rattle.exi_builtin.specs.BuiltIn.{BuiltInRule, is_kept, left_of, written, written_rules}
+pub use Rattle.exi_names.specs.NameMaps.{same_name}
+pub use Rattle.exi_builtin.specs.Uses.{added_by, is_type, stands_already}
 
 -- what one body or fragment has learned: the grammars of its elements, in the order in which they were made, each
 -- with its element's name and what its two states learned, the latest first; and what FragmentContent learned, the
@@ -58,12 +60,62 @@ learned_in l (room.Content number) = content_of (slice_get l.grammars number)
 learned_in l room.Fragment = l.fragment
 
 -- what was learned stands in front
-abbrev pub behind_learned : List Learnable → Productions Learnable → Productions Learnable
+abbrev pub behind_learned : {X : Type 0} → List X → Productions X → Productions X
 behind_learned front p = record p { firsts = front ++ p.firsts }
 
 -- the productions of a state under the options. No option switches off what can be learned
 abbrev pub productions : Options → Learning → Room → Productions Learnable
 productions o l r = behind_learned (learned_in l r) (left_of o (written r))
+
+-- ---- where they lead
+-- the place of the state behind a production: an attribute or a declaration stays in the start tag, and all else leads to
+-- the content
+abbrev stays : Learnable → Bool
+stays (learnable.Known name attribute) = attribute
+stays learnable.SeAny = false
+stays learnable.AtAny = true
+stays (learnable.Ch one_part) = false
+stays (learnable.Ee one_part) = false
+stays learnable.Ed = false
+stays learnable.Ns = true
+stays learnable.Sc = false
+stays learnable.Er = false
+stays learnable.Cm = false
+stays learnable.Pi = false
+
+abbrev in_start_tag : Room → Bool
+in_start_tag (room.StartTag number) = true
+in_start_tag (room.Content number) = false
+in_start_tag room.Fragment = false
+
+abbrev pub state_behind : Room → Learnable → ℕ
+state_behind r x = if in_start_tag r && stays x then 0 else 1
+
+-- the place of the grammar that an element of a known name opens, where one was made
+abbrev pub opened_by : Learning → Learnable → Option ℕ
+opened_by l (learnable.Known name true) = None
+opened_by l (learnable.Known name false) = grammar_place l name
+opened_by l learnable.SeAny = None
+opened_by l learnable.AtAny = None
+opened_by l (learnable.Ch one_part) = None
+opened_by l (learnable.Ee one_part) = None
+opened_by l learnable.Ed = None
+opened_by l learnable.Ns = None
+opened_by l learnable.Sc = None
+opened_by l learnable.Er = None
+opened_by l learnable.Cm = None
+opened_by l learnable.Pi = None
+
+abbrev pub rule_in : Learning → Room → Learnable → BuiltInRule
+rule_in l r x = record { on = x; to = state_behind r x; inner = opened_by l x }
+
+-- the productions of a state as rules: what was learned in front, and the written ones that the options leave
+abbrev pub rules : Options → Learning → Room → Productions BuiltInRule
+rules o l r = behind_learned (map (rule_in l r) (learned_in l r)) (pruned (λ x. is_kept o x.on) (written_rules r))
+
+-- the rules are those of the productions, in their places
+abbrev pub RulesAreProductions : Type 0
+RulesAreProductions = (o : Options) (l : Learning) (r : Room) → rules o l r ≡ mapped (rule_in l r) (productions o l r)
 
 -- ---- learning
 -- the grammar at a place changed

@@ -1,7 +1,6 @@
 pub mod BuiltIn
 pub mod Learning
 pub mod Uses
-pub mod Numbers
 pub mod Marks
 pub mod Kept
 pub mod Layout

@@ -1,15 +1,12 @@
 -- What the uses of productions add to a state (W3C EXI 1.0, sections 8.4.2 and 8.4.3).
-use Rattle.std.specs.Prelude.{◌==◌, ◌&&◌, Bool, true, false, List}
+use Rattle.std.specs.Prelude.{◌&&◌, Bool, true, false, List}
 use Rattle.std.specs.List.{list_any}
 use Rattle.exi_names.specs.declared.names.NameId.{NameId}
+use Rattle.exi_names.specs.NameMaps.{same_name}
 use Rattle.exi_builtin.specs.declared.learnable.Learnable.{Learnable}
 use Rattle.exi_builtin.specs.declared.learnable.Learnable.TheVariants as learnable
 use Rattle.exi_builtin.specs.declared.learnable.Learned.{Learned}
 use Rattle.exi_builtin.specs.declared.learnable.Learned.TheVariants as learned
-
--- names are told apart by the least places of their texts: whoever asks has looked them up
-abbrev pub same_name : NameId → NameId → Bool
-same_name a b = (a.uri == b.uri) && (a.local == b.local)
 
 -- the name of xsi:type: the URI and the local name at these places of the first string tables (appendix D)
 abbrev pub is_type : NameId → Bool

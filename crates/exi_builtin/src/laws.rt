@@ -9,6 +9,7 @@ ghost use Rattle.exi_builtin.specs.declared.learnable.Room.{Room};
 ghost use Rattle.exi_builtin.specs.Learning.{
   IsRoom,
   Learning,
+  RulesAreProductions,
   added_by,
   after_use,
   grammar_number,
@@ -68,6 +69,12 @@ pub fn keeps_grammars()
         IsRoom l other → IsRoom (after_use l r used) other }
     ensures learned { (l : Learning) (name : NameId) (r : Room) →
         IsRoom l r → learned_in (with_grammar l name) r ≡ learned_in l r }
+{}
+
+/// Law: the rules of a state, each with the state behind it and the grammar that it opens, are those of its
+/// productions, in their places; so what is read by productions is read by rules.
+pub fn rules_are_productions()
+    ensures { RulesAreProductions }
 {}
 
 /// Law: under no options is a group of the productions of a state left empty.

@@ -25,7 +25,6 @@ mod element_grammar;
 pub mod laws;
 mod learnable;
 mod learned_list;
-mod name_numbers;
 mod overlay;
 mod reading;
 #[cfg(test)]

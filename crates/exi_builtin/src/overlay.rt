@@ -22,12 +22,11 @@ use crate::code_list::{CodeList, codes_behind};
 use crate::element_grammar::ElementGrammar;
 use crate::learnable::{Learnable, Learned, Room};
 use crate::learned_list::LearnedList;
-use crate::name_numbers::NameNumbers;
 use crate::reading::read_behind;
 use crate::uses::{added_by, stands_written};
 use exi_bits::{BitIn, Fault};
 use exi_gram::Options;
-use exi_names::NameId;
+use exi_names::{NameId, NameMap};
 use std::alloc::{AllocError, Global};
 use std::marker::Model;
 
@@ -39,7 +38,7 @@ use std::marker::Model;
 #[derive(Drop)]
 pub struct Overlay {
     alloc: Global,
-    numbers: NameNumbers,
+    numbers: NameMap<u32>,
     grammars: Vec<ElementGrammar>,
     fragment: LearnedList,
 }
@@ -62,7 +61,7 @@ impl Overlay {
     {
         Overlay {
             alloc,
-            numbers: NameNumbers::new(alloc),
+            numbers: NameMap::new(alloc),
             grammars: Vec::new(alloc),
             fragment: LearnedList::new(alloc),
         }
@@ -81,8 +80,8 @@ impl Overlay {
         ensures within { IfOk result (λ number. number < length self.new.grammars) }
         ensures err { OnErr result (self.new ≡ self.old) }
     {
-        match self.numbers.of(name) {
-            Some(number) => Ok(number),
+        match self.numbers.get(name) {
+            Some(number) => Ok(*number),
             None => self.make(name),
         }
     }
@@ -99,7 +98,7 @@ impl Overlay {
     {
         let number = self.grammars.len() as u32;
         self.grammars.reserve(1)?;
-        self.numbers.set(self.alloc, name, number)?;
+        self.numbers.insert(self.alloc, name, number)?;
         self.grammars
             .push_reserved(ElementGrammar::new(self.alloc, name));
         Ok(number)

@@ -9,20 +9,20 @@ use Rattle.exi_gram.specs.Cells.{Branches, IsTree, all_parts}
 use Rattle.exi_gram.specs.Tables.{parts_of}
 use Rattle.exi_gram.proofs.CodeLists.{some_is}
 
-all_head : {X : Type 0} (P : X → Type 0) (x : X) (xs : List X) → All P (x ∷ xs) → P x
+pub all_head : {X : Type 0} (P : X → Type 0) (x : X) (xs : List X) → All P (x ∷ xs) → P x
 all_head P x xs h = h 0 x (omega arith)
 
-all_tail : {X : Type 0} (P : X → Type 0) (x : X) (xs : List X) → All P (x ∷ xs) → All P xs
+pub all_tail : {X : Type 0} (P : X → Type 0) (x : X) (xs : List X) → All P (x ∷ xs) → All P xs
 all_tail P x xs h i d less = h (suc i) d (omega (arith, less))
 
-all_cons : {X : Type 0} (P : X → Type 0) (x : X) (xs : List X) → P x → All P xs → All P (x ∷ xs)
+pub all_cons : {X : Type 0} (P : X → Type 0) (x : X) (xs : List X) → P x → All P xs → All P (x ∷ xs)
 all_cons P x xs one others zero d less = one
 all_cons P x xs one others (suc i) d less = others i d (omega (arith, less))
 
 -- ---- the codes that go on with a part
-pub parts_behind : (part : ℕ) (cs : List (Coded ℕ)) → parts_in (behind (part ∷ []) cs) ≡ going_on part (parts_in cs)
+pub parts_behind : {X : Type 0} (part : ℕ) (cs : List (Coded X)) → parts_in (behind (part ∷ []) cs) ≡ going_on part (parts_in cs)
 parts_behind part [] = refl
-parts_behind part (c ∷ cs) = by c.parts (parts_behind part cs)
+parts_behind {X} part (c ∷ cs) = by c.parts (parts_behind part cs)
   where
     by : (parts : List ℕ) → parts_in (behind (part ∷ []) cs) ≡ going_on part (parts_in cs) → parts_in (behind (part ∷ []) (record { parts = parts; item = c.item } ∷ cs)) ≡ going_on part (parts ∷ parts_in cs)
     by [] rest = rest

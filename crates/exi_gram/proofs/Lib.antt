@@ -1,9 +1,11 @@
+pub mod Chosen
 pub mod CodeItems
 pub mod CodeLaws
 pub mod CodeLists
 pub mod CodeSets
 pub mod PartLaws
 pub mod Reading
+pub mod StateSets
 pub mod TableLists
 pub mod Trees
 pub mod Walks

@@ -20,7 +20,7 @@ told-append [] ys = refl
 told-append ([] ∷ xs) ys = refl
 told-append ((part ∷ parts) ∷ xs) ys = told-append xs ys
 
-not_from : {X : Type 0} (part : ℕ) (xs : List X) → is_told (parts_in (coded_from [] part xs)) ≡ false
+pub not_from : {X : Type 0} (part : ℕ) (xs : List X) → is_told (parts_in (coded_from [] part xs)) ≡ false
 not_from part [] = refl
 not_from part (x ∷ xs) = not_from (suc part) xs
 
@@ -39,7 +39,7 @@ not_second_behind : {X : Type 0} (one part : ℕ) (x : Second X) → is_told (pa
 not_second_behind one part (single x) = refl
 not_second_behind one part (group xs) = not_behind one (part ∷ []) 0 xs
 
-not_seconds : {X : Type 0} (part : ℕ) (xs : List (Second X)) → is_told (parts_in (coded_seconds [] part xs)) ≡ false
+pub not_seconds : {X : Type 0} (part : ℕ) (xs : List (Second X)) → is_told (parts_in (coded_seconds [] part xs)) ≡ false
 not_seconds part [] = refl
 not_seconds {X} part (x ∷ xs) = ap is_told (map-append (λ (c : Coded X). c.parts) (coded_second [] part x) (coded_seconds [] (suc part) xs)) ∙ both_not (parts_in (coded_second [] part x)) (parts_in (coded_seconds [] (suc part) xs)) (not_second part x) (not_seconds (suc part) xs)
 
@@ -47,7 +47,7 @@ not_seconds_behind : {X : Type 0} (one part : ℕ) (xs : List (Second X)) → is
 not_seconds_behind one part [] = refl
 not_seconds_behind {X} one part (x ∷ xs) = ap is_told (map-append (λ (c : Coded X). c.parts) (coded_second (one ∷ []) part x) (coded_seconds (one ∷ []) (suc part) xs)) ∙ both_not (parts_in (coded_second (one ∷ []) part x)) (parts_in (coded_seconds (one ∷ []) (suc part) xs)) (not_second_behind one part x) (not_seconds_behind one (suc part) xs)
 
-not_codes : {X : Type 0} (p : Productions X) → is_told (codes p) ≡ false
+pub not_codes : {X : Type 0} (p : Productions X) → is_told (codes p) ≡ false
 not_codes {X} p = ap is_told (map-append (λ (c : Coded X). c.parts) (coded_from [] 0 p.firsts) (coded_seconds (length p.firsts ∷ []) 0 p.seconds)) ∙ both_not (parts_in (coded_from [] 0 p.firsts)) (parts_in (coded_seconds (length p.firsts ∷ []) 0 p.seconds)) (not_from 0 p.firsts) (not_seconds_behind (length p.firsts) 0 p.seconds)
 
 -- a code of one part ends behind it
@@ -89,7 +89,7 @@ second_ends {X} part (y ∷ xs) (suc j) x e =
     (ap (λ (k : ℕ). is_told (going_on k (parts_in (coded_seconds [] (suc part) xs)))) p ∙ second_ends (suc part) xs j x e)
 
 -- ---- reading
-part_within : (count : ℕ) (a : Align) (s : Spot) (q : ℕ × Spot) → part_at count a s ≡ given q → q.0 < count
+pub part_within : (count : ℕ) (a : Align) (s : Spot) (q : ℕ × Spot) → part_at count a s ≡ given q → q.0 < count
 unfolding part_at
 part_within count a s q e =
     let u = bind_ok (field_at (width_for count) a s) (λ found. cond (ltb found.0 count) (Ok found) (Err (record { kind = kind.NoCode; bit = s.place }))) q e in
@@ -118,7 +118,7 @@ none_read : (a : Align) (cs : List (List ℕ)) (s : Spot) → ends (parts_read 0
 unfolding parts_read
 none_read a cs s = refl
 
-within_get : {X : Type 0} (xs : List X) (i : ℕ) → i < length xs → (x : X) × (slice_get xs i ≡ Some x)
+pub within_get : {X : Type 0} (xs : List X) (i : ℕ) → i < length xs → (x : X) × (slice_get xs i ≡ Some x)
 within_get [] i less = absurd (omega arith)
 within_get (x ∷ xs) zero less = (x, refl)
 within_get (x ∷ xs) (suc i) less = within_get xs i (omega arith)

@@ -5,7 +5,8 @@ use Rattle.exi_bits.specs.declared.fault.Fault.{Fault}
 use Rattle.exi_bits.specs.Bits.{Spot}
 use Rattle.exi_bits.specs.Repeat.{Reader}
 use Rattle.exi_bits.specs.Unsigned.{◌>>=◌}
-use Rattle.exi_gram.specs.Codes.{Coded, going_on, part_at, told, values_of}
+use Rattle.exi_gram.specs.Codes.{Coded, IsClosedUp, Productions, code_at, coded, going_on, part_at, told, values_of}
+use Rattle.exi_gram.specs.Laws.{codes, placed}
 
 -- ---- codes that a tree can hold
 -- neither is the front of the other, nor are they the same
@@ -79,3 +80,17 @@ counted place (code ∷ codes) = record { parts = code; item = place } ∷ count
 -- the place of the code that stands here
 abbrev pub place_read : Align → List (List ℕ) → Reader ℕ
 place_read a codes s = chosen_at 3 a (counted 0 codes) s
+
+-- ---- laws
+-- a code of a state is read part by part as the codes of the state go on, so each fault is that of the first part that
+-- has none of its values, or whose bits are not there
+abbrev pub CodeIsChosen : Type 0 → Type 0
+CodeIsChosen X = (p : Productions X) → IsClosedUp p → (a : Align) (s : Spot) → code_at a p s ≡ chosen_at 3 a (coded p) s
+
+-- with places for productions it tells the place of the code in the list of the codes
+abbrev pub PlaceIsRead : Type 0 → Type 0
+PlaceIsRead X = (p : Productions X) → IsClosedUp p → (a : Align) (s : Spot) → code_at a (placed p) s ≡ place_read a (codes p) s
+
+-- the codes of a state are such a set
+abbrev pub StateIsCodeSet : Type 0 → Type 0
+StateIsCodeSet X = (p : Productions X) → IsClosedUp p → IsCodeSet (codes p)

@@ -8,5 +8,5 @@ pub mod Switches
 pub mod Tables
 pub mod Terminals
 pub mod Wholes
-pub mod CodeTrees
 pub mod Cells
+pub mod CodeTrees

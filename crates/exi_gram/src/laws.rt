@@ -3,6 +3,7 @@
 
 ghost use Rattle.exi_gram.specs.Wholes.{without_schema};
 ghost use Rattle.exi_gram.specs.Schemas.{IsSchema};
+ghost use Rattle.exi_gram.specs.CodeTrees.{CodeIsChosen, PlaceIsRead, StateIsCodeSet};
 ghost use Rattle.exi_gram.specs.Laws.{CodeIsNoPrefix, CodeIsParts, CodeIsRead, CodeIsSpelled, MappedIsRead, PlacedIsNumbered, PrunedIsClosedUp};
 
 /// The production that is read has a code of the state, and the bits of that code were taken.
@@ -44,4 +45,19 @@ pub fn without_schema_is_schema()
 /// which none of them has there, or whose bits are not there, at the first bit of that part.
 pub fn code_is_parts<T>()
     ensures { CodeIsParts T }
+{}
+
+/// A code is read as by the codes of its state alone, part by part, and tells the same production.
+pub fn code_is_chosen<T>()
+    ensures { CodeIsChosen T }
+{}
+
+/// With places for the productions, what is read is the place of the code in the list of the codes.
+pub fn place_is_read<T>()
+    ensures { PlaceIsRead T }
+{}
+
+/// The codes of a state are such as a compiled table can hold.
+pub fn state_is_code_set<T>()
+    ensures { StateIsCodeSet T }
 {}

@@ -3,7 +3,7 @@ use Rattle.std.specs.Prelude.{position}
 use Rattle.std.proofs.lemmas.List.{length-append}
 use Rattle.exi_builtin.specs.declared.element_grammar.ElementGrammar.{ElementGrammar}
 use Rattle.exi_builtin.specs.Learning.{new_grammar}
-use Rattle.exi_builtin.specs.Uses.{same_name}
+use Rattle.exi_names.specs.NameMaps.{same_name}
 use Rattle.exi_builtin.proofs.Naming.{numbers_push}
 use Rattle.exi_builtin.proofs.overlay.Overlay.make.Goals as goal
 
@@ -15,6 +15,6 @@ invariant_of-self-2 c =
     let len : c.len-number.result ≡ length grammars = search rules in
     rw (c.push_reserved.ensures.items, c.in_ok-reserve.ensures.items, c.new.ensures)
     (record {
-      numbers = λ name. numbers_push grammars c.args.name name _ _ c.len-number.result len absent (c.self.invariant.numbers name) (c.in_ok-set.ensures.ok name);
+      numbers = λ name. numbers_push grammars c.args.name name _ _ c.len-number.result len absent (c.self.invariant.numbers name) (c.in_ok-insert.ensures.ok name);
       few = omega (arith, length-append grammars (new_grammar c.args.name ∷ []), room);
     })
