@@ -1,0 +1,62 @@
+-- Texts between quotes, of which the bytes that stand for themselves are written in runs.
+use Rattle.std.proofs.Common.{◌≡◌, ◌<◌, ◌≤◌, ◌+◌, ◌-◌, ℕ, List, [], ◌∷◌, ◌++◌, length, take, drop, get_or, refl, sym, ap, ◌∙◌, arith, append_assoc}
+use Rattle.std.specs.Prelude.{slice_range}
+use Rattle.std.specs.List.{flat_map}
+use Rattle.std.proofs.lemmas.List.{append-nil, take_more, drop_more, length-drop, get_or-drop, take_all}
+use Rattle.std.proofs.lemmas.List.Folds.{drop_split}
+use Rattle.std.proofs.lemmas.Grind.{flat_map-append}
+use Rattle.std.proofs.Math.Nat.{sub_self}
+use Rattle.exi_evtext.specs.Lines.{escaped}
+
+-- one place more
+range_more : (s : List ℕ) (start place : ℕ) → start ≤ place → place < length s → slice_range s start (place + 1) ≡ slice_range s start place ++ get_or s place 0 ∷ []
+range_more s start place le lt =
+    let i = place - start in
+    let up : (place + 1) - start ≡ i + 1 = omega arith in
+    let inside : i < length (drop start s) = omega (arith, length-drop start s) in
+    let same : start + i ≡ place = omega arith in
+    ap (λ (n : ℕ). take n (drop start s)) up
+    ∙ take_more (drop start s) i 0 inside
+    ∙ ap (λ (b : ℕ). take i (drop start s) ++ b ∷ []) (get_or-drop start s i 0 ∙ ap (λ (n : ℕ). get_or s n 0) same)
+
+-- one byte more stands for itself
+pub plain_more : (s : List ℕ) (start place : ℕ) → start ≤ place → place < length s → flat_map escaped (slice_range s start place) ≡ slice_range s start place
+    → escaped (get_or s place 0) ≡ get_or s place 0 ∷ [] → flat_map escaped (slice_range s start (place + 1)) ≡ slice_range s start (place + 1)
+plain_more s start place le lt plain self =
+    let b = get_or s place 0 in
+    let more = range_more s start place le lt in
+    ap (flat_map escaped) more
+    ∙ flat_map-append escaped (slice_range s start place) (b ∷ [])
+    ∙ ap (λ (x : List ℕ). x ++ (escaped b ++ [])) plain
+    ∙ ap (λ (x : List ℕ). slice_range s start place ++ x) (append-nil (escaped b) ∙ self)
+    ∙ sym more
+
+-- a byte is escaped, behind those that stand for themselves
+pub escape_step : (s out mid new goal mark : List ℕ) (start place : ℕ) → start ≤ place → place < length s → flat_map escaped (slice_range s start place) ≡ slice_range s start place
+    → out ++ flat_map escaped (drop start s) ≡ goal → mid ≡ out ++ slice_range s start place → new ≡ mid ++ mark → escaped (get_or s place 0) ≡ mark
+    → new ++ flat_map escaped (drop (place + 1) s) ≡ goal
+escape_step s out mid new goal mark start place le lt plain done one two marks =
+    let run = slice_range s start place in
+    let rest = flat_map escaped (drop (place + 1) s) in
+    let behind : flat_map escaped (drop place s) ≡ mark ++ rest = ap (flat_map escaped) (drop_more s place 0 lt) ∙ ap (λ (x : List ℕ). x ++ rest) marks in
+    let all : flat_map escaped (drop start s) ≡ run ++ (mark ++ rest) =
+    ap (flat_map escaped) (drop_split s start place le) ∙ flat_map-append escaped run (drop place s) ∙ ap (λ (x : List ℕ). x ++ flat_map escaped (drop place s)) plain ∙ ap (λ (x : List ℕ). run ++ x) behind in
+    ap (λ (x : List ℕ). x ++ rest) (two ∙ ap (λ (x : List ℕ). x ++ mark) one)
+    ∙ append_assoc (out ++ run) mark rest
+    ∙ append_assoc out run (mark ++ rest)
+    ∙ ap (λ (x : List ℕ). out ++ x) (sym all)
+    ∙ done
+
+-- all that is left stands for itself
+pub last_step : (s out new goal : List ℕ) (start : ℕ) → start ≤ length s → flat_map escaped (slice_range s start (length s)) ≡ slice_range s start (length s)
+    → out ++ flat_map escaped (drop start s) ≡ goal → new ≡ out ++ drop start s → new ≡ goal
+last_step s out new goal start le plain done last =
+    let whole : slice_range s start (length s) ≡ drop start s = take_all (length s - start) (drop start s) (omega (arith, length-drop start s)) in
+    let same : flat_map escaped (drop start s) ≡ drop start s = ap (flat_map escaped) (sym whole) ∙ plain ∙ whole in
+    last ∙ ap (λ (x : List ℕ). out ++ x) (sym same) ∙ done
+
+-- no bytes stand for themselves
+pub plain_none : (s : List ℕ) (i : ℕ) → flat_map escaped (slice_range s i i) ≡ slice_range s i i
+plain_none s i =
+    let none : slice_range s i i ≡ [] = ap (λ (n : ℕ). take n (drop i s)) (sub_self i) in
+    rw none refl

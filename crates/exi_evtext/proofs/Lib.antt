@@ -1,0 +1,4 @@
+pub mod Holds
+pub mod Escapes
+pub mod Signs
+pub mod Counts

@@ -1,0 +1,74 @@
+//! Texts and names between quotes.
+
+ghost use Rattle.std.specs.Prelude.{◌≡◌, ◌<◌, ◌++◌, [], ◌∷◌, OnOk, OnErr, OnSome, MatchOption, string_bytes};
+ghost use Rattle.std.specs.List.{flat_map};
+ghost use Rattle.exi_names.specs.Shown.{named};
+ghost use Rattle.exi_evtext.specs.Kept.{Keeps};
+ghost use Rattle.exi_evtext.specs.Lines.{also, escaped, name_words, quoted};
+
+use exi_names::{NameRef, Txt};
+use std::alloc::AllocError;
+
+/// What stands for a byte between quotes, where it may not stand for itself.
+fn escape(byte: u8) -> Option<&'static str>
+    ensures text { MatchOption result (escaped byte ≡ byte ∷ []) (λ text. escaped byte ≡ text.now) }
+    ensures ascii { OnSome result (byte < 128) }
+{
+    match byte {
+        b'"' => Some("\\\""),
+        b'\\' => Some("\\\\"),
+        b'\n' => Some("\\n"),
+        b'\r' => Some("\\r"),
+        b'\t' => Some("\\t"),
+        _ => None,
+    }
+}
+
+/// The text's bytes as they stand between quotes: those that stand for themselves in runs.
+fn push_escaped(out: &mut String, text: &str) -> Result<(), AllocError>
+    ensures ok { OnOk result (string_bytes out.new ≡ string_bytes out.old ++ flat_map escaped text.now) }
+    ensures err { OnErr result (Keeps (string_bytes out.old) (string_bytes out.new)) }
+{
+    let bytes = text.as_bytes();
+    let mut start = 0;
+    for (place, byte) in bytes.iter().enumerate() {
+        if let Some(escape) = escape(*byte) {
+            out.push_str(&text[start..place])?;
+            out.push_str(escape)?;
+            start = place + 1;
+        }
+    }
+    out.push_str(&text[start..])
+}
+
+/// A text between quotes.
+pub fn push_quoted(out: &mut String, text: &Txt) -> Result<(), AllocError>
+    ensures ok { OnOk result (string_bytes out.new ≡ string_bytes out.old ++ quoted text.now) }
+    ensures err { OnErr result (Keeps (string_bytes out.old) (string_bytes out.new)) }
+{
+    out.push('"')?;
+    push_escaped(out, text.as_str())?;
+    out.push('"')
+}
+
+/// One more text, behind a space.
+pub fn push_also(out: &mut String, text: &Txt) -> Result<(), AllocError>
+    ensures ok { OnOk result (string_bytes out.new ≡ string_bytes out.old ++ also text.now) }
+    ensures err { OnErr result (Keeps (string_bytes out.old) (string_bytes out.new)) }
+{
+    out.push(' ')?;
+    push_quoted(out, text)
+}
+
+/// URI, local name, and the prefix where there is one.
+pub fn push_name(out: &mut String, name: &NameRef<'_>) -> Result<(), AllocError>
+    ensures ok { OnOk result (string_bytes out.new ≡ string_bytes out.old ++ name_words (named name.now)) }
+    ensures err { OnErr result (Keeps (string_bytes out.old) (string_bytes out.new)) }
+{
+    push_quoted(out, name.uri)?;
+    push_also(out, name.local)?;
+    match name.prefix {
+        Some(prefix) => push_also(out, prefix),
+        None => Ok(()),
+    }
+}
