@@ -106,11 +106,13 @@ fn values_and_datatypes_are_copied(rt: HostRuntime) -> Result<(), Fail> {
 #[test]
 fn texts_are_compared(rt: HostRuntime) -> Result<(), Fail> {
     let mut text = Txt::new(rt.alloc());
+    text.reserve(3)?;
     text.push('é')?;
+    text.push_str("€")?;
     let copy = Txt::from_string(text.copy()?.into_string());
     assert!(rt; copy.same(&text) && copy == text && copy <= text);
-    assert_eq!(rt; copy.as_str(), "é");
-    assert_eq!(rt; copy.count(), 1);
+    assert_eq!(rt; copy.as_str(), "é€");
+    assert_eq!(rt; copy.count(), 2);
     let mut hasher = DefaultHasher::new();
     copy.hash(&mut hasher);
     let _ = hasher.finish();

@@ -97,6 +97,31 @@ impl Txt {
         Ok(())
     }
 
+    /// Puts characters at the end.
+    ///
+    /// # Errors
+    ///
+    /// `AllocError` where memory is refused; the text is then unchanged.
+    pub fn push_str(&mut self, text: &str) -> Result<(), AllocError>
+        ensures ok { OnOk result (self.new ≡ self.old ++ chars text.now) }
+        ensures err { OnErr result (self.new ≡ self.old) }
+    {
+        self.text.push_str(text)?;
+        Ok(())
+    }
+
+    /// Asks for room for that many more bytes of UTF-8 at once, in place of step by step. The text stays
+    /// as it is; this is a matter of speed alone.
+    ///
+    /// # Errors
+    ///
+    /// `AllocError` where memory is refused.
+    pub fn reserve(&mut self, more: usize) -> Result<(), AllocError>
+        ensures { self.new ≡ self.old }
+    {
+        self.text.reserve(more)
+    }
+
     /// How many characters the text has.
     pub fn count(&self) -> u64
         ensures { result ≡ length self.now }

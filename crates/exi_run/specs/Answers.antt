@@ -7,6 +7,7 @@ use Rattle.exi_ports.specs.Ports.{file_at, GrowsInPart}
 use Rattle.exi_run.specs.declared.reader.End.{End}
 use Rattle.exi_run.specs.declared.reader.End.TheVariants as end
 use Rattle.exi_run.specs.declared.status.Status.{Status}
+use Rattle.exi_run.specs.declared.top.TheConstants.{MOST_BYTES}
 use Rattle.exi_run.specs.declared.status.Status.TheVariants as status
 use Rattle.exi_run.specs.declared.status.Halt.{Halt}
 use Rattle.exi_run.specs.declared.status.Halt.TheVariants as halt
@@ -19,7 +20,7 @@ Files = List (List ℕ × List ℕ)
 
 -- the greatest length of a file, in bytes: 64 MiB
 abbrev pub most_bytes : ℕ
-most_bytes = 67108864
+most_bytes = MOST_BYTES
 
 -- the file that the words name, where they are `read` and one word more
 abbrev pub file_of : List (List ℕ) → Option (List ℕ)
