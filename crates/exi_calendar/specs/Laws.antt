@@ -2,6 +2,9 @@
 use Rattle.std.specs.Prelude.{◌≡◌, ◌↔◌, IsTrue, Some, List, ℕ}
 use Rattle.exi_names.specs.declared.moment.Moment.{Moment}
 use Rattle.exi_names.specs.declared.moment.MomentKind.{MomentKind}
+use Rattle.exi_names.specs.Datatypes as datatype
+use Rattle.exi_names.specs.Forms.{IsOf}
+use Rattle.exi_names.specs.Seen as value
 use Rattle.exi_calendar.specs.Parts.{IsInRanges}
 use Rattle.exi_calendar.specs.Forms.{Spells, all_visible, moment_text}
 use Rattle.exi_calendar.specs.Reading.{moment_value}
@@ -31,3 +34,7 @@ CanonicalTextIsVisible = (m : Moment) → IsInRanges m → IsTrue (all_visible (
 -- a text has one value at most
 abbrev pub ValueIsOne : Type 0
 ValueIsOne = (k : MomentKind) (text : List ℕ) (m n : Moment) → IsValueOf k text m → IsValueOf k text n → m ≡ n
+
+-- a date or a time of the kind with all its fields in their ranges is what the datatype has
+abbrev pub RangesAreTheForm : Type 0
+RangesAreTheForm = (k : MomentKind) (m : Moment) → ((m.kind ≡ k) × IsInRanges m) ↔ IsOf (datatype.moment k) (value.moment m)

@@ -1,7 +1,7 @@
 //! What holds between the texts of a date or a time and its value. Each law is a function that does
 //! nothing: what it ensures is the law.
 
-ghost use Rattle.exi_calendar.specs.Laws.{CanonicalTextHasItsValue, CanonicalTextIsVisible, ValueComesBack, ValueIsByForm, ValueIsOne};
+ghost use Rattle.exi_calendar.specs.Laws.{CanonicalTextHasItsValue, CanonicalTextIsVisible, RangesAreTheForm, ValueComesBack, ValueIsByForm, ValueIsOne};
 
 /// A text has a value exactly where it is one of the texts of that value: its fields one after
 /// another, as the form of the kind writes them, each in its range.
@@ -27,4 +27,9 @@ pub fn value_comes_back()
 /// The canonical text of a date or a time in its ranges has no white space, and ASCII alone.
 pub fn canonical_text_is_visible()
     ensures { CanonicalTextIsVisible }
+{}
+
+/// The dates and times of a kind with all fields in their ranges are the values of that datatype.
+pub fn ranges_are_the_form()
+    ensures { RangesAreTheForm }
 {}

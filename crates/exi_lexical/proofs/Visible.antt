@@ -14,7 +14,8 @@ use Rattle.exi_numerals.specs.declared.decimal.Decimal.{Decimal}
 use Rattle.exi_numerals.specs.declared.float.Float.{Float}
 use Rattle.exi_numerals.specs.Integers.{integer_text, sign_text}
 use Rattle.exi_numerals.specs.Decimals.{decimal_text}
-use Rattle.exi_numerals.specs.Floats.{float_text, is_special, special_text}
+use Rattle.exi_names.specs.Forms.{is_special}
+use Rattle.exi_numerals.specs.Floats.{float_text, special_text}
 use Rattle.exi_calendar.specs.Parts.{layout}
 use Rattle.exi_calendar.specs.Forms.{date_text, field_text, fraction_text, moment_text, offset_text, time_text, year_text, zone_text}
 use Rattle.exi_calendar.specs.Reading.{digits_year_at, field_at, moment_value, past, year_at, year_of}

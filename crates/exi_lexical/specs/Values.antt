@@ -3,6 +3,7 @@
 use Rattle.std.specs.Prelude.{ℕ, ℤ, ◌&&◌, nat_le, Bool, true, false, if◌then◌else◌, List, [], ◌∷◌, length, codes, Option, Some, None, option_map}
 use Rattle.std.specs.Str.{bytes_eq}
 use Rattle.std.specs.List.{join_with_byte}
+use Rattle.std.specs.Option.{is_some}
 use Rattle.exi_names.specs.Wholes.{Number}
 use Rattle.exi_names.specs.Seen.{Value, Values, boolean, integer, decimal, float, moment, binary, items, no_more, and, values_of}
 use Rattle.exi_names.specs.Seen as shape
@@ -10,12 +11,13 @@ use Rattle.exi_names.specs.Datatypes.{Representation, small, unsigned, list, cho
 use Rattle.exi_names.specs.Datatypes as form
 use Rattle.exi_lexical.specs.Spaces.{all_ascii, squeezed, trimmed, words}
 use Rattle.exi_lexical.specs.Binaries.{base64_octets, base64_text, hex_octets, hex_text}
-use Rattle.exi_names.specs.Equality.{equal}
+use Rattle.exi_names.specs.Equality.{place_among}
 use Rattle.exi_calendar.specs.Forms.{moment_text}
 use Rattle.exi_calendar.specs.Reading.{moment_value}
 use Rattle.exi_numerals.specs.Decimals.{decimal_text, decimal_value}
 use Rattle.exi_numerals.specs.Floats.{float_text, float_value}
-use Rattle.exi_numerals.specs.Integers.{integer_in, integer_text, is_integer, is_small, is_unsigned, is_wide}
+use Rattle.exi_names.specs.Forms.{is_integer, is_unsigned, is_within}
+use Rattle.exi_numerals.specs.Integers.{integer_in, integer_text}
 use Rattle.exi_numerals.specs.declared.decimal.Decimal.{Decimal}
 use Rattle.exi_numerals.specs.declared.float.Float.{Float}
 
@@ -46,10 +48,6 @@ binary_text true octets = hex_text octets
 binary_text false octets = base64_text octets
 
 -- ---- Integers, Decimal, Float
--- one of so many numbers from the least on, in the 128 bits and the sign that a value has (our own bound)
-abbrev pub is_within : ℤ → ℕ → Number → Bool
-is_within least count n = is_wide n && is_small least count n
-
 abbrev pub of_decimal : Decimal → Value
 of_decimal d = decimal d.minus d.whole d.back
 
@@ -87,15 +85,10 @@ unfoldable pub list_value : (List ℕ → Option Value) → List ℕ → Option 
 list_value item t = if nat_le (length (words t)) 65_536 then option_map (λ vs. items (values_of vs)) (each_value item (words t)) else None
 
 -- ---- enumerations
--- the first value that equals this one
-abbrev pub first_equal : Value → List Value → Option Value
-first_equal v [] = None
-first_equal v (w ∷ ws) = if equal v w then Some w else first_equal v ws
-
--- the first enumerated value that equals the value under the base
+-- the value under the base, where it is one of the enumerated ones
 abbrev pub chosen : List Value → Option Value → Option Value
 chosen values None = None
-chosen values (Some v) = first_equal v values
+chosen values (Some v) = if is_some (place_among v values) then Some v else None
 
 -- ---- the value of a text
 -- White space at either end is dropped but where the text is itself the value. No text has a name as its value: that

@@ -134,7 +134,7 @@ fn put_list(alloc: Global, out: &mut String, list: &ValList) -> Result<(), Alloc
 /// - a string: itself;
 /// - a list: its items with one space between.
 ///
-/// A text that has a value has it again in its canonical text (`laws::canonical_text_has_its_value`). The value may
+/// A text that has a value has it again in its canonical text (`laws::value_comes_back`). The value may
 /// be no name, nor a list that holds one at any depth: what [`value_of`](crate::value_of) gives never is.
 ///
 /// # Errors

@@ -18,9 +18,10 @@
 //! Numbers are those of [`exi_numerals`], dates and times those of [`exi_calendar`]; here are booleans and octets,
 //! lists and enumerations, and the white space around and between them.
 //!
-//! The value of a text is defined by the text's form (`specs/Values.antt`), not by how it is scanned. That the
-//! canonical text of a value which a text has, has that value again, is proved for every datatype
-//! (`laws::canonical_text_has_its_value`).
+//! The value of a text is defined by the text's form (`specs/Values.antt`), not by how it is scanned. It is one that the
+//! datatype has (`laws::read_is_of_the_form`), and each value that a datatype has is the value of its canonical text
+//! (`laws::written_is_read`), but for lists, enumerations and names; a value that a text has comes back from its
+//! canonical text under every datatype (`laws::value_comes_back`).
 //!
 //! A list's items are read where they stand, without a copy; octets are decoded into the memory that they are kept
 //! in; a list's canonical text is put together in one string.
@@ -35,4 +36,4 @@ mod tests;
 mod values;
 
 pub use canonical::canon;
-pub use values::value_of;
+pub use values::{has_value, value_of};

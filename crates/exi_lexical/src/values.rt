@@ -4,11 +4,12 @@ ghost use Rattle.std.specs.Prelude.{◌≡◌, true, Some, IfOk, IfSome, option_
 ghost use Rattle.std.specs.Option.{is_some};
 ghost use Rattle.std.specs.Str.{chars};
 ghost use Rattle.exi_names.specs.Datatypes.{represented};
+ghost use Rattle.exi_names.specs.Forms.{IsOf};
 ghost use Rattle.exi_names.specs.Seen.{items, seen, vals, values_of};
 ghost use Rattle.exi_names.specs.Texts.{has_text};
 ghost use Rattle.exi_numerals.specs.Decimals.{decimal_value};
 ghost use Rattle.exi_numerals.specs.Floats.{float_value};
-ghost use Rattle.exi_lexical.specs.Values.{of_decimal, of_float, binary_value, boolean_value, canonical, chosen, first_equal, form_value, list_value, scalar_value, value};
+ghost use Rattle.exi_lexical.specs.Values.{of_decimal, of_float, binary_value, boolean_value, canonical, chosen, form_value, list_value, scalar_value, value};
 
 use crate::binaries::{base64_value, hex_value};
 use crate::spaces::{next_word, trim};
@@ -107,18 +108,6 @@ fn scalar(alloc: Global, kind: &Datatype, text: &str) -> Result<Option<Val>, All
     form(alloc, kind, text)
 }
 
-/// Whether a value equals one of these.
-fn is_among(value: &Val, values: &ValList) -> bool
-    ensures { result ≡ is_some (first_equal (seen value.now) (vals values.now)) }
-{
-    for other in &values.items {
-        if value.same(other) {
-            return true;
-        }
-    }
-    false
-}
-
 /// The value that a text has under a datatype, if it has one. White space at either end is dropped, except under
 /// `Text` and `Chars`; white space is tab, line feed, carriage return and space.
 ///
@@ -134,8 +123,9 @@ fn is_among(value: &Val, values: &ValList) -> bool
 /// - `Binary`: pairs of hex digits of either case; or groups of four base64 digits, with fillers in the last group
 ///   and unused bits 0, in which white space may stand anywhere.
 /// - `List`: words between white space, at most 65,536, each with a value.
-/// - `Choice`: the first enumerated value that equals the value under the base. Two values are equal where they are
-///   the same as data: `1.50E1` and `15E0` are different floats, though the numbers are the same.
+/// - `Choice`: the value under the base, where it is an enumerated one. Two values are equal where they are the same
+///   as data: `1.50E1` and `15E0` are different floats, though the numbers are the same.
+///   [`ValList::place_of`] tells which of them it is.
 /// - `Text`, `Chars`: the text itself. Which characters it has is not asked here.
 /// - `Name`: none, since a name takes the namespaces in scope.
 ///
@@ -148,12 +138,31 @@ fn is_among(value: &Val, values: &ValList) -> bool
 pub fn value_of(alloc: Global, kind: &Datatype, text: &Txt) -> Result<Option<Val>, AllocError>
     // the value of the text, exactly where it has one
     ensures value { IfOk result (λ v. option_map seen v ≡ value (represented kind.now) text.now) }
+    // one that the datatype has
+    ensures form { IfOk result (λ v. IfSome v (λ v. IsOf (represented kind.now) (seen v))) }
     // so that `canon` may be called on it
     ensures text { IfOk result (λ v. IfSome v (λ v. has_text (seen v) ≡ true)) }
     // its canonical text has it again
     ensures again { IfOk result (λ v. IfSome v (λ v. value (represented kind.now) (canonical (seen v)) ≡ Some (seen v))) }
 {
     value_in(alloc, kind, text.as_str())
+}
+
+/// Whether a text has a value under a datatype: what [`value_of`] tells, without a copy of a text that is itself the
+/// value.
+///
+/// # Errors
+///
+/// `AllocError` where memory is refused.
+#[tactic(auto, unfolding(crate::specs::Values::value))]
+pub fn has_value(alloc: Global, kind: &Datatype, text: &Txt) -> Result<bool, AllocError>
+    ensures { IfOk result (λ has. has ≡ is_some (value (represented kind.now) text.now)) }
+{
+    match kind {
+        Datatype::Text | Datatype::Chars(_) => Ok(true),
+        Datatype::Name { prefixes: _ } => Ok(false),
+        _ => Ok(value_of(alloc, kind, text)?.is_some()),
+    }
 }
 
 /// The value of a text under a datatype, if it has one.
@@ -212,7 +221,7 @@ fn choice(
     let Some(value) = value_in(alloc, base, text)? else {
         return Ok(None);
     };
-    if is_among(&value, values) {
+    if values.place_of(&value).is_some() {
         Ok(Some(value))
     } else {
         Ok(None)

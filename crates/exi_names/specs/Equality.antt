@@ -1,6 +1,7 @@
 -- When two values, or two datatypes, are the same as data: of one kind, and the same in each part.
-use Rattle.std.specs.Prelude.{◌≡◌, ◌↔◌, ℕ, ◌==◌, Bool, true, false, not, ◌&&◌}
+use Rattle.std.specs.Prelude.{◌≡◌, ◌↔◌, ℕ, ◌==◌, Bool, true, false, not, ◌&&◌, List, Option}
 use Rattle.std.specs.Ordering.{int_eq}
+use Rattle.std.specs.List.{position}
 use Rattle.std.specs.Option.{option_eq}
 use Rattle.std.specs.Str.{bytes_eq}
 use Rattle.exi_names.specs.Wholes.{Number}
@@ -60,6 +61,10 @@ abbrev mutual
   all_equal no_more no_more = true
   all_equal (and a more) (and b others) = equal a b && all_equal more others
   all_equal a b = false
+
+-- the least place of a value that equals this one, where there is one
+abbrev pub place_among : Value → List Value → Option ℕ
+place_among v values = position (λ w. equal v w) values
 
 abbrev pub same_representations : Representation → Representation → Bool
 same_representations (kind.small least count) (kind.small first number) = int_eq least first && (count == number)

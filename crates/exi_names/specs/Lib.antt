@@ -10,5 +10,7 @@ pub mod Letters
 pub mod Datatypes
 pub mod Texts
 pub mod Equality
+pub mod Moments
+pub mod Forms
 pub mod StartTables
 pub mod NameMaps

@@ -1,8 +1,9 @@
 //! Whether two values, or two datatypes, are the same as data.
 
 ghost use Rattle.std.specs.Prelude.{◌≡◌, ◌↔◌, IsTrue};
+ghost use Rattle.std.specs.List.{position};
 ghost use Rattle.exi_names.specs.Datatypes.{represented};
-ghost use Rattle.exi_names.specs.Equality.{all_equal, equal, same_names, same_representations};
+ghost use Rattle.exi_names.specs.Equality.{all_equal, equal, place_among, same_names, same_representations};
 ghost use Rattle.exi_names.specs.Seen.{seen, values_of, vals};
 
 use crate::datatype::Datatype;
@@ -77,6 +78,14 @@ impl ValList {
         }
         true
     }
+
+    /// The least place of a value that is the same as this one, and `None` exactly where there is none. So an
+    /// enumerated value is found by its place in the enumeration.
+    pub fn place_of(&self, value: &Val) -> Option<usize>
+        ensures { result ≡ place_among (seen value.now) (vals self.now) }
+    {
+        least_place(self.items.as_slice(), value)
+    }
 }
 
 impl Datatype {
@@ -113,4 +122,11 @@ impl Datatype {
             _ => false,
         }
     }
+}
+
+/// The least place of a value among these.
+fn least_place(values: &[Val], value: &Val) -> Option<usize>
+    ensures { result ≡ position (λ w. equal (seen value.now) (seen w)) values.now }
+{
+    values.iter().position(|other| value.same(other))
 }

@@ -5,7 +5,7 @@ use Rattle.std.specs.Fmt.{signed_decimal}
 use Rattle.std.specs.Int.{w128}
 use Rattle.std.proofs.lemmas.Int.{ints}
 use Rattle.std.proofs.lemmas.List.{append-nil}
-use Rattle.std.proofs.lemmas.Bool.{cases_Bool, lt-ltb, ltb-true, leb-true, and_parts, ne_eqb, or_from}
+use Rattle.std.proofs.lemmas.Bool.{cases_Bool, lt-ltb, ltb-true, leb-true, and_parts, ne_eqb, or_from, eqb-true, false≢true}
 use Rattle.std.proofs.lemmas.Slice.Eq.{bytes_eq-Decides}
 use Rattle.exi_digits.specs.Digits.{is_digit, all_digits, has_any, number_of, fraction_of}
 use Rattle.exi_digits.specs.Splits.{before, behind, is_either, is_mark}
@@ -14,10 +14,11 @@ use Rattle.exi_digits.proofs.Splitting.{before_all, before_mark, behind_mark, be
 use Rattle.exi_names.specs.Wholes.{Number, number}
 use Rattle.exi_numerals.specs.declared.decimal.Decimal.{Decimal}
 use Rattle.exi_numerals.specs.declared.float.Float.{Float}
-use Rattle.exi_numerals.specs.Integers.{behind_sign, has_minus, in_range, int_of, integer_of, integer_value, is_integer, is_integer_text, is_small, is_unsigned, sign_text}
+use Rattle.exi_names.specs.Forms.{HasNoMinusZero, int_of, is_exponent, is_float, is_integer, is_mantissa, is_small, is_special, is_unsigned, is_wide, is_within, is_word, no_number}
+use Rattle.exi_numerals.specs.Integers.{behind_sign, has_minus, in_range, integer_of, integer_value, is_integer_text, sign_text}
 use Rattle.exi_numerals.specs.Decimals.{decimal_of, decimal_value, fraction_digits, is_decimal_text, is_narrow, whole_digits}
-use Rattle.exi_numerals.specs.Floats.{exponent_in, exponent_part, float_text, float_value, held, is_exponent, is_mantissa, is_special, joined, mantissa_in, mantissa_of, mantissa_part, no_number, number_value, shifted, with_exponent, written_exponent, written_of}
-use Rattle.exi_numerals.specs.Laws.{DecimalIsKept, FloatIsKept, IntegerIsKept, SmallIsKept}
+use Rattle.exi_numerals.specs.Floats.{exponent_in, exponent_part, float_text, float_value, held, joined, mantissa_in, mantissa_of, mantissa_part, number_value, shifted, with_exponent, written_exponent, written_of}
+use Rattle.exi_numerals.specs.Laws.{DecimalIsInRange, DecimalIsKept, DecimalIsRead, FloatIsInRange, FloatIsKept, FloatIsRead, IntegerIsInRange, IntegerIsKept, IntegerIsRead, SmallIsKept, SmallIsRead}
 use Rattle.exi_numerals.proofs.Parts.{in_range_is, in_range_some, int_of-number}
 
 -- ---- signs
@@ -56,25 +57,46 @@ written_number minus n lt =
     let start = digits_start (decimal n) (all_digits-decimal n lt) in
     rw (behind_sign_of minus (decimal n) start, minus_of minus (decimal n) start, has_any-decimal n lt, all_digits-decimal n lt, number_of-decimal n lt) refl
 
-normal : (minus : Bool) (n : ℕ) → number (number minus n).minus (number minus n).size ≡ number minus n
-normal minus zero = refl
-normal minus (suc n) = refl
+no_minus_zero : (minus : Bool) (n : ℕ) → HasNoMinusZero (number minus n)
+no_minus_zero minus zero e = refl
+no_minus_zero minus (suc n) e = absurd (omega (arith, e))
 
-integer_read : (text : List ℕ) (n : Number) → integer_value text ≡ Some n → number n.minus n.size ≡ n
+number_parts : (minus : Bool) (n : ℕ) → (n ≡ 0 → minus ≡ false) → number minus n ≡ record { minus = minus; size = n }
+number_parts minus zero h = let e = sym (h refl) in λ i. record { minus = e i; size = zero }
+number_parts minus (suc n) h = refl
+
+number_is : (n : Number) → HasNoMinusZero n → number n.minus n.size ≡ n
+number_is n h = number_parts n.minus n.size h
+
+integer_read : (text : List ℕ) (n : Number) → integer_value text ≡ Some n → HasNoMinusZero n
 integer_read text n e =
     elim (cases_Bool (is_integer_text text)) [
       | inl form ↦
           let k : integer_value text ≡ Some (integer_of text) = rw form refl in
           let same : integer_of text ≡ n = cc in
-          subst (λ (x : Number). number x.minus x.size ≡ x) same (normal (has_minus text) (number_of (behind_sign text)))
+          subst HasNoMinusZero same (no_minus_zero (has_minus text) (number_of (behind_sign text)))
       | inr form ↦ let k : integer_value text ≡ None = rw form refl in absurd (cc)
     ]
 
+pub integer_ranged : (range : Number → Bool) → IntegerIsInRange range
+integer_ranged range text n e =
+    let p = in_range_is range (integer_value text) n e in
+    (integer_read text n p.0, p.1)
+
+pub integer_again : (range : Number → Bool) → ((n : Number) → range n ≡ true → n.size < 2 ^ 128) → IntegerIsRead range
+integer_again range near n plain r =
+    ap (in_range range) (written_number n.minus n.size (near n r) ∙ ap (λ (x : Number). Some x) (number_is n plain)) ∙ in_range_some range n r
+
 pub integer_kept : (range : Number → Bool) → ((n : Number) → range n ≡ true → n.size < 2 ^ 128) → IntegerIsKept range
 integer_kept range near text n e =
-    let p = in_range_is range (integer_value text) n e in
-    let lt : n.size < 2 ^ 128 = near n p.1 in
-    ap (in_range range) (written_number n.minus n.size lt ∙ ap (λ (x : Number). Some x) (integer_read text n p.0)) ∙ in_range_some range n p.1
+    let p = integer_ranged range text n e in
+    integer_again range near n p.0 p.1
+
+pub within_near : (least : ℤ) (count : ℕ) (n : Number) → is_within least count n ≡ true → n.size < 2 ^ 128
+within_near least count n h = ltb-true n.size (2 ^ 128) (and_parts (is_wide n) (is_small least count n) h).0
+
+pub small_again : SmallIsRead
+small_again least count = integer_again (is_within least count) (within_near least count)
 
 pub unsigned_near : (n : Number) → is_unsigned n ≡ true → n.size < 2 ^ 128
 unsigned_near n e = ltb-true n.size (2 ^ 128) (and_parts (not n.minus) (ltb n.size (2 ^ 128)) e).1
@@ -120,7 +142,7 @@ any_of_both : (a b : List ℕ) → 0 < length a → has_any (a ++ b) ≡ true
 any_of_both [] b any = absurd (omega arith)
 any_of_both (c ∷ a) b any = refl
 
-decimal_read : (text : List ℕ) (d : Decimal) → decimal_value text ≡ Some d → is_narrow d ≡ true
+pub decimal_read : DecimalIsInRange
 decimal_read text d e =
     elim (cases_Bool (is_decimal_text text && is_narrow (decimal_of text))) [
       | inl form ↦
@@ -130,14 +152,16 @@ decimal_read text d e =
       | inr form ↦ let k : decimal_value text ≡ None = rw form refl in absurd (cc)
     ]
 
-pub decimal_kept : DecimalIsKept
-decimal_kept text d e =
-    let narrow = decimal_read text d e in
+pub decimal_again : DecimalIsRead
+decimal_again d narrow =
     let both = and_parts (ltb d.whole (2 ^ 128)) (ltb d.back (2 ^ 128)) narrow in
     let w : d.whole < 2 ^ 128 = ltb-true d.whole (2 ^ 128) both.0 in
     let b : d.back < 2 ^ 128 = ltb-true d.back (2 ^ 128) both.1 in
     let p = pointed d.minus (decimal d.whole) (fraction_of d.back) (decimal_any d.whole w) (all_digits-decimal d.whole w) in
     rw (p.0, p.1, p.2, all_digits-decimal d.whole w, all_digits-fraction_of d.back b, any_of_both (decimal d.whole) (fraction_of d.back) (decimal_any d.whole w), number_of-decimal d.whole w, back_of-fraction_of d.back b, both.0, both.1) refl
+
+pub decimal_kept : DecimalIsKept
+decimal_kept text d e = decimal_again d (decimal_read text d e)
 
 -- ---- floats
 no_e : (c : ℕ) → is_digit c ≡ true → is_either 69 101 c ≡ false
@@ -269,25 +293,49 @@ exponent_plain (negsuc n) h =
     let l : n ≤ 16382 = leb-true n 16382 (and_parts (leb n 16382) (int_le (negsuc n) (pos 16383)) h).0 in
     ne_eqb n 16383 (λ k. omega (arith, k))
 
-number_written : (text : List ℕ) (f : Float) → number_value text ≡ Some f → float_value (float_text f) ≡ Some f
-number_written text f e =
-    let r = number_ranges text f e in
-    let t : float_text f ≡ signed_decimal f.mantissa ++ 69 ∷ signed_decimal f.exponent = rw (exponent_plain f.exponent r.1) refl in
-    ap float_value t ∙ number_is_float (signed_decimal f.mantissa ++ 69 ∷ signed_decimal f.exponent) f (number_kept f.mantissa f.exponent r.0 r.1)
+number_again : (f : Float) → is_mantissa f.mantissa ≡ true → is_exponent f.exponent ≡ true → float_value (float_text f) ≡ Some f
+number_again f m e =
+    let t : float_text f ≡ signed_decimal f.mantissa ++ 69 ∷ signed_decimal f.exponent = rw (exponent_plain f.exponent e) refl in
+    ap float_value t ∙ number_is_float (signed_decimal f.mantissa ++ 69 ∷ signed_decimal f.exponent) f (number_kept f.mantissa f.exponent m e)
 
 -- of the words
-special_kept : (m : ℤ) (f : Float) → float_value (float_text (record { mantissa = m; exponent = no_number })) ≡ Some (record { mantissa = m; exponent = no_number }) → Some (record { mantissa = m; exponent = no_number }) ≡ Some f → float_value (float_text f) ≡ Some f
-special_kept m f h e = subst (λ (g : Float). float_value (float_text g) ≡ Some g) (some_is e) h
+word_text : (m : ℤ) → is_word m ≡ true → float_value (float_text (record { mantissa = m; exponent = no_number })) ≡ Some (record { mantissa = m; exponent = no_number })
+word_text (pos zero) h = refl
+word_text (pos (suc zero)) h = refl
+word_text (pos (suc (suc n))) h = absurd (let l : suc (suc n) ≤ 1 = leb-true (suc (suc n)) 1 h in omega (arith, l))
+word_text (negsuc zero) h = refl
+word_text (negsuc (suc n)) h = absurd (let l : suc n ≡ 0 = eqb-true (suc n) 0 h in omega (arith, l))
 
-pub float_kept : FloatIsKept
-float_kept text f e =
+word_again : (m e : ℤ) → is_word m ≡ true → is_special e ≡ true → float_value (float_text (record { mantissa = m; exponent = e })) ≡ Some (record { mantissa = m; exponent = e })
+word_again m (pos n) w h = absurd (false≢true h)
+word_again m (negsuc n) w h =
+    subst (λ (k : ℕ). float_value (float_text (record { mantissa = m; exponent = negsuc k })) ≡ Some (record { mantissa = m; exponent = negsuc k })) (sym (eqb-true n 16383 h)) (word_text m w)
+
+pub float_again : FloatIsRead
+float_again f h =
+    elim (cases_Bool (is_mantissa f.mantissa && is_exponent f.exponent)) [
+      | inl number_form ↦ let p = and_parts (is_mantissa f.mantissa) (is_exponent f.exponent) number_form in number_again f p.0 p.1
+      | inr word_form ↦ let p = and_parts (is_word f.mantissa) (is_special f.exponent) (rw word_form at h) in word_again f.mantissa f.exponent p.0 p.1
+    ]
+
+word_read : (m : ℤ) (f : Float) → is_float m no_number ≡ true → Some (record { mantissa = m; exponent = no_number }) ≡ Some f → is_float f.mantissa f.exponent ≡ true
+word_read m f h e = subst (λ (g : Float). is_float g.mantissa g.exponent ≡ true) (some_is e) h
+
+number_read : (text : List ℕ) (f : Float) → number_value text ≡ Some f → is_float f.mantissa f.exponent ≡ true
+number_read text f e = let r = number_ranges text f e in rw (r.0, r.1) refl
+
+pub float_read : FloatIsInRange
+float_read text f e =
     elim (cases_Bool (bytes_eq text (codes "INF"))) [
-      | inl inf ↦ special_kept (pos 1) f refl (rw inf at e)
+      | inl inf ↦ word_read (pos 1) f refl (rw inf at e)
       | inr not_inf ↦ elim (cases_Bool (bytes_eq text (codes "-INF"))) [
-        | inl inf ↦ special_kept (negsuc 0) f refl (rw (not_inf, inf) at e)
+        | inl inf ↦ word_read (negsuc 0) f refl (rw (not_inf, inf) at e)
         | inr not_minus ↦ elim (cases_Bool (bytes_eq text (codes "NaN"))) [
-          | inl nan ↦ special_kept (pos 0) f refl (rw (not_inf, not_minus, nan) at e)
-          | inr not_nan ↦ number_written text f (rw (not_inf, not_minus, not_nan) at e)
+          | inl nan ↦ word_read (pos 0) f refl (rw (not_inf, not_minus, nan) at e)
+          | inr not_nan ↦ number_read text f (rw (not_inf, not_minus, not_nan) at e)
         ]
       ]
     ]
+
+pub float_kept : FloatIsKept
+float_kept text f e = float_again f (float_read text f e)

@@ -6,9 +6,10 @@ use Rattle.std.proofs.Math.Nat.{mul-le-mul_right, mul_comm}
 use Rattle.exi_digits.specs.Digits.{all_digits, has_any, number_of, back_of, kept, number_behind, back_in}
 use Rattle.exi_digits.proofs.Numbers.{behind_no_digits, kept_is, kept_not, number_of-append, ten_pos}
 use Rattle.exi_names.specs.Wholes.{Number, number}
-use Rattle.exi_numerals.specs.Integers.{has_minus, in_range, int_of, integer_in, integer_value, is_wide}
+use Rattle.exi_names.specs.Forms.{int_of, is_exponent, is_mantissa, is_special, is_wide}
+use Rattle.exi_numerals.specs.Integers.{has_minus, in_range, integer_in, integer_value}
 use Rattle.exi_numerals.specs.Decimals.{decimal_of, decimal_value, fraction_digits, is_decimal_text, is_narrow, whole_digits}
-use Rattle.exi_numerals.specs.Floats.{exponent_in, held, is_exponent, is_mantissa, is_special, mantissa_in, mantissa_of, shifted, written_of}
+use Rattle.exi_numerals.specs.Floats.{exponent_in, held, mantissa_in, mantissa_of, shifted, written_of}
 
 with_digits : (b : ℕ) (t : List ℕ) → all_digits t ≡ true → number_behind b t ≡ kept (b * 10 ^ length t + number_of t)
 with_digits b t all = rw all refl

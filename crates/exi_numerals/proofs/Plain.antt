@@ -14,7 +14,8 @@ use Rattle.exi_numerals.specs.declared.decimal.Decimal.{Decimal}
 use Rattle.exi_numerals.specs.declared.float.Float.{Float}
 use Rattle.exi_numerals.specs.Integers.{behind_sign, integer_in, integer_text, integer_value, is_integer_text, sign_text}
 use Rattle.exi_numerals.specs.Decimals.{decimal_of, decimal_text, decimal_value, fraction_digits, is_decimal_text, is_narrow, whole_digits}
-use Rattle.exi_numerals.specs.Floats.{exponent_in, exponent_part, float_text, float_value, is_mantissa, is_special, joined, mantissa_in, mantissa_part, number_value, shifted, special_text, with_exponent, written_of}
+use Rattle.exi_names.specs.Forms.{is_mantissa, is_special}
+use Rattle.exi_numerals.specs.Floats.{exponent_in, exponent_part, float_text, float_value, joined, mantissa_in, mantissa_part, number_value, shifted, special_text, with_exponent, written_of}
 use Rattle.exi_numerals.proofs.Parts.{in_range_is}
 
 -- from `!` to `~`

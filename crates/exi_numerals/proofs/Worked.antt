@@ -2,9 +2,10 @@
 use Rattle.std.proofs.Common.{◌≡◌, ◌++◌, true, false, Some, None, refl, pos, negsuc, ◌-◌, ◌^◌, replicate}
 use Rattle.std.specs.Prelude.{codes}
 use Rattle.std.specs.Fmt.{digits}
-use Rattle.exi_numerals.specs.Integers.{integer_in, integer_text, is_integer, is_small, is_unsigned}
+use Rattle.exi_names.specs.Forms.{is_integer, is_small, is_unsigned, no_number}
+use Rattle.exi_numerals.specs.Integers.{integer_in, integer_text}
 use Rattle.exi_numerals.specs.Decimals.{decimal_text, decimal_value}
-use Rattle.exi_numerals.specs.Floats.{float_text, float_value, no_number}
+use Rattle.exi_numerals.specs.Floats.{float_text, float_value}
 
 -- ---- integers
 seven : integer_in is_integer (codes "+007") ≡ Some (record { minus = false; size = 7 })

@@ -6,7 +6,8 @@ use Rattle.std.specs.Fmt.{signed_decimal}
 use Rattle.exi_digits.specs.Digits.{number_of}
 use Rattle.exi_digits.specs.Splits.{before, behind, is_either}
 use Rattle.exi_names.specs.Wholes.{Number, number}
-use Rattle.exi_numerals.specs.Integers.{has_minus, int_of, integer_value}
+use Rattle.exi_names.specs.Forms.{int_of, is_exponent, is_mantissa, is_special, no_number}
+use Rattle.exi_numerals.specs.Integers.{has_minus, integer_value}
 use Rattle.exi_numerals.specs.Decimals.{fraction_digits, is_decimal_text, whole_digits}
 use Rattle.exi_numerals.specs.declared.float.Float.{Float}
 
@@ -30,15 +31,6 @@ written_of (Some n) = Some (int_of n)
 abbrev pub written_exponent : Option (List ℕ) → Option ℤ
 written_exponent None = Some (pos 0)
 written_exponent (Some text) = written_of (integer_value text)
-
--- a mantissa fits 64 bits with a sign
-abbrev pub is_mantissa : ℤ → Bool
-is_mantissa (pos n) = nat_lt n (2 ^ 63)
-is_mantissa (negsuc n) = nat_lt n (2 ^ 63)
-
--- an exponent of a number is from -16383 to 16383
-abbrev pub is_exponent : ℤ → Bool
-is_exponent e = int_le (negsuc 16382) e && int_le e (pos 16383)
 
 -- the number, where it is in the range
 abbrev pub held : (ℤ → Bool) → ℤ → Option ℤ
@@ -69,10 +61,6 @@ joined (Some mantissa) text = with_exponent mantissa.0 (exponent_in text mantiss
 abbrev pub number_value : List ℕ → Option Float
 number_value text = joined (mantissa_in (mantissa_part text)) (exponent_part text)
 
--- the exponent of what is no number
-abbrev pub no_number : ℤ
-no_number = negsuc 16383
-
 -- the exponent -16384 tells infinity by the mantissa 1, minus infinity by -1, and by 0 what is not a number
 abbrev pub float_value : List ℕ → Option Float
 float_value text = if bytes_eq text (codes "INF") then Some (record { mantissa = pos 1; exponent = no_number }) else (if bytes_eq text (codes "-INF") then Some (record { mantissa = negsuc 0; exponent = no_number }) else (if bytes_eq text (codes "NaN") then Some (record { mantissa = pos 0; exponent = no_number }) else number_value text))
@@ -82,11 +70,6 @@ float_value text = if bytes_eq text (codes "INF") then Some (record { mantissa =
 abbrev pub special_text : ℤ → List ℕ
 special_text (pos n) = if n == 1 then codes "INF" else codes "NaN"
 special_text (negsuc n) = if n == 0 then codes "-INF" else codes "NaN"
-
--- whether the exponent tells a number
-abbrev pub is_special : ℤ → Bool
-is_special (pos n) = false
-is_special (negsuc n) = n == 16383
 
 -- mantissa, `E`, exponent; or the word
 abbrev pub float_text : Float → List ℕ

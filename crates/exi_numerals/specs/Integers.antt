@@ -1,6 +1,6 @@
 -- Integers as text (XML Schema Part 2, section 3.3.13): "a finite-length sequence of decimal digits with an
 -- optional leading sign". A text is the list of its code points, without white space around it.
-use Rattle.std.specs.Prelude.{ℕ, ◌^◌, Bool, false, ◌&&◌, ◌||◌, not, ◌==◌, nat_lt, nat_le, List, [], ◌∷◌, ◌++◌, decimal, Option, Some, None, if◌then◌else◌, ℤ, pos, neg_ℤ, ◌+ℤ◌, int_le, int_lt}
+use Rattle.std.specs.Prelude.{ℕ, Bool, false, ◌||◌, ◌==◌, List, [], ◌∷◌, ◌++◌, decimal, Option, Some, None, if◌then◌else◌}
 use Rattle.exi_digits.specs.Digits.{is_numeral, number_of}
 use Rattle.exi_names.specs.Wholes.{Number, number}
 
@@ -27,27 +27,7 @@ integer_of text = number (has_minus text) (number_of (behind_sign text))
 abbrev pub integer_value : List ℕ → Option Number
 integer_value text = if is_integer_text text then Some (integer_of text) else None
 
--- ---- what an integer datatype can spell (W3C EXI, section 7.1.5; the bounds of 128 bits are our own)
--- the number on the number line
-abbrev pub int_of : Number → ℤ
-int_of n = if n.minus then neg_ℤ (pos n.size) else pos n.size
-
--- so many numbers from the least one on
-abbrev pub is_small : ℤ → ℕ → Number → Bool
-is_small least count n = int_le least (int_of n) && int_lt (int_of n) (least +ℤ pos count)
-
--- 0 to 2^128 - 1
-abbrev pub is_unsigned : Number → Bool
-is_unsigned n = not n.minus && nat_lt n.size (2 ^ 128)
-
--- -2^127 to 2^127 - 1
-abbrev pub is_integer : Number → Bool
-is_integer n = if n.minus then nat_le n.size (2 ^ 127) else nat_lt n.size (2 ^ 127)
-
--- less than 2^128 away from zero
-abbrev pub is_wide : Number → Bool
-is_wide n = nat_lt n.size (2 ^ 128)
-
+-- ---- in the range of an integer datatype
 -- the number, where it is in the range
 abbrev pub in_range : (Number → Bool) → Option Number → Option Number
 in_range range None = None

@@ -2,8 +2,8 @@ ghost use Rattle.std.specs.Prelude.{◌≡◌, ◌++◌, pos, ◌-ℤ◌, ◌<�
 ghost use Rattle.std.specs.Fmt.{signed_decimal};
 ghost use Rattle.exi_digits.specs.Pushed.{HoldsFront};
 ghost use Rattle.exi_names.specs.Wholes.{number};
-ghost use Rattle.exi_numerals.specs.Floats.{exponent_in, float_text, float_value, held, is_exponent, is_mantissa, mantissa_in, no_number, number_value, special_text};
-ghost use Rattle.exi_numerals.specs.Integers.{int_of};
+ghost use Rattle.exi_names.specs.Forms.{int_of, is_exponent, is_mantissa, no_number};
+ghost use Rattle.exi_numerals.specs.Floats.{exponent_in, float_text, float_value, held, mantissa_in, number_value, special_text};
 
 use crate::decimal::{has_digits, split_decimal};
 use crate::integer::wide_of;

@@ -1,6 +1,7 @@
 ghost use Rattle.std.specs.Prelude.{◌≡◌, ◌++◌, ◌<◌, ◌^◌, OnOk, OnErr, IfSome, string_bytes};
 ghost use Rattle.exi_digits.specs.Pushed.{HoldsFront};
-ghost use Rattle.exi_numerals.specs.Integers.{behind_sign, has_minus, integer_in, integer_text, is_integer, is_small, is_unsigned, is_wide, sign_text};
+ghost use Rattle.exi_names.specs.Forms.{is_integer, is_small, is_unsigned, is_wide};
+ghost use Rattle.exi_numerals.specs.Integers.{behind_sign, has_minus, integer_in, integer_text, sign_text};
 
 use exi_digits::{number, push_number};
 use exi_names::Whole;

@@ -8,14 +8,7 @@ use Rattle.exi_lexical.specs.Spaces.{words}
 use Rattle.exi_lexical.specs.Values.{each_value, value}
 use Rattle.exi_lexical.proofs.Lists.{behind, each_end, each_next, each_none, listed, none_listed, too_many}
 use Rattle.exi_names.proofs.Same.{length_vals}
-use Rattle.exi_lexical.proofs.Chosen.{found_is}
 use Rattle.exi_lexical.proofs.values.+value.Goals as goal
-
-pub choice-returns-then-is_among : goal.choice-returns-then-is_among
-choice-returns-then-is_among t c =
-    let v : Value = seen c.in-Some.value in
-    let e : value (represented c.args.base.now) (chars c.args.text.now) ≡ Some v = sym c.in_ok-value.ensures ∙ ap (λ (o : Option Val). option_map seen o) c.in-Some.is in
-    rw e (sym (found_is v (vals c.args.values.now) (sym c.is_among.ensures ∙ c.if-is_among.true)))
 
 pub list-returns-then-len-eq-MOST_ITEMS : goal.list-returns-then-len-eq-MOST_ITEMS
 list-returns-then-len-eq-MOST_ITEMS t c =

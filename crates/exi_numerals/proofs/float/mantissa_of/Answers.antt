@@ -5,8 +5,9 @@ use Rattle.std.specs.Int.{w64}
 use Rattle.exi_digits.specs.Digits.{has_any, number_behind}
 use Rattle.exi_names.specs.Wholes.{number}
 use Rattle.exi_numerals.specs.Decimals.{fraction_digits, whole_digits}
-use Rattle.exi_numerals.specs.Integers.{has_minus, int_of}
-use Rattle.exi_numerals.specs.Floats.{held, is_mantissa}
+use Rattle.exi_names.specs.Forms.{int_of, is_mantissa}
+use Rattle.exi_numerals.specs.Integers.{has_minus}
+use Rattle.exi_numerals.specs.Floats.{held}
 use Rattle.exi_numerals.proofs.Parts.{fraction_fails, mantissa_some, sign_fails, whole_fails}
 use Rattle.exi_numerals.proofs.float.mantissa_of.Goals as goal
 

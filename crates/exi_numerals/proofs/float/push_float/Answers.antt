@@ -5,7 +5,8 @@ use Rattle.std.specs.Int.{w16, w64}
 use Rattle.std.specs.Prelude.{string_bytes}
 use Rattle.std.specs.Fmt.{signed_decimal}
 use Rattle.exi_digits.specs.Pushed.{HoldsFront}
-use Rattle.exi_numerals.specs.Floats.{float_text, is_special}
+use Rattle.exi_names.specs.Forms.{is_special}
+use Rattle.exi_numerals.specs.Floats.{float_text}
 use Rattle.exi_numerals.proofs.Fronts.{none_behind, front_behind, on_err}
 use Rattle.exi_numerals.proofs.Parts.{not_special}
 use Rattle.exi_numerals.proofs.float.push_float.Goals as goal
