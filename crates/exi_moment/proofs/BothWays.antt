@@ -4,7 +4,7 @@ use Rattle.std.proofs.lemmas.Bool.{and_parts, cases_lt, le-leb, le-ltb, leb-true
 use Rattle.std.proofs.lemmas.Int.{ints}
 use Rattle.std.specs.Prelude.{ℤ, pos, negsuc, ◌+ℤ◌, ◌-ℤ◌, neg_ℤ, unsigned_abs, option_map, IsTrue}
 use Rattle.exi_names.specs.declared.moment.MomentKind.{MomentKind}
-use Rattle.exi_moment.specs.Parts.{fields, is_in, is_month_day, is_time, is_year}
+use Rattle.exi_names.specs.Moments.{fields, is_in, is_month_day, is_time, is_year}
 use Rattle.exi_moment.specs.Spelling.{hours_minutes, zone_number}
 use Rattle.exi_moment.specs.Reading.{minutes_of, month_day_of, signed, time_of, year_of, zone_of}
 

@@ -14,7 +14,7 @@ use Rattle.exi_bits.proofs.UnsignedLaws.{shortest_spelled}
 use Rattle.exi_names.specs.declared.moment.Moment.{Moment}
 use Rattle.exi_names.specs.declared.moment.MomentKind.{MomentKind}
 use Rattle.exi_names.specs.declared.moment.MomentKind.TheVariants as form
-use Rattle.exi_moment.specs.Parts.{IsMoment, fields, has_month_day, is_month_day, is_time, is_year}
+use Rattle.exi_names.specs.Moments.{IsMoment, fields, has_month_day, is_month_day, is_time, is_year}
 use Rattle.exi_moment.specs.Spelling.{Both, Spells, SpellsFraction, SpellsInteger, SpellsNumber, SpellsUnsigned, SpellsZone, Where, fraction_text, integer_text, month_day_number, spelling, text_where, time_number, year_offset, zone_number, zone_text}
 use Rattle.exi_moment.specs.Reading.{fraction_at, in_range, moment_at, month_day_at, month_day_of, offset_at, signed, time_at, time_of, where_it_counts, year_at, year_of, zone_at, zone_of}
 use Rattle.exi_moment.specs.Laws.{ReadMoment}

@@ -4,7 +4,7 @@ use Rattle.exi_bits.specs.declared.align.Align.{Align}
 use Rattle.exi_bits.specs.Bits.{Spot, Front, IsAligned, IsBytes, bits, moved, rest}
 use Rattle.exi_names.specs.declared.moment.Moment.{Moment}
 use Rattle.exi_names.specs.declared.moment.MomentKind.{MomentKind}
-use Rattle.exi_moment.specs.Parts.{IsMoment, is_year}
+use Rattle.exi_names.specs.Moments.{IsMoment, is_year}
 use Rattle.exi_moment.specs.Spelling.{Spells, spelling}
 use Rattle.exi_moment.specs.Reading.{moment_at}
 

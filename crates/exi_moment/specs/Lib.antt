@@ -1,4 +1,3 @@
-pub mod Parts
 pub mod Spelling
 pub mod Reading
 pub mod Laws

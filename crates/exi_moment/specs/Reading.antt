@@ -8,7 +8,7 @@ use Rattle.exi_bits.specs.Repeat.{Reader}
 use Rattle.exi_bits.specs.Unsigned.{◌>>=◌, fault_at, field_at, below_at, unsigned_at}
 use Rattle.exi_names.specs.declared.moment.Moment.{Moment}
 use Rattle.exi_names.specs.declared.moment.MomentKind.{MomentKind}
-use Rattle.exi_moment.specs.Parts.{fields, has_month_day, is_month_day, is_time, is_year}
+use Rattle.exi_names.specs.Moments.{fields, has_month_day, is_month_day, is_time, is_year}
 
 -- ---- fields from numbers: nothing where one is out of its range
 -- the integer with this sign and this magnitude, of which a negative number has one less

@@ -4,7 +4,7 @@ use Rattle.exi_bits.specs.declared.align.Align.{Align}
 use Rattle.exi_bits.specs.Bits.{bits, number}
 use Rattle.exi_bits.specs.Unsigned.{IsUnsigned, shortest}
 use Rattle.exi_names.specs.declared.moment.Moment.{Moment}
-use Rattle.exi_moment.specs.Parts.{fields, has_month_day}
+use Rattle.exi_names.specs.Moments.{fields, has_month_day}
 
 -- ---- the numbers
 -- hours and minutes side by side

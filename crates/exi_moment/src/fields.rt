@@ -1,5 +1,5 @@
 ghost use Rattle.std.specs.Prelude.{◌≡◌, ◌↔◌, IsTrue};
-ghost use Rattle.exi_moment.specs.Parts.{fields, has_month_day, is_in, is_month_day, is_time, IsMoment};
+ghost use Rattle.exi_names.specs.Moments.{fields, has_month_day, is_in, is_month_day, is_time, IsMoment};
 
 use exi_names::{Moment, MomentKind};
 

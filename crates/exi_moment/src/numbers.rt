@@ -1,7 +1,7 @@
 //! Fields from the numbers of a stream, and back. `None` is a field out of its range.
 
 ghost use Rattle.std.specs.Prelude.{◌≡◌, ◌+◌, ◌*◌, ◌<◌, ◌≤◌, ◌^◌, ◌-ℤ◌, pos, unsigned_abs, IfSome, IsTrue};
-ghost use Rattle.exi_moment.specs.Parts.{is_month_day, is_time};
+ghost use Rattle.exi_names.specs.Moments.{is_month_day, is_time};
 ghost use Rattle.exi_moment.specs.Reading.{signed, year_of, month_day_of, time_of, minutes_of, zone_of};
 ghost use Rattle.exi_moment.specs.Spelling.{zone_number};
 

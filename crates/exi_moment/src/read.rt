@@ -1,7 +1,7 @@
 ghost use Rattle.std.specs.Prelude.{◌≡◌, pos, None};
 ghost use Rattle.exi_bits.specs.Bits.{IsAligned};
 ghost use Rattle.exi_bits.specs.Unsigned.{Reads, ReadsSome};
-ghost use Rattle.exi_moment.specs.Parts.{fields, has_month_day};
+ghost use Rattle.exi_names.specs.Moments.{fields, has_month_day};
 ghost use Rattle.exi_moment.specs.Reading.{where_it_counts, year_at, month_day_at, time_at, fraction_at, offset_at, zone_at, moment_at};
 
 use crate::fields::{counts_month_day, counts_time, counts_year};

@@ -1,6 +1,6 @@
 ghost use Rattle.std.specs.Prelude.{◌≡◌, ◌++◌, ◌≤◌, IfSome, IsTrue, OnOk, OnErr, false, unsigned_abs, pos, None};
 ghost use Rattle.exi_bits.specs.Written.{IsWholeBytes};
-ghost use Rattle.exi_moment.specs.Parts.{IsMoment};
+ghost use Rattle.exi_names.specs.Moments.{IsMoment};
 ghost use Rattle.exi_moment.specs.Spelling.{AddsFront, fraction_text, month_day_text, spelling, time_text, year_text, zone_text};
 
 use crate::fields::{counts_month_day, counts_time, counts_year};
