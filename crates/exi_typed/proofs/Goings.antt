@@ -34,14 +34,14 @@ pub record Further (s t : Spot) : Type 0 where
 abbrev pub GoesFurther : {X : Type 0} → Reader X → Type 0
 GoesFurther {X} read = (q : X × Spot) (s : Spot) → read s ≡ fine q → Further s q.1
 
-further_then : (s t u : Spot) → Further s t → Further t u → Further s u
+pub further_then : (s t u : Spot) → Further s t → Further t u → Further s u
 further_then s t u f g = record { bytes = g.bytes ∙ f.bytes; place = omega (arith, f.place, g.place) }
 
 field_some : (o : Option (ℕ × Spot)) (s : Spot) (q : ℕ × Spot) → at_spot s (needed o) ≡ fine q → o ≡ Some q
 field_some None s q e = absurd cc
 field_some (Some p) s q e = ap (λ (x : ℕ × Spot). Some x) (fine_is p q e)
 
-field_goes : (n : ℕ) (a : Align) → GoesFurther (field_at n a)
+pub field_goes : (n : ℕ) (a : Align) → GoesFurther (field_at n a)
 unfolding field_at number_at
 field_goes n a q s r =
     let g = guard_some (ltb (left s) (taken n a)) (number_there n a s, moved s (taken n a)) q (field_some (number_at n a s) s q r) in
@@ -88,7 +88,7 @@ times_goes {X} read one (suc n) q s r =
     subst (λ (z : List X × Spot). Further s z.1) (fine_is (u.0.0 ∷ v.0.0, v.0.1) q v.2) (further_then s u.0.1 v.0.1 (one u.0 s u.1) (times_goes read one n v.0 u.0.1 v.1))
 
 -- ---- courses
-same_keeps : (p : Partitions) → KeepsAll p p
+pub same_keeps : (p : Partitions) → KeepsAll p p
 same_keeps p = record {
   each_uri = keeps_same (uris p);
   each_local = λ uri. keeps_same (locals p uri);

@@ -6,3 +6,5 @@ pub mod Worked
 pub mod Goings
 pub mod Standing
 pub mod Limits
+pub mod ItemLaws
+pub mod Meters

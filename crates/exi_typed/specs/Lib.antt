@@ -1,6 +1,8 @@
 pub mod Courses
+pub mod Items
 pub mod Laws
 pub mod Limits
+pub mod Metered
 pub mod NameValues
 pub mod Onward
 pub mod Spelled

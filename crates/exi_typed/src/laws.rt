@@ -14,6 +14,7 @@ ghost use Rattle.exi_typed.specs.NameValues.{NameValuesAgree, name_value_at};
 ghost use Rattle.exi_typed.specs.Limits.{StaysWithin};
 ghost use Rattle.exi_typed.specs.Onward.{GoesOnward, KeepsEach, NamesGoOnStanding, NamesStand};
 ghost use Rattle.exi_typed.specs.Strings.{Growth, declaration_at, known_at, literal_at, local_at, name_at, uri_at, value_at};
+ghost use Rattle.exi_typed.specs.Metered.{ReadingsAreMetered};
 ghost use Rattle.exi_typed.specs.Laws.{DeclarationsAgree, KnownNamesAgree, LiteralsAgree, LocalsAgree, NamesAgree, UrisAgree, ValuesAgree};
 
 /// A literal is its length in characters and its characters.
@@ -89,4 +90,9 @@ pub fn limits_are_kept()
 pub fn names_stand()
     ensures stand { NamesStand }
     ensures kept { NamesGoOnStanding }
+{}
+
+/// Each reading charges a list of texts, whatever the meter is, and goes on without the meter.
+pub fn readings_are_metered()
+    ensures law { ReadingsAreMetered }
 {}

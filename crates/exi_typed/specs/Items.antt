@@ -1,0 +1,42 @@
+-- Items by their representation, as the value of an attribute or of characters (EXI 1.0, section 7.1): one reading,
+-- and one spelling. Those that go through the string tables have theirs so far.
+use Rattle.std.specs.Prelude.{◌≡◌, ℕ, Bool, List, None, Ok}
+use Rattle.exi_bits.specs.declared.align.Align.{Align}
+use Rattle.exi_bits.specs.Unsigned.{◌>>=◌}
+use Rattle.exi_names.specs.declared.names.NameId.{NameId}
+use Rattle.exi_names.specs.Seen.{Value}
+use Rattle.exi_names.specs.Seen as value
+use Rattle.exi_typed.specs.Courses.{Beside, Courser}
+use Rattle.exi_typed.specs.NameValues.{SpellsNameValue, name_value_at}
+use Rattle.exi_typed.specs.Spelled.{SpellsValue}
+use Rattle.exi_typed.specs.Strings.{Named, value_at}
+
+-- the representations whose items go through the string tables
+pub data Tabled : Type 0 where
+  -- any text
+  string : Tabled
+  -- a name, and whether its prefix is kept
+  qualified : Bool → Tabled
+
+-- an item under a name
+unfoldable pub item_at : Tabled → Align → NameId → Courser Value
+item_at string a name c = do
+  text ← value_at None a name c
+  Ok (value.text text.0, text.1)
+item_at (qualified keep) a name c = do
+  found ← name_value_at keep a c
+  Ok (value.name found.0.name, found.1)
+
+pub record SpellsString (a : Align) (name : NameId) (v : Value) (w u : Beside) (bits : List Bool) : Type 0 where
+  pub string : List ℕ
+  pub is : v ≡ value.text string
+  pub spelled : SpellsValue None a name string w u bits
+
+pub record SpellsQualified (keep : Bool) (a : Align) (v : Value) (w u : Beside) (bits : List Bool) : Type 0 where
+  pub name : Named
+  pub is : v ≡ value.name name.name
+  pub spelled : SpellsNameValue keep a name w u bits
+
+abbrev pub SpellsItem : Tabled → Align → NameId → Value → Beside → Beside → List Bool → Type 0
+SpellsItem string a name v w u bits = SpellsString a name v w u bits
+SpellsItem (qualified keep) a name v w u bits = SpellsQualified keep a v w u bits
