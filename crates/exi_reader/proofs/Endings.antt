@@ -1,192 +1,243 @@
--- Reading that does not fail ends with ED.
-use Rattle.std.proofs.Common.{◌≡◌, ◌⊎◌, inl, inr, ℕ, Bool, true, false, cond, List, [], ◌∷◌, ◌++◌, Option, Some, None, Result, Ok, Err, refl, sym, ap, ◌∙◌, subst}
-use Rattle.exi_bits.specs.Bits.{Spot}
-use Rattle.exi_bits.specs.Unsigned.{◌>>=◌}
-use Rattle.exi_gram.specs.Codes.{code_at}
-use Rattle.exi_gram.specs.Switches.{align_of, prefixes}
+-- The last event of a body is ED.
+use Rattle.std.proofs.Common.{◌≡◌, ◌⊎◌, inl, inr, ℕ, zero, suc, Bool, true, false, cond, List, [], ◌∷◌, ◌++◌, Option, Some, None, Result, Ok, Err, refl, sym, ap, ◌∙◌, subst}
+use Rattle.exi_bits.specs.declared.fault.Fault.{Fault}
+use Rattle.exi_bits.specs.declared.fault.Kind.{Kind}
+use Rattle.exi_bits.specs.declared.fault.Kind.TheVariants as kind
+use Rattle.exi_gram.specs.Switches.{fragment}
 use Rattle.exi_meter.specs.Metering.{Bounds}
-use Rattle.exi_names.specs.declared.names.NameId.{NameId}
+use Rattle.exi_meter.specs.declared.tally.Tally.{Tally}
 use Rattle.exi_names.specs.Events.{Happening}
 use Rattle.exi_names.specs.Events as happening
-use Rattle.exi_names.specs.Seen.{Value}
-use Rattle.exi_typed.specs.Courses.{Course, Courser, Failure, at_spot_of, failing}
-use Rattle.exi_typed.specs.Strings.{Declaration, Named, declaration_at, known_at, name_at}
-use Rattle.exi_reader.specs.Configurations.{Config, Element, Outer, Setting, Start, Terminal, any_attribute, any_element, body, characters, comment, declaration, document, document_content, document_end, document_type, end_document, end_element, ended, entity, first_config, first_outer, fragment_content, fragment_start, instruction, known_attribute, known_element, next_outer, productions_of, self_contained, start_document, start_of}
-use Rattle.exi_gram.specs.Switches.{fragment}
-use Rattle.exi_reader.specs.Laws.{EndsAtEd}
-use Rattle.exi_reader.specs.OneEvent.{Given, any_attribute_at, any_attribute_made, any_element_at, any_element_made, at_event, attribute_value_at, characters_at, characters_made, comment_at, comment_made, declaration_event_at, declaration_made, document_type_at, document_type_made, element_end_made, end_made, entity_at, entity_made, event_charge, event_of, instruction_at, instruction_made, known_attribute_at, known_attribute_made, known_element_at, known_element_made, level_charge, moved_outer, name_of, one, remembered, start_made, string_at, text_at, went}
-use Rattle.exi_reader.specs.Runs.{End, Ending, IsRun, Leads, Turn, closed_end, done, ends, failed_end, fault, given_turn, goes, has_ended, is_end, turn, turned_by}
-use Rattle.exi_reader.proofs.Onward.{bind_is, good, good_is}
-use Rattle.exi_reader.proofs.Steps.{at_event_is}
+use Rattle.exi_names.specs.declared.names.QName.{QName}
+use Rattle.exi_typed.specs.Courses.{Course, Failure}
+use Rattle.exi_typed.proofs.CourseItems.{told}
+use Rattle.exi_reader.specs.Changes.{is_alone, outer_behind, resumed}
+use Rattle.exi_reader.specs.Configurations.{Body, Config, Setting, body_outer, reached}
+use Rattle.exi_reader.specs.Laws.{EndIs, EndsAtEd, EndsBehind, EndsIn}
+use Rattle.exi_reader.specs.OneEvent.{behind, one, remembered}
+use Rattle.exi_reader.specs.Plans.{Alone, Given, Plan, alone_in, at_end, at_first, at_start, nowhere, plan_of, plan_on}
+use Rattle.exi_reader.specs.Rules.{Rule, Telling, Terminal, attribute, characters, comment, declaration, document_type, element, end_document, end_element, entity, informed, instruction, known, self_contained, spelled, start_document}
+use Rattle.exi_reader.specs.Runs.{IsRun, Job, Leads, Turn, closing, done, ends, failed_end, first, goes, has_ended, is_end, turn, turned_by}
+use Rattle.exi_reader.specs.declared.end.End.{End}
+use Rattle.exi_reader.specs.declared.end.End.TheVariants as end
+use Rattle.exi_reader.specs.declared.frames.Element.{Element}
+use Rattle.exi_reader.specs.declared.frames.Outer.{Outer}
+use Rattle.exi_reader.specs.declared.frames.Outer.TheVariants as outer
+use Rattle.exi_reader.specs.declared.start.Start.{Start}
+use Rattle.exi_reader.specs.declared.start.Start.TheVariants as start
+use Rattle.exi_reader.proofs.EventOne.{stepped}
+use Rattle.exi_reader.proofs.PlanFacts.{made_stays}
 
--- ---- only ED ends
-is_last : Terminal → Bool
-is_last end_document = true
-is_last start_document = false
-is_last any_element = false
-is_last (known_element id) = false
-is_last any_attribute = false
-is_last (known_attribute id) = false
-is_last characters = false
-is_last end_element = false
-is_last declaration = false
-is_last self_contained = false
-is_last comment = false
-is_last instruction = false
-is_last document_type = false
-is_last entity = false
+-- ---- the outermost body is no fragment that stands for one element, and none of those put aside has ended
+Grounded : Outer → List Body → Type 0
+Grounded o [] = is_alone o ≡ false
+Grounded o (b ∷ bs) = (is_end b.outer ≡ false) × Grounded b.outer bs
 
-next_goes_on : (t : Terminal) (outer : Outer) → is_end outer ≡ false → is_last t ≡ false → is_end (next_outer t outer) ≡ false
-unfolding is_last
-next_goes_on start_document document h l = refl
-next_goes_on start_document document_content h l = refl
-next_goes_on start_document document_end h l = refl
-next_goes_on start_document fragment_start h l = refl
-next_goes_on start_document fragment_content h l = refl
-next_goes_on start_document ended h l = absurd cc
-next_goes_on any_element document h l = refl
-next_goes_on any_element document_content h l = refl
-next_goes_on any_element document_end h l = refl
-next_goes_on any_element fragment_start h l = refl
-next_goes_on any_element fragment_content h l = refl
-next_goes_on any_element ended h l = absurd cc
-next_goes_on end_document outer h l = absurd cc
-next_goes_on (known_element id) outer h l = h
-next_goes_on any_attribute outer h l = h
-next_goes_on (known_attribute id) outer h l = h
-next_goes_on characters outer h l = h
-next_goes_on end_element outer h l = h
-next_goes_on declaration outer h l = h
-next_goes_on self_contained outer h l = h
-next_goes_on comment outer h l = h
-next_goes_on instruction outer h l = h
-next_goes_on document_type outer h l = h
-next_goes_on entity outer h l = h
+grounded_by : (o p : Outer) (bs : List Body) → is_alone p ≡ is_alone o → Grounded o bs → Grounded p bs
+unfolding Grounded
+grounded_by o p [] e h = e ∙ h
+grounded_by o p (b ∷ bs) e h = h
 
-moved_goes_on : (t : Terminal) (es : List Element) (outer : Outer) → is_end outer ≡ false → is_last t ≡ false → is_end (moved_outer t es outer) ≡ false
-moved_goes_on t [] outer h l = next_goes_on t outer h l
-moved_goes_on t (e ∷ es) outer h l = h
+moved_end : (to : ℕ) (es : List Element) (o : Outer) → is_end (outer_behind to es o) ≡ is_end o
+moved_end to (e ∷ es) o = refl
+moved_end to [] (outer.Book grammar number) = refl
+moved_end zero [] outer.FragmentStart = refl
+moved_end (suc to) [] outer.FragmentStart = refl
+moved_end zero [] outer.FragmentContent = refl
+moved_end (suc to) [] outer.FragmentContent = refl
+moved_end to [] outer.AloneStart = refl
+moved_end to [] outer.AloneFirst = refl
+moved_end to [] outer.AloneOver = refl
+moved_end to [] outer.Ended = refl
 
--- ---- what becomes of the outer state
-abbrev Moved : Terminal → Config → Given → Type 0
-Moved t c given = given.1.outer ≡ moved_outer t c.elements c.outer
+moved_alone : (to : ℕ) (es : List Element) (o : Outer) → is_alone (outer_behind to es o) ≡ is_alone o
+moved_alone to (e ∷ es) o = refl
+moved_alone to [] (outer.Book grammar number) = refl
+moved_alone zero [] outer.FragmentStart = refl
+moved_alone (suc to) [] outer.FragmentStart = refl
+moved_alone zero [] outer.FragmentContent = refl
+moved_alone (suc to) [] outer.FragmentContent = refl
+moved_alone to [] outer.AloneStart = refl
+moved_alone to [] outer.AloneFirst = refl
+moved_alone to [] outer.AloneOver = refl
+moved_alone to [] outer.Ended = refl
 
-made_moved : {X : Type 0} (t : Terminal) (c : Config) (r : Result (X × Course) Failure) (make : X → Course → Given) → ((x : X) (k : Course) → Moved t c (make x k)) → (given : Given) → (r >>= λ x. good (make x.0 x.1)) ≡ good given → Moved t c given
-made_moved {X} t c r make moved given h =
-    let b = bind_is r (λ (x : X × Course). good (make x.0 x.1)) given h in
-    subst (λ (z : Given). Moved t c z) (good_is (make b.0.0 b.0.1) given b.2) (moved b.0.0 b.0.1)
+-- ---- what a plan gives
+-- nothing has ended
+record Going (k : Config) : Type 0 where
+  pub going : is_end k.outer ≡ false
+  pub grounded : Grounded k.outer k.aside
+  pub body : k.start ≡ start.Body
 
--- one reading more in front
-more_moved : {X : Type 0} (t : Terminal) (c : Config) (given : Given) (r : Result X Failure) (more : X → Result Given Failure) → ((x : X) → more x ≡ good given → Moved t c given) → (r >>= more) ≡ good given → Moved t c given
-more_moved t c given r more moved h = let b = bind_is r more given h in moved b.0 b.2
+-- it goes on, or ED is given
+record Leaves (given : Given) : Type 0 where
+  pub last : is_end given.1.outer ≡ true → given.0 ≡ Some happening.ed
+  pub grounded : Grounded given.1.outer given.1.aside
 
-plain_moved : (t : Terminal) (c : Config) (made given : Given) → Moved t c made → good {E = Failure} made ≡ good given → Moved t c given
-plain_moved t c made given m h = subst (λ (z : Given). Moved t c z) (good_is made given h) m
+true_false : (b : Bool) → b ≡ true → b ≡ false → ⊥
+true_false true e f = absurd cc
+true_false false e f = absurd cc
 
-event_moved : (g : Setting) (bit : ℕ) (t : Terminal) (c : Config) (given : Given) → is_last t ≡ false → event_of g bit t c ≡ good given → (given.1.outer ≡ moved_outer t c.elements c.outer) ⊎ (t ≡ end_element)
-unfolding is_last any_element_at known_element_at any_attribute_at known_attribute_at characters_at declaration_event_at comment_at instruction_at document_type_at entity_at
-event_moved g bit start_document c given l h = inl (plain_moved start_document c (start_made c) given refl h)
-event_moved g bit end_document c given l h = absurd cc
-event_moved g bit any_element c given l h = inl (more_moved any_element c given (level_charge bit c.course) (λ (k : Course). name_at (prefixes g.options) (align_of g.options) k >>= λ x. good (any_element_made c x.0 x.1)) (λ k m. made_moved any_element c (name_at (prefixes g.options) (align_of g.options) k) (any_element_made c) (λ x j. refl) given m) h)
-event_moved g bit (known_element id) c given l h = inl (more_moved (known_element id) c given (level_charge bit c.course) (λ (k : Course). known_at (prefixes g.options) (align_of g.options) id k >>= λ x. good (known_element_made id c x.0 x.1)) (λ k m. made_moved (known_element id) c (known_at (prefixes g.options) (align_of g.options) id k) (known_element_made id c) (λ x j. refl) given m) h)
-event_moved g bit any_attribute c given l h = inl (more_moved any_attribute c given (name_at (prefixes g.options) (align_of g.options) c.course) (λ (n : Named × Course). attribute_value_at g n.0.id n.1 >>= λ x. good (any_attribute_made c n.0 x.0 x.1)) (λ n m. made_moved any_attribute c (attribute_value_at g n.0.id n.1) (any_attribute_made c n.0) (λ x j. refl) given m) h)
-event_moved g bit (known_attribute id) c given l h = inl (more_moved (known_attribute id) c given (known_at (prefixes g.options) (align_of g.options) id c.course) (λ (n : Named × Course). attribute_value_at g id n.1 >>= λ x. good (known_attribute_made id c n.0 x.0 x.1)) (λ n m. made_moved (known_attribute id) c (attribute_value_at g id n.1) (known_attribute_made id c n.0) (λ x j. refl) given m) h)
-event_moved g bit characters c given l h = inl (made_moved characters c (string_at g (name_of c.elements) c.course) (characters_made c) (λ x j. refl) given h)
-event_moved g bit end_element c given l h = inr refl
-event_moved g bit declaration c given l h = inl (made_moved declaration c (declaration_at (align_of g.options) c.course) (declaration_made c) (λ x j. refl) given h)
-event_moved g bit self_contained c given l h = absurd cc
-event_moved g bit comment c given l h = inl (made_moved comment c (text_at g c.course) (comment_made c) (λ x j. refl) given h)
-event_moved g bit instruction c given l h = inl (more_moved instruction c given (text_at g c.course) (λ (n : List ℕ × Course). text_at g n.1 >>= λ x. good (instruction_made c n.0 x.0 x.1)) (λ n m. made_moved instruction c (text_at g n.1) (instruction_made c n.0) (λ x j. refl) given m) h)
-event_moved g bit document_type c given l h =
-    inl (more_moved document_type c given (text_at g c.course) (λ (n : List ℕ × Course). text_at g n.1 >>= λ p. text_at g p.1 >>= λ s. text_at g s.1 >>= λ x. good (document_type_made c n.0 p.0 s.0 x.0 x.1))
-    (λ n m. more_moved document_type c given (text_at g n.1) (λ (p : List ℕ × Course). text_at g p.1 >>= λ s. text_at g s.1 >>= λ x. good (document_type_made c n.0 p.0 s.0 x.0 x.1))
-    (λ p k. more_moved document_type c given (text_at g p.1) (λ (s : List ℕ × Course). text_at g s.1 >>= λ x. good (document_type_made c n.0 p.0 s.0 x.0 x.1))
-    (λ s i. made_moved document_type c (text_at g s.1) (document_type_made c n.0 p.0 s.0) (λ x j. refl) given i) k) m) h)
-event_moved g bit entity c given l h = inl (made_moved entity c (text_at g c.course) (entity_made c) (λ x j. refl) given h)
+on_leaves : (to : ℕ) (k : Config) (given : Given) → Going k → given.1.outer ≡ outer_behind to k.elements k.outer → given.1.aside ≡ k.aside → Leaves given
+on_leaves to k given h e f =
+    let out : is_end given.1.outer ≡ is_end k.outer = ap (λ (z : Outer). is_end z) e ∙ moved_end to k.elements k.outer in
+    let alone : is_alone given.1.outer ≡ is_alone k.outer = ap (λ (z : Outer). is_alone z) e ∙ moved_alone to k.elements k.outer in
+    record {
+      last = λ t. absurd (true_false (is_end given.1.outer) t (out ∙ h.going));
+      grounded = subst (λ (z : List Body). Grounded given.1.outer z) (sym f) (grounded_by k.outer given.1.outer k.aside alone h.grounded);
+    }
 
--- ---- the event that ends is ED
-true_false : true ≡ false → ⊥
-true_false e = absurd cc
+same_leaves : (k : Config) (given : Given) → Going k → given.1.outer ≡ k.outer → given.1.aside ≡ k.aside → Leaves given
+same_leaves k given h e f = record {
+  last = λ t. absurd (true_false (is_end given.1.outer) t (ap (λ (z : Outer). is_end z) e ∙ h.going));
+  grounded = subst (λ (z : List Body). Grounded given.1.outer z) (sym f) (subst (λ (z : Outer). Grounded z k.aside) (sym e) h.grounded);
+}
 
-closed_outer : (g : Setting) (bit : ℕ) (c : Config) (given : Given) → event_of g bit end_element c ≡ good given → given.1.outer ≡ c.outer
-closed_outer g bit c given h = sym (ap (λ (z : Given). z.1.outer) (good_is (element_end_made c) given h))
+ended_grounded : (o : Outer) (bs : List Body) → Grounded o bs → Grounded outer.Ended bs
+unfolding Grounded
+ended_grounded o [] h = refl
+ended_grounded o (b ∷ bs) h = h
 
-ends_by : (g : Setting) (bit : ℕ) (t : Terminal) (last : Bool) → is_last t ≡ last → (c : Config) (given : Given) → is_end c.outer ≡ false → event_of g bit t c ≡ good given → is_end given.1.outer ≡ true → given.0 ≡ Some happening.ed
-unfolding is_last
-ends_by g bit end_document true l c given n h e = sym (ap (λ (z : Given). z.0) (good_is (end_made c) given h))
-ends_by g bit start_document true l c given n h e = absurd cc
-ends_by g bit any_element true l c given n h e = absurd cc
-ends_by g bit (known_element id) true l c given n h e = absurd cc
-ends_by g bit any_attribute true l c given n h e = absurd cc
-ends_by g bit (known_attribute id) true l c given n h e = absurd cc
-ends_by g bit characters true l c given n h e = absurd cc
-ends_by g bit end_element true l c given n h e = absurd cc
-ends_by g bit declaration true l c given n h e = absurd cc
-ends_by g bit self_contained true l c given n h e = absurd cc
-ends_by g bit comment true l c given n h e = absurd cc
-ends_by g bit instruction true l c given n h e = absurd cc
-ends_by g bit document_type true l c given n h e = absurd cc
-ends_by g bit entity true l c given n h e = absurd cc
-ends_by g bit t false l c given n h e = elim (event_moved g bit t c given l h) [
-  | inl m ↦ absurd (true_false (sym e ∙ ap (λ (o : Outer). is_end o) m ∙ moved_goes_on t c.elements c.outer n l))
-  | inr is ↦ absurd (true_false (sym e ∙ ap (λ (o : Outer). is_end o) (closed_outer g bit c given (subst (λ (u : Terminal). event_of g bit u c ≡ good given) is h)) ∙ n))
-]
+-- in such a fragment the outer body goes on
+alone_is : (es : List Element) (o : Outer) (a : Alone) → alone_in es o ≡ a → (a ≡ nowhere) ⊎ (is_alone o ≡ true)
+alone_is (e ∷ es) o a h = inl (sym h)
+alone_is [] (outer.Book grammar number) a h = inl (sym h)
+alone_is [] outer.FragmentStart a h = inl (sym h)
+alone_is [] outer.FragmentContent a h = inl (sym h)
+alone_is [] outer.AloneStart a h = inr refl
+alone_is [] outer.AloneFirst a h = inr refl
+alone_is [] outer.AloneOver a h = inr refl
+alone_is [] outer.Ended a h = inl (sym h)
 
-one_ends : (g : Setting) (c : Config) (given : Given) → is_end c.outer ≡ false → one g c ≡ good given → is_end given.1.outer ≡ true → given.0 ≡ Some happening.ed
-unfolding one
-one_ends g c given n h e =
-    let bit : ℕ = c.course.spot.place in
-    let b = bind_is (failing c.course.beside.meter (code_at (align_of g.options) (productions_of g c) c.course.spot)) (λ (chosen : Terminal × Spot). event_charge bit (at_spot_of c.course chosen.1) >>= λ k. at_event bit (event_of g bit chosen.0 (went c k)) >>= λ x. good (remembered x)) given h in
-    let f = bind_is (event_charge bit (at_spot_of c.course b.0.1)) (λ (k : Course). at_event bit (event_of g bit b.0.0 (went c k)) >>= λ x. good (remembered x)) given b.2 in
-    let r = bind_is (at_event bit (event_of g bit b.0.0 (went c f.0))) (λ (x : Given). good (remembered x)) given f.2 in
-    let is : remembered r.0 ≡ given = good_is (remembered r.0) given r.2 in
-    let read = at_event_is bit (event_of g bit b.0.0 (went c f.0)) r.0 r.1 in
-    let over : is_end r.0.1.outer ≡ true = ap (λ (z : Given). is_end z.1.outer) is ∙ e in
-    sym (ap (λ (z : Given). z.0) is) ∙ ends_by g bit b.0.0 (is_last b.0.0) refl (went c f.0) r.0 n read over
+resumed_leaves : (bs : List Body) (k : Config) (e : Option Happening) → k.aside ≡ bs → is_alone k.outer ≡ true → Grounded k.outer k.aside → Leaves (e, resumed bs k)
+unfolding Grounded
+resumed_leaves [] k e same alone h = absurd (true_false (is_alone k.outer) alone (subst (λ (z : List Body). Grounded k.outer z) same h))
+resumed_leaves (b ∷ bs) k e same alone h =
+    let g : Grounded k.outer (b ∷ bs) = subst (λ (z : List Body). Grounded k.outer z) same h in
+    record { last = λ t. absurd (true_false (is_end b.outer) t g.0); grounded = g.1 }
 
--- ---- a run that does not fail
-fault_not_done : (f : Failure) (c : Config) (bit : ℕ) → (failed_end c f).how ≡ done bit → ⊥
-fault_not_done f c bit h = absurd cc
+put_grounded : (k : Config) (bs : List Body) → is_end k.outer ≡ false → Grounded k.outer bs → (is_end k.outer ≡ false) × Grounded k.outer bs
+put_grounded k bs e h = (e, h)
 
-same_ends : (x y : Option Happening) (d e : End) → ends x d ≡ ends y e → (x ≡ y) × (d ≡ e)
-same_ends x y d e h = (cc, cc)
+none_some : {X : Type 0} (x : X) → Some x ≡ None → ⊥
+none_some x e = absurd cc
 
-by_end : (over : Bool) (given : Given) (x : Option Happening) (e : End) → has_ended given.1 ≡ over → cond over (ends given.0 (closed_end given.1)) (goes given.0 given.1) ≡ ends x e → (has_ended given.1 ≡ true) × (given.0 ≡ x)
-by_end true given x e o h = (o, (same_ends given.0 x (closed_end given.1) e h).0)
-by_end false given x e o h = absurd cc
+at_start_nowhere : at_start ≡ nowhere → ⊥
+at_start_nowhere e = absurd cc
 
-by_result : (g : Setting) (c : Config) (r : Result Given Failure) (x : Option Happening) (e : End) (bit : ℕ) → one g c ≡ r → is_end c.outer ≡ false → turned_by c r ≡ ends x e → e.how ≡ done bit → x ≡ Some happening.ed
-by_result g c (Ok given) x e bit o n h d =
-    let k = by_end (has_ended given.1) given x e refl h in
-    sym k.1 ∙ one_ends g c given n o k.0
-by_result g c (Err f) x e bit o n h d =
-    let s = same_ends None x (failed_end c f) e h in
-    absurd (fault_not_done f c bit (ap (λ (z : End). z.how) s.1 ∙ d))
+at_first_nowhere : at_first ≡ nowhere → ⊥
+at_first_nowhere e = absurd cc
 
--- turns that go on reach no end
-goes_open : (over : Bool) (given : Given) (x : Option Happening) (next : Config) → has_ended given.1 ≡ over → cond over (ends given.0 (closed_end given.1)) (goes given.0 given.1) ≡ goes x next → is_end next.outer ≡ false
-goes_open true given x next o h = absurd cc
-goes_open false given x next o h =
-    let same : given.1 ≡ next = cc in
-    ap (λ (z : Config). is_end z.outer) (sym same) ∙ o
+at_end_nowhere : at_end ≡ nowhere → ⊥
+at_end_nowhere e = absurd cc
 
-turn_open : (c : Config) (r : Result Given Failure) (x : Option Happening) (next : Config) → turned_by c r ≡ goes x next → is_end next.outer ≡ false
-turn_open c (Ok given) x next h = goes_open (has_ended given.1) given x next refl h
-turn_open c (Err f) x next h = absurd cc
+is_there : (k : Config) (a : Alone) → alone_in k.elements k.outer ≡ a → (a ≡ nowhere → ⊥) → is_alone k.outer ≡ true
+is_there k a h other = by_case (alone_is k.elements k.outer a h)
+  where
+    by_case : (a ≡ nowhere) ⊎ (is_alone k.outer ≡ true) → is_alone k.outer ≡ true
+    by_case (inl e) = absurd (other e)
+    by_case (inr e) = e
 
-leads_open : (g : Setting) (c reached : Config) (turns : List (Option Happening)) → is_end c.outer ≡ false → Leads g c turns reached → is_end reached.outer ≡ false
-leads_open g c reached [] n l = ap (λ (z : Config). is_end z.outer) (sym l) ∙ n
-leads_open g c reached (x ∷ turns) n l = leads_open g l.0 reached turns (turn_open c (one g c) x l.0 l.1) l.2
+module _ (g : Setting) (c : Config) (r : Rule) where
+  abbrev p : Alone → Terminal → Plan
+  p a t = plan_on g a c r t
 
-start_open : (b : Bool) → is_end (start_of b) ≡ false
-start_open true = refl
-start_open false = refl
+  plan_leaves : (a : Alone) (t : Terminal) (x : (p a t).Item) (k : Config) → Going k → alone_in k.elements k.outer ≡ a → (p a t).barred ≡ None → Leaves ((p a t).make x k)
+  unfolding Grounded
+  plan_leaves a start_document x k h al b = on_leaves r.to k ((p a start_document).make x k) h refl refl
+  plan_leaves nowhere end_document x k h al b = record { last = λ t. refl; grounded = ended_grounded k.outer k.aside h.grounded }
+  plan_leaves at_start end_document x k h al b = resumed_leaves k.aside k ((p at_start end_document).make x k).0 refl (is_there k at_start al at_start_nowhere) h.grounded
+  plan_leaves at_first end_document x k h al b = resumed_leaves k.aside k ((p at_first end_document).make x k).0 refl (is_there k at_first al at_first_nowhere) h.grounded
+  plan_leaves at_end end_document x k h al b = resumed_leaves k.aside k ((p at_end end_document).make x k).0 refl (is_there k at_end al at_end_nowhere) h.grounded
+  plan_leaves nowhere (element spelled) x k h al b = on_leaves r.to k ((p nowhere (element spelled)).make x k) h refl refl
+  plan_leaves nowhere (element (known id)) x k h al b = on_leaves r.to k ((p nowhere (element (known id))).make x k) h refl refl
+  plan_leaves at_start (element spelled) x k h al b = on_leaves r.to k ((p at_start (element spelled)).make x k) h refl refl
+  plan_leaves at_start (element (known id)) x k h al b = on_leaves r.to k ((p at_start (element (known id))).make x k) h refl refl
+  plan_leaves at_first (element spelled) x k h al b = on_leaves r.to k ((p at_first (element spelled)).make x k) h refl refl
+  plan_leaves at_first (element (known id)) x k h al b = on_leaves r.to k ((p at_first (element (known id))).make x k) h refl refl
+  plan_leaves at_end (element spelled) x k h al b = on_leaves r.to k ((p at_end (element spelled)).make x k) h refl refl
+  plan_leaves at_end (element (known id)) x k h al b = on_leaves r.to k ((p at_end (element (known id))).make x k) h refl refl
+  plan_leaves a (attribute spelled) x k h al b = on_leaves r.to k ((p a (attribute spelled)).make x k) h refl refl
+  plan_leaves a (attribute (known id)) x k h al b = on_leaves r.to k ((p a (attribute (known id))).make x k) h refl refl
+  plan_leaves a characters x k h al b = on_leaves r.to k ((p a characters).make x k) h refl refl
+  plan_leaves a end_element x k h al b = same_leaves k ((p a end_element).make x k) h refl refl
+  plan_leaves a declaration x k h al b = on_leaves r.to k ((p a declaration).make x k) h refl refl
+  plan_leaves a self_contained x k h al b = record { last = λ t. absurd cc; grounded = (h.going, h.grounded) }
+  plan_leaves a comment x k h al b = on_leaves r.to k ((p a comment).make x k) h refl refl
+  plan_leaves a instruction x k h al b = on_leaves r.to k ((p a instruction).make x k) h refl refl
+  plan_leaves a document_type x k h al b = on_leaves r.to k ((p a document_type).make x k) h refl refl
+  plan_leaves a entity x k h al b = on_leaves r.to k ((p a entity).make x k) h refl refl
+  plan_leaves a (informed symbol) x k h al b = absurd (none_some kind.NoCode b)
 
-first_open : (g : Setting) (start : Start) → is_end (first_outer g start) ≡ false
-first_open g body = start_open (fragment g.options)
+-- ---- one event
+record LeavesBody (given : Given) : Type 0 where
+  pub leaves : Leaves given
+  pub body : given.1.start ≡ start.Body
+
+one_leaves : (g : Setting) (bytes : List ℕ) (c : Config) (given : Given) → Going c → one g bytes c ≡ told given → LeavesBody given
+one_leaves g bytes c given h e =
+    let u = stepped g bytes c given e in
+    let t = u.rest_is in
+    let a : Alone = alone_in c.elements c.outer in
+    let p : Plan = plan_of g c u.rule in
+    let k : Config = reached (behind p.padded t.course) (record c { place = u.spot.place }) in
+    let l = plan_leaves g c u.rule a u.rule.on t.item k (record { going = h.going; grounded = h.grounded; body = h.body }) refl t.charged.free in
+    let s = made_stays g a c u.rule u.rule.on t.item k in
+    subst (λ (z : Given). LeavesBody z) (sym t.is) (record { leaves = record { last = l.last; grounded = l.grounded }; body = s.start ∙ h.body })
+
+-- ---- a run
+goes_by : (b : Bool) (bytes : List ℕ) (given : Given) (x : Option Happening) (next : Config) → has_ended given.1 ≡ b → cond b (ends given.0 (closing given.1.start bytes given.1)) (goes given.0 given.1) ≡ goes x next → (is_end next.outer ≡ false) × (given.1 ≡ next)
+goes_by true bytes given x next h e = absurd cc
+goes_by false bytes given x next h e = let same : given.1 ≡ next = cc in (subst (λ (z : Config). is_end z.outer ≡ false) same h, same)
+
+goes_on : (bytes : List ℕ) (c : Config) (r : Result Given Failure) (x : Option Happening) (next : Config) → ((given : Given) → r ≡ told given → LeavesBody given) → turned_by bytes c r ≡ goes x next → Going next
+goes_on bytes c (Ok given) x next f e =
+    let g = goes_by (has_ended given.1) bytes given x next refl e in
+    let l = f given refl in
+    record {
+      going = g.0;
+      grounded = subst (λ (z : Config). Grounded z.outer z.aside) g.1 l.leaves.grounded;
+      body = subst (λ (z : Config). z.start ≡ start.Body) g.1 l.body;
+    }
+goes_on bytes c (Err f) x next h e = absurd cc
+
+leads_on : (g : Setting) (bytes : List ℕ) (c last : Config) (turns : List (Option Happening)) → Going c → Leads g bytes c turns last → Going last
+leads_on g bytes c last [] h l = subst (λ (z : Config). Going z) l h
+leads_on g bytes c last (x ∷ turns) h l = leads_on g bytes l.0 last turns (goes_on bytes c (one g bytes c) x l.0 (λ given e. one_leaves g bytes c given h e) l.1) l.2
+
+body_going : (b : Bool) → (is_end (body_outer b) ≡ false) × (is_alone (body_outer b) ≡ false)
+body_going true = (refl, refl)
+body_going false = (refl, refl)
+
+first_going : (j : Job) (limits : Bounds) → Going (first j start.Body limits)
+unfolding Grounded
+first_going j limits = let b = body_going (fragment j.setting.options) in record { going = b.0; grounded = b.1; body = refl }
+
+-- ---- the end
+ends_same : (x y : Option Happening) (d e : End) → ends x d ≡ ends y e → (x ≡ y) × (d ≡ e)
+ends_same x y d e h = (cc, cc)
+
+ended_by : (j : Job) (b : Bool) (given : Given) (x : Option Happening) (e : End) → has_ended given.1 ≡ b → cond b (ends given.0 (closing given.1.start j.bytes given.1)) (goes given.0 given.1) ≡ ends x e → LeavesBody given → (x ≡ Some happening.ed) × (e ≡ closing start.Body j.bytes given.1)
+ended_by j true given x e h k l =
+    let s = ends_same given.0 x (closing given.1.start j.bytes given.1) e k in
+    (sym s.0 ∙ l.leaves.last h, sym s.1 ∙ ap (λ (z : Start). closing z j.bytes given.1) l.body)
+ended_by j false given x e h k l = absurd cc
+
+end_by : (j : Job) (c : Config) (x : Option Happening) (e : End) (r : Result Given Failure) → one j.setting j.bytes c ≡ r → turned_by j.bytes c r ≡ ends x e → ((given : Given) → r ≡ told given → LeavesBody given) → EndsBehind j c x e ⊎ EndsIn j c x e
+end_by j c x e (Ok given) h k f = let s = ended_by j (has_ended given.1) given x e refl k (f given refl) in inl (record { given = given; steps = h; last = s.0; closed = s.1 })
+end_by j c x e (Err failure) h k f = let s = ends_same None x (failed_end c failure) e k in inr (record { failure = failure; fails = h; none = sym s.0; closed = sym s.1 })
+
+pub end_is : EndIs
+end_is j limits turns e r =
+    let h = leads_on j.setting j.bytes (first j start.Body limits) r.reached r.before (first_going j limits) r.leads in
+    end_by j r.reached r.event e (one j.setting j.bytes r.reached) refl r.at_end (λ given k. one_leaves j.setting j.bytes r.reached given h k)
+
+done_no_fault : (bit : ℕ) (f : Fault) (t u : Tally) (x y : Option QName) → end.Done bit t x ≡ end.Fault f u y → ⊥
+done_no_fault bit f t u x y e = absurd cc
 
 pub ends_at_ed : EndsAtEd
-ends_at_ed g start limits begin turns e bit run d =
-    let open_ = leads_open g (first_config g start limits begin) run.reached run.before (first_open g start) run.leads in
-    let x : run.event ≡ Some happening.ed = by_result g run.reached (one g run.reached) run.event e bit refl open_ run.at_end d in
-    (run.before, run.all ∙ ap (λ (z : Option Happening). run.before ++ z ∷ []) x)
+ends_at_ed j limits turns bit tally root r = by_case (end_is j limits turns (end.Done bit tally root) r)
+  where
+    by_case : EndsBehind j r.reached r.event (end.Done bit tally root) ⊎ EndsIn j r.reached r.event (end.Done bit tally root) → (before : List (Option Happening)) × (turns ≡ before ++ Some happening.ed ∷ [])
+    by_case (inl b) = (r.before, r.all ∙ ap (λ (z : Option Happening). r.before ++ z ∷ []) b.last)
+    by_case (inr i) = absurd (done_no_fault bit i.failure.fault tally i.failure.meter.used root r.reached.root i.closed)

@@ -1,5 +1,5 @@
 -- What a code can tell in a sound configuration: which terminals fit each state, and of which names.
-use Rattle.std.proofs.Common.{◌≡◌, ◌⊎◌, ℕ, Bool, true, false, cond, List, [], ◌∷◌, ◌++◌, length, filter, Option, Some, None, inl, inr, refl, ap, subst}
+use Rattle.std.proofs.Common.{◌≡◌, ◌⊎◌, ℕ, zero, suc, Bool, true, false, cond, List, [], ◌∷◌, ◌++◌, length, filter, map, get_or, Option, Some, None, inl, inr, refl, sym, ap, subst}
 use Rattle.std.specs.Prelude.{All, slice_get}
 use Rattle.std.proofs.lemmas.List.Elements.{All-append, All-cons, All-filter, All-from_recursion, All-head, All-map, All-nil, All-tail, All-weaker}
 use Rattle.std.proofs.lemmas.Option.{get_or_from_slice_get, slice_get_within}
@@ -7,17 +7,31 @@ use Rattle.exi_bits.specs.declared.align.Align.{Align}
 use Rattle.exi_bits.specs.Bits.{Spot}
 use Rattle.exi_builtin.specs.declared.learnable.Learnable.{Learnable}
 use Rattle.exi_builtin.specs.declared.learnable.Learnable.TheVariants as learnable
+use Rattle.exi_builtin.specs.declared.learnable.Room.{Room}
 use Rattle.exi_builtin.specs.declared.learnable.Room.TheVariants as room
-use Rattle.exi_builtin.specs.BuiltIn.{element_content, is_kept, left_of, start_tag_content}
-use Rattle.exi_builtin.specs.BuiltIn as built
+use Rattle.exi_builtin.specs.BuiltIn.{BuiltInRule, element_content, fragment_content, is_kept, left_of, start_tag_content}
 use Rattle.exi_builtin.specs.declared.element_grammar.ElementGrammar.{ElementGrammar}
-use Rattle.exi_builtin.specs.Learning.{Learning, behind_learned, productions}
+use Rattle.exi_builtin.specs.Learning.{Learning, behind_learned, productions, rule_in, rules}
+use Rattle.exi_builtin.proofs.Rules.{rules_are}
 use Rattle.exi_gram.specs.declared.options.Options.{Options}
+use Rattle.exi_gram.specs.Books.{HoldsStates, IsBook, state_of}
 use Rattle.exi_gram.specs.Codes.{Productions, Second, code_at, first_told, first_values, group, kept_second, kept_seconds, mapped, mapped_second, member_at, part_at, pruned, second_at, second_told, single, told}
+use Rattle.exi_gram.specs.Naming.{Entry, entry_of}
+use Rattle.exi_gram.specs.Switches.{align_of}
+use Rattle.exi_gram.specs.Tables.{no_productions}
+use Rattle.exi_gram.specs.Terminals as gram
+use Rattle.exi_gram.specs.Wholes.{document, document_content, document_end, whole_start}
+use Rattle.exi_names.specs.StartTables.{Names}
 use Rattle.exi_tables.specs.Partitions.{Partitions}
-use Rattle.exi_reader.specs.Configurations.{Element, Outer, Stage, built_in, comment, content, document, document_content, document_content_productions, document_end, document_end_productions, ended, fragment_content, fragment_start, instruction, is_left, outer_productions, productions_in, room_at, start_productions, start_tag, terminal_of}
-use Rattle.exi_reader.specs.Sound.{FitsIn, FitsInside, FitsOutside, IsElementOfName, IsOfNames, IsSoundGrammar, IsSoundLearning}
-use Rattle.exi_reader.proofs.Onward.{bind_is, good, good_is}
+use Rattle.exi_typed.proofs.CourseItems.{bind_fine, fine, fine_is}
+use Rattle.exi_reader.specs.Configurations.{Config, Setting, built_in, element_rules, in_book, outer_rules, rules_in, rules_of, spot_in}
+use Rattle.exi_reader.specs.Rules.{Rule, book_rule, built_in_rule, built_in_terminal, fragment_start, rule_of}
+use Rattle.exi_reader.specs.Sound.{CodesFit, FitsContent, FitsDocument, FitsIn, FitsInside, FitsOutside, FitsStart, IsElementOfName, IsOfNames, IsOuter, IsSoundBody, IsSoundElement, IsSoundGrammar, IsSoundLearning, IsStateOfName}
+use Rattle.exi_reader.specs.declared.frames.Element.{Element}
+use Rattle.exi_reader.specs.declared.frames.Outer.{Outer}
+use Rattle.exi_reader.specs.declared.frames.Outer.TheVariants as outer
+use Rattle.exi_reader.specs.declared.frames.State.{State}
+use Rattle.exi_reader.specs.declared.frames.State.TheVariants as state
 
 -- ---- a code tells one of the productions
 abbrev pub EachOf : {X : Type 0} → (X → Type 0) → Second X → Type 0
@@ -32,35 +46,35 @@ pub record Each {X : Type 0} (P : X → Type 0) (p : Productions X) : Type 0 whe
 at_place : {X : Type 0} (P : X → Type 0) (xs : List X) (place : ℕ) (x : X) → All P xs → slice_get xs place ≡ Some x → P x
 at_place P xs place x all e = subst P (get_or_from_slice_get xs place x x e) (all place x (slice_get_within xs place x e))
 
-told_is : {X : Type 0} (o : Option X) (s t : Spot) (x : X) → told o s ≡ good (x, t) → o ≡ Some x
-told_is {X} (Some y) s t x e = ap (λ (z : X × Spot). Some z.0) (good_is (y, s) (x, t) e)
+told_is : {X : Type 0} (o : Option X) (s t : Spot) (x : X) → told o s ≡ fine (x, t) → o ≡ Some x
+told_is {X} (Some y) s t x e = ap (λ (z : X × Spot). Some z.0) (fine_is (y, s) (x, t) e)
 told_is None s t x e = absurd cc
 
-member_is : {X : Type 0} (P : X → Type 0) (a : Align) (xs : List X) → All P xs → (s t : Spot) (x : X) → member_at a xs s ≡ good (x, t) → P x
+member_is : {X : Type 0} (P : X → Type 0) (a : Align) (xs : List X) → All P xs → (s t : Spot) (x : X) → member_at a xs s ≡ fine (x, t) → P x
 unfolding member_at
 member_is P a xs all s t x e =
-    let b = bind_is (part_at (length xs) a s) (λ (third : ℕ × Spot). told (slice_get xs third.0) third.1) (x, t) e in
+    let b = bind_fine (part_at (length xs) a s) (λ (third : ℕ × Spot). told (slice_get xs third.0) third.1) (x, t) e in
     at_place P xs b.0.0 x all (told_is (slice_get xs b.0.0) b.0.1 t x b.2)
 
-second_told_is : {X : Type 0} (P : X → Type 0) (a : Align) (xs : List (Second X)) → All (EachOf P) xs → (place : ℕ) (o : Option (Second X)) → slice_get xs place ≡ o → (s t : Spot) (x : X) → second_told a o s ≡ good (x, t) → P x
+second_told_is : {X : Type 0} (P : X → Type 0) (a : Align) (xs : List (Second X)) → All (EachOf P) xs → (place : ℕ) (o : Option (Second X)) → slice_get xs place ≡ o → (s t : Spot) (x : X) → second_told a o s ≡ fine (x, t) → P x
 second_told_is P a xs all place None is s t x e = absurd cc
-second_told_is {X} P a xs all place (Some (single y)) is s t x e = subst P (ap (λ (z : X × Spot). z.0) (good_is (y, s) (x, t) e)) (at_place (EachOf P) xs place (single y) all is)
+second_told_is {X} P a xs all place (Some (single y)) is s t x e = subst P (ap (λ (z : X × Spot). z.0) (fine_is (y, s) (x, t) e)) (at_place (EachOf P) xs place (single y) all is)
 second_told_is P a xs all place (Some (group ys)) is s t x e = member_is P a ys (at_place (EachOf P) xs place (group ys) all is) s t x e
 
-second_is : {X : Type 0} (P : X → Type 0) (a : Align) (xs : List (Second X)) → All (EachOf P) xs → (s t : Spot) (x : X) → second_at a xs s ≡ good (x, t) → P x
+second_is : {X : Type 0} (P : X → Type 0) (a : Align) (xs : List (Second X)) → All (EachOf P) xs → (s t : Spot) (x : X) → second_at a xs s ≡ fine (x, t) → P x
 unfolding second_at
 second_is P a xs all s t x e =
-    let b = bind_is (part_at (length xs) a s) (λ (second : ℕ × Spot). second_told a (slice_get xs second.0) second.1) (x, t) e in
+    let b = bind_fine (part_at (length xs) a s) (λ (second : ℕ × Spot). second_told a (slice_get xs second.0) second.1) (x, t) e in
     second_told_is P a xs all b.0.0 (slice_get xs b.0.0) refl b.0.1 t x b.2
 
-first_told_is : {X : Type 0} (P : X → Type 0) (a : Align) (p : Productions X) → Each P p → (place : ℕ) (o : Option X) → slice_get p.firsts place ≡ o → (s t : Spot) (x : X) → first_told a p.seconds o s ≡ good (x, t) → P x
-first_told_is {X} P a p all place (Some y) is s t x e = subst P (ap (λ (z : X × Spot). z.0) (good_is (y, s) (x, t) e)) (at_place P p.firsts place y all.firsts is)
+first_told_is : {X : Type 0} (P : X → Type 0) (a : Align) (p : Productions X) → Each P p → (place : ℕ) (o : Option X) → slice_get p.firsts place ≡ o → (s t : Spot) (x : X) → first_told a p.seconds o s ≡ fine (x, t) → P x
+first_told_is {X} P a p all place (Some y) is s t x e = subst P (ap (λ (z : X × Spot). z.0) (fine_is (y, s) (x, t) e)) (at_place P p.firsts place y all.firsts is)
 first_told_is P a p all place None is s t x e = second_is P a p.seconds all.seconds s t x e
 
-pub code_is : {X : Type 0} (P : X → Type 0) (a : Align) (p : Productions X) → Each P p → (s t : Spot) (x : X) → code_at a p s ≡ good (x, t) → P x
+pub code_is : {X : Type 0} (P : X → Type 0) (a : Align) (p : Productions X) → Each P p → (s t : Spot) (x : X) → code_at a p s ≡ fine (x, t) → P x
 unfolding code_at
 code_is P a p all s t x e =
-    let b = bind_is (part_at (first_values p) a s) (λ (first : ℕ × Spot). first_told a p.seconds (slice_get p.firsts first.0) first.1) (x, t) e in
+    let b = bind_fine (part_at (first_values p) a s) (λ (first : ℕ × Spot). first_told a p.seconds (slice_get p.firsts first.0) first.1) (x, t) e in
     first_told_is P a p all b.0.0 (slice_get p.firsts b.0.0) refl b.0.1 t x b.2
 
 -- ---- pruned, mapped, and with what was learned in front
@@ -104,15 +118,29 @@ each_behind : {X : Type 0} (P : X → Type 0) (p : Productions X) (front : List 
 each_behind P p front h e = record { firsts = All-append P front p.firsts h e.firsts; seconds = e.seconds }
 
 -- ---- an element's states
-abbrev InElement : Partitions → Learnable → Type 0
-InElement p x = FitsInside p (terminal_of x)
+abbrev Inside : Partitions → Rule → Type 0
+Inside p r = FitsInside p r.on
 
-of_names_fits : (p : Partitions) (x : Learnable) → IsOfNames p x → InElement p x
-of_names_fits p (learnable.Known name true) h = h
-of_names_fits p (learnable.Known name false) h = h
-of_names_fits p (learnable.Ch one_part) h = tt
-of_names_fits p (learnable.Ee one_part) h = tt
-of_names_fits p other h = absurd h
+-- as a rule of a state
+abbrev ruled : Learning → Room → Learnable → Rule
+ruled l r x = built_in_rule (rule_in l r x)
+
+abbrev InElement : Partitions → Room → Learnable → Type 0
+InElement p r x = FitsInside p (built_in_terminal x)
+
+of_names_fits : (p : Partitions) (r : Room) (x : Learnable) → IsOfNames p x → InElement p r x
+of_names_fits p r (learnable.Known name true) h = h
+of_names_fits p r (learnable.Known name false) h = h
+of_names_fits p r (learnable.Ch one_part) h = tt
+of_names_fits p r (learnable.Ee one_part) h = tt
+of_names_fits p r learnable.SeAny h = absurd h
+of_names_fits p r learnable.AtAny h = absurd h
+of_names_fits p r learnable.Ed h = absurd h
+of_names_fits p r learnable.Ns h = absurd h
+of_names_fits p r learnable.Sc h = absurd h
+of_names_fits p r learnable.Er h = absurd h
+of_names_fits p r learnable.Cm h = absurd h
+of_names_fits p r learnable.Pi h = absurd h
 
 abbrev start_tag_of : Option ElementGrammar → List Learnable
 start_tag_of None = []
@@ -122,19 +150,19 @@ abbrev content_of : Option ElementGrammar → List Learnable
 content_of None = []
 content_of (Some g) = g.content
 
-members_fit : (p : Partitions) → All (InElement p) (learnable.Cm ∷ learnable.Pi ∷ [])
-members_fit p = All-from_recursion (InElement p) (learnable.Cm ∷ learnable.Pi ∷ []) (tt, (tt, tt))
+members_fit : (p : Partitions) (r : Room) → All (InElement p r) (learnable.Cm ∷ learnable.Pi ∷ [])
+members_fit p r = All-from_recursion (InElement p r) (learnable.Cm ∷ learnable.Pi ∷ []) (tt, (tt, tt))
 
-start_tag_written : (p : Partitions) → Each (InElement p) start_tag_content
-start_tag_written p = record {
-  firsts = All-nil (InElement p);
-  seconds = All-from_recursion (EachOf (InElement p)) start_tag_content.seconds (tt, (tt, (tt, (tt, (tt, (tt, (tt, (members_fit p, tt))))))));
+start_tag_written : (p : Partitions) (r : Room) → Each (InElement p r) start_tag_content
+start_tag_written p r = record {
+  firsts = All-nil (InElement p r);
+  seconds = All-from_recursion (EachOf (InElement p r)) start_tag_content.seconds (tt, (tt, (tt, (tt, (tt, (tt, (tt, (members_fit p r, tt))))))));
 }
 
-content_written : (p : Partitions) → Each (InElement p) element_content
-content_written p = record {
-  firsts = All-from_recursion (InElement p) element_content.firsts (tt, tt);
-  seconds = All-from_recursion (EachOf (InElement p)) element_content.seconds (tt, (tt, (tt, (members_fit p, tt))));
+content_written : (p : Partitions) (r : Room) → Each (InElement p r) element_content
+content_written p r = record {
+  firsts = All-from_recursion (InElement p r) element_content.firsts (tt, tt);
+  seconds = All-from_recursion (EachOf (InElement p r)) element_content.seconds (tt, (tt, (tt, (members_fit p r, tt))));
 }
 
 learned_start_tag : (p : Partitions) (gs : List ElementGrammar) (number : ℕ) (o : Option ElementGrammar) → slice_get gs number ≡ o → All (IsSoundGrammar p) gs → All (IsOfNames p) (start_tag_of o)
@@ -145,17 +173,27 @@ learned_content : (p : Partitions) (gs : List ElementGrammar) (number : ℕ) (o 
 learned_content p gs number None is all = All-nil (IsOfNames p)
 learned_content p gs number (Some g) is all = (at_place (IsSoundGrammar p) gs number g all is).content
 
-behind_fits : (o : Options) (p : Partitions) (front : List Learnable) (behind : Productions Learnable) → All (IsOfNames p) front → Each (InElement p) behind → Each (FitsInside p) (mapped terminal_of (behind_learned front (left_of o behind)))
-behind_fits o p front behind h e =
-    each_mapped (FitsInside p) terminal_of (behind_learned front (left_of o behind))
-    (each_behind (InElement p) (left_of o behind) front (All-weaker (IsOfNames p) (InElement p) (of_names_fits p) front h) (each_pruned (InElement p) (is_kept o) behind e))
+-- the productions as rules
+built_in_each : (P : Rule → Type 0) (g : Setting) (l : Learning) (r : Room) → Each (λ x. P (ruled l r x)) (productions g.options l r) → Each P (built_in g l r)
+built_in_each P g l r e = each_mapped P built_in_rule (rules g.options l r) (subst (λ (z : Productions BuiltInRule). Each (λ x. P (built_in_rule x)) z) (sym (rules_are g.options l r)) (each_mapped (λ x. P (built_in_rule x)) (rule_in l r) (productions g.options l r) e))
 
-element_fits : (o : Options) (p : Partitions) (l : Learning) → IsSoundLearning p l → (number : ℕ) (stage : Stage) → Each (FitsInside p) (built_in o l (room_at number stage))
-element_fits o p l s number start_tag = behind_fits o p (start_tag_of (slice_get l.grammars number)) start_tag_content (learned_start_tag p l.grammars number (slice_get l.grammars number) refl s.grammars) (start_tag_written p)
-element_fits o p l s number content = behind_fits o p (content_of (slice_get l.grammars number)) element_content (learned_content p l.grammars number (slice_get l.grammars number) refl s.grammars) (content_written p)
+behind_fits : (o : Options) (p : Partitions) (r : Room) (front : List Learnable) (behind : Productions Learnable) → All (IsOfNames p) front → Each (InElement p r) behind → Each (InElement p r) (behind_learned front (left_of o behind))
+behind_fits o p r front behind h e = each_behind (InElement p r) (left_of o behind) front (All-weaker (IsOfNames p) (InElement p r) (of_names_fits p r) front h) (each_pruned (InElement p r) (is_kept o) behind e)
 
--- ---- a fragment's content
-of_name_fits : (p : Partitions) (x : Learnable) → IsElementOfName p x → FitsOutside p fragment_content (terminal_of x)
+element_fits : (g : Setting) (p : Partitions) (l : Learning) (e : Element) → IsSoundLearning p l → (s : State) → IsStateOfName l e.name s → Each (Inside p) (element_rules g l s)
+element_fits g p l e s (state.BuiltIn (room.StartTag number)) h = built_in_each (Inside p) g l (room.StartTag number) (behind_fits g.options p (room.StartTag number) (start_tag_of (slice_get l.grammars number)) start_tag_content (learned_start_tag p l.grammars number (slice_get l.grammars number) refl s.grammars) (start_tag_written p (room.StartTag number)))
+element_fits g p l e s (state.BuiltIn (room.Content number)) h = built_in_each (Inside p) g l (room.Content number) (behind_fits g.options p (room.Content number) (content_of (slice_get l.grammars number)) element_content (learned_content p l.grammars number (slice_get l.grammars number) refl s.grammars) (content_written p (room.Content number)))
+element_fits g p l e s (state.BuiltIn room.Fragment) h = absurd h
+element_fits g p l e s (state.Informed grammar number empty) h = absurd h
+
+-- ---- a fragment's states
+abbrev Content : Partitions → Rule → Type 0
+Content p r = FitsContent p r.on r.to
+
+abbrev InFragment : Partitions → Learnable → Type 0
+InFragment p x = FitsContent p (built_in_terminal x) 1
+
+of_name_fits : (p : Partitions) (x : Learnable) → IsElementOfName p x → InFragment p x
 of_name_fits p (learnable.Known name false) h = (refl, h)
 of_name_fits p (learnable.Known name true) h = absurd h
 of_name_fits p learnable.SeAny h = absurd h
@@ -169,48 +207,167 @@ of_name_fits p learnable.Er h = absurd h
 of_name_fits p learnable.Cm h = absurd h
 of_name_fits p learnable.Pi h = absurd h
 
-abbrev InFragment : Partitions → Learnable → Type 0
-InFragment p x = FitsOutside p fragment_content (terminal_of x)
-
-fragment_written : (p : Partitions) → Each (InFragment p) built.fragment_content
+fragment_written : (p : Partitions) → Each (InFragment p) fragment_content
 fragment_written p = record {
-  firsts = All-from_recursion (InFragment p) built.fragment_content.firsts (inr refl, (inr refl, tt));
-  seconds = All-from_recursion (EachOf (InFragment p)) built.fragment_content.seconds (tt, (tt, tt));
+  firsts = All-from_recursion (InFragment p) fragment_content.firsts (refl, (tt, tt));
+  seconds = All-from_recursion (EachOf (InFragment p)) fragment_content.seconds (refl, (refl, tt));
 }
 
-fragment_fits : (o : Options) (p : Partitions) (l : Learning) → IsSoundLearning p l → Each (FitsOutside p fragment_content) (built_in o l room.Fragment)
-fragment_fits o p l s =
-    each_mapped (FitsOutside p fragment_content) terminal_of (productions o l room.Fragment)
-    (each_behind (InFragment p) (left_of o built.fragment_content) l.fragment (All-weaker (IsElementOfName p) (InFragment p) (of_name_fits p) l.fragment s.fragment)
-    (each_pruned (InFragment p) (is_kept o) built.fragment_content (fragment_written p)))
+fragment_fits : (g : Setting) (p : Partitions) (l : Learning) → IsSoundLearning p l → Each (Content p) (built_in g l room.Fragment)
+fragment_fits g p l s =
+    built_in_each (Content p) g l room.Fragment
+    (each_behind (InFragment p) (left_of g.options fragment_content) l.fragment (All-weaker (IsElementOfName p) (InFragment p) (of_name_fits p) l.fragment s.fragment)
+    (each_pruned (InFragment p) (is_kept g.options) fragment_content (fragment_written p)))
+
+abbrev Starts : Rule → Type 0
+Starts r = FitsStart r.on r.to
+
+start_fits : Each Starts fragment_start
+start_fits = record { firsts = All-from_recursion Starts fragment_start.firsts (refl, tt); seconds = All-nil (EachOf Starts) }
 
 -- ---- a document's states
-document_written : (p : Partitions) → Each (FitsOutside p document_content) document_content_productions
-document_written p = record {
-  firsts = All-from_recursion (FitsOutside p document_content) document_content_productions.firsts (inl refl, tt);
-  seconds = All-from_recursion (EachOf (FitsOutside p document_content)) document_content_productions.seconds (refl, (All-from_recursion (FitsOutside p document_content) (comment ∷ instruction ∷ []) (tt, (tt, tt)), tt));
+abbrev InDocument : ℕ → Rule → Type 0
+InDocument number r = FitsDocument number r.on r.to
+
+abbrev OfDocument : ℕ → gram.Rule → Type 0
+OfDocument number r = InDocument number (rule_of r)
+
+start_written : Each (OfDocument 0) whole_start
+start_written = record { firsts = All-from_recursion (OfDocument 0) whole_start.firsts ((refl, refl), tt); seconds = All-nil (EachOf (OfDocument 0)) }
+
+document_written : Each (OfDocument 1) (document_content [])
+document_written = record {
+  firsts = All-from_recursion (OfDocument 1) (document_content []).firsts ((refl, refl), tt);
+  seconds = All-from_recursion (EachOf (OfDocument 1)) (document_content []).seconds (refl, (two_fit, tt));
+}
+  where
+    two_fit : All (OfDocument 1) (record { on = gram.cm; to = 1; inner = None } ∷ record { on = gram.pi; to = 1; inner = None } ∷ [])
+    two_fit = All-from_recursion (OfDocument 1) (record { on = gram.cm; to = 1; inner = None } ∷ record { on = gram.pi; to = 1; inner = None } ∷ []) (refl, (refl, tt))
+
+end_written : Each (OfDocument 2) document_end
+end_written = record {
+  firsts = All-from_recursion (OfDocument 2) document_end.firsts (refl, tt);
+  seconds = All-from_recursion (EachOf (OfDocument 2)) document_end.seconds (refl, (refl, tt));
 }
 
-end_written : (p : Partitions) → Each (FitsOutside p document_end) document_end_productions
-end_written p = record {
-  firsts = All-from_recursion (FitsOutside p document_end) document_end_productions.firsts (inl refl, tt);
-  seconds = All-from_recursion (EachOf (FitsOutside p document_end)) document_end_productions.seconds (tt, (tt, tt));
+left_fits : (o : Options) (names : Names) (number : ℕ) (p : Productions gram.Rule) → Each (OfDocument number) p → Each (InDocument number) (mapped book_rule (state_of o names p))
+left_fits o names number p e =
+    each_mapped (InDocument number) book_rule (state_of o names p)
+    (each_mapped (λ x. InDocument number (book_rule x)) (entry_of names) (pruned (λ (r : gram.Rule). gram.is_left o r.on) p)
+    (each_pruned (OfDocument number) (λ (r : gram.Rule). gram.is_left o r.on) p e))
+
+abbrev kept_state : List (List (Productions Entry)) → ℕ → Productions Entry
+kept_state states number = get_or (get_or states 0 []) number no_productions
+
+number_fits : (o : Options) (names : Names) (number : ℕ) → (number ≡ 0) ⊎ (number ≡ 1) ⊎ (number ≡ 2) → Each (InDocument number) (mapped book_rule (kept_state (map (state_of o names) (document []) ∷ []) number))
+number_fits o names number (inl e) = subst (λ (n : ℕ). Each (InDocument n) (mapped book_rule (kept_state (map (state_of o names) (document []) ∷ []) n))) (sym e) (left_fits o names 0 whole_start start_written)
+number_fits o names number (inr (inl e)) = subst (λ (n : ℕ). Each (InDocument n) (mapped book_rule (kept_state (map (state_of o names) (document []) ∷ []) n))) (sym e) (left_fits o names 1 (document_content []) document_written)
+number_fits o names number (inr (inr e)) = subst (λ (n : ℕ). Each (InDocument n) (mapped book_rule (kept_state (map (state_of o names) (document []) ∷ []) n))) (sym e) (left_fits o names 2 document_end end_written)
+
+in_states : (o : Options) (names : Names) (known : Bool) (states : List (List (Productions Entry))) → HoldsStates known o names states → (number : ℕ) → (number ≡ 0) ⊎ (number ≡ 1) ⊎ (number ≡ 2) → Each (InDocument number) (mapped book_rule (kept_state states number))
+in_states o names true states h number n = absurd h
+in_states o names false states h number n = subst (λ (z : List (List (Productions Entry))). Each (InDocument number) (mapped book_rule (kept_state z number))) (sym h) (number_fits o names number n)
+
+book_fits : (g : Setting) → IsBook g → (grammar number : ℕ) → IsOuter (outer.Book grammar number) → Each (InDocument number) (in_book g grammar number)
+book_fits g b grammar number h = subst (λ (z : ℕ). Each (InDocument number) (in_book g z number)) (sym h.0) (in_states g.options g.schema.names g.schema.known g.states b.states number h.1)
+
+-- ---- every state
+abbrev Outside : Partitions → Outer → Rule → Type 0
+Outside p o r = FitsOutside p o r.on r.to
+
+outer_fits : (g : Setting) (p : Partitions) (l : Learning) → IsBook g → IsSoundLearning p l → (o : Outer) → IsOuter o → Each (Outside p o) (outer_rules g l o)
+outer_fits g p l b s (outer.Book grammar number) h = book_fits g b grammar number h
+outer_fits g p l b s outer.FragmentStart h = start_fits
+outer_fits g p l b s outer.FragmentContent h = fragment_fits g p l s
+outer_fits g p l b s outer.AloneStart h = start_fits
+outer_fits g p l b s outer.AloneFirst h = fragment_fits g p l s
+outer_fits g p l b s outer.AloneOver h = fragment_fits g p l s
+outer_fits g p l b s outer.Ended h = record { firsts = All-nil (Outside p outer.Ended); seconds = All-nil (EachOf (Outside p outer.Ended)) }
+
+abbrev Fits : Partitions → Outer → List Element → Rule → Type 0
+Fits p o es r = FitsIn p o es r.on r.to
+
+state_fits : (g : Setting) (p : Partitions) (l : Learning) → IsBook g → (es : List Element) (o : Outer) → IsSoundBody p l es o → Each (Fits p o es) (rules_in g l es o)
+state_fits g p l b [] o s = outer_fits g p l b s.learned o s.outer_is
+state_fits g p l b (e ∷ es) o s = element_fits g p l e s.learned e.state (All-head (IsSoundElement p l) e es s.elements).state
+
+-- ---- and none opens a grammar of a schema
+abbrev IsPlain : Rule → Type 0
+IsPlain r = r.inner ≡ None
+
+all_each : {X : Type 0} (P : X → Type 0) → ((x : X) → P x) → (p : Productions X) → Each P p
+all_each {X} P f p = record { firsts = λ i d less. f (get_or p.firsts i d); seconds = λ i d less. second_each (get_or p.seconds i d) }
+  where
+    second_each : (x : Second X) → EachOf P x
+    second_each (single x) = f x
+    second_each (group xs) = λ i d less. f (get_or xs i d)
+
+built_in_plain : (g : Setting) (l : Learning) (r : Room) → Each IsPlain (built_in g l r)
+built_in_plain g l r = each_mapped IsPlain built_in_rule (rules g.options l r) (all_each (λ x. IsPlain (built_in_rule x)) (λ x. refl) (rules g.options l r))
+
+start_plain : Each IsPlain fragment_start
+start_plain = record { firsts = All-from_recursion IsPlain fragment_start.firsts (refl, tt); seconds = All-nil (EachOf IsPlain) }
+
+abbrev OfPlain : gram.Rule → Type 0
+OfPlain r = r.inner ≡ None
+
+whole_plain : Each OfPlain whole_start
+whole_plain = record { firsts = All-from_recursion OfPlain whole_start.firsts (refl, tt); seconds = All-nil (EachOf OfPlain) }
+
+document_plain : Each OfPlain (document_content [])
+document_plain = record {
+  firsts = All-from_recursion OfPlain (document_content []).firsts (refl, tt);
+  seconds = All-from_recursion (EachOf OfPlain) (document_content []).seconds (refl, (two_plain, tt));
 }
+  where
+    two_plain : All OfPlain (record { on = gram.cm; to = 1; inner = None } ∷ record { on = gram.pi; to = 1; inner = None } ∷ [])
+    two_plain = All-from_recursion OfPlain (record { on = gram.cm; to = 1; inner = None } ∷ record { on = gram.pi; to = 1; inner = None } ∷ []) (refl, (refl, tt))
 
-start_written : (p : Partitions) (outer : Outer) → (outer ≡ document) ⊎ (outer ≡ fragment_start) → Each (FitsOutside p outer) start_productions
-start_written p outer h = record {
-  firsts = All-from_recursion (FitsOutside p outer) start_productions.firsts (h, tt);
-  seconds = All-nil (EachOf (FitsOutside p outer));
-}
+end_plain : Each OfPlain document_end
+end_plain = record { firsts = All-from_recursion OfPlain document_end.firsts (refl, tt); seconds = All-from_recursion (EachOf OfPlain) document_end.seconds (refl, (refl, tt)) }
 
-outer_fits : (o : Options) (p : Partitions) (l : Learning) → IsSoundLearning p l → (outer : Outer) → Each (FitsOutside p outer) (outer_productions o l outer)
-outer_fits o p l s document = start_written p document (inl refl)
-outer_fits o p l s document_content = each_pruned (FitsOutside p document_content) (is_left o) document_content_productions (document_written p)
-outer_fits o p l s document_end = each_pruned (FitsOutside p document_end) (is_left o) document_end_productions (end_written p)
-outer_fits o p l s fragment_start = start_written p fragment_start (inr refl)
-outer_fits o p l s fragment_content = fragment_fits o p l s
-outer_fits o p l s ended = record { firsts = All-nil (FitsOutside p ended); seconds = All-nil (EachOf (FitsOutside p ended)) }
+left_plain : (o : Options) (names : Names) (p : Productions gram.Rule) → Each OfPlain p → Each IsPlain (mapped book_rule (state_of o names p))
+left_plain o names p e =
+    each_mapped IsPlain book_rule (state_of o names p)
+    (each_mapped (λ x. IsPlain (book_rule x)) (entry_of names) (pruned (λ (r : gram.Rule). gram.is_left o r.on) p)
+    (each_pruned OfPlain (λ (r : gram.Rule). gram.is_left o r.on) p e))
 
-pub state_fits : (o : Options) (p : Partitions) (l : Learning) → IsSoundLearning p l → (outer : Outer) (es : List Element) → Each (FitsIn p outer es) (productions_in o l outer es)
-state_fits o p l s outer [] = outer_fits o p l s outer
-state_fits o p l s outer (e ∷ es) = element_fits o p l s e.grammar e.stage
+none_plain : Each IsPlain (mapped book_rule no_productions)
+none_plain = record { firsts = All-nil IsPlain; seconds = All-nil (EachOf IsPlain) }
+
+state_plain : (o : Options) (names : Names) (i : ℕ) → Each IsPlain (mapped book_rule (get_or (map (state_of o names) (document [])) i no_productions))
+state_plain o names zero = left_plain o names whole_start whole_plain
+state_plain o names (suc zero) = left_plain o names (document_content []) document_plain
+state_plain o names (suc (suc zero)) = left_plain o names document_end end_plain
+state_plain o names (suc (suc (suc i))) = none_plain
+
+states_plain : (o : Options) (names : Names) (known : Bool) (states : List (List (Productions Entry))) → HoldsStates known o names states → (grammar number : ℕ) → Each IsPlain (mapped book_rule (get_or (get_or states grammar []) number no_productions))
+states_plain o names true states h grammar number = absurd h
+states_plain o names false states h zero number = subst (λ (z : List (List (Productions Entry))). Each IsPlain (mapped book_rule (get_or (get_or z 0 []) number no_productions))) (sym h) (state_plain o names number)
+states_plain o names false states h (suc grammar) number = subst (λ (z : List (List (Productions Entry))). Each IsPlain (mapped book_rule (get_or (get_or z (suc grammar) []) number no_productions))) (sym h) none_plain
+
+book_plain : (g : Setting) → IsBook g → (grammar number : ℕ) → Each IsPlain (in_book g grammar number)
+book_plain g b grammar number = states_plain g.options g.schema.names g.schema.known g.states b.states grammar number
+
+outer_plain : (g : Setting) (l : Learning) → IsBook g → (o : Outer) → Each IsPlain (outer_rules g l o)
+outer_plain g l b (outer.Book grammar number) = book_plain g b grammar number
+outer_plain g l b outer.FragmentStart = start_plain
+outer_plain g l b outer.FragmentContent = built_in_plain g l room.Fragment
+outer_plain g l b outer.AloneStart = start_plain
+outer_plain g l b outer.AloneFirst = built_in_plain g l room.Fragment
+outer_plain g l b outer.AloneOver = built_in_plain g l room.Fragment
+outer_plain g l b outer.Ended = record { firsts = All-nil IsPlain; seconds = All-nil (EachOf IsPlain) }
+
+element_plain : (g : Setting) (l : Learning) → IsBook g → (s : State) → Each IsPlain (element_rules g l s)
+element_plain g l b (state.BuiltIn r) = built_in_plain g l r
+element_plain g l b (state.Informed grammar number empty) = book_plain g b grammar number
+
+rules_plain : (g : Setting) (l : Learning) → IsBook g → (es : List Element) (o : Outer) → Each IsPlain (rules_in g l es o)
+rules_plain g l b [] o = outer_plain g l b o
+rules_plain g l b (e ∷ es) o = element_plain g l b e.state
+
+pub codes_fit : CodesFit
+codes_fit g bytes c r t b s h = (
+  code_is (Fits c.tables c.outer c.elements) (align_of g.options) (rules_of g c) (state_fits g c.tables c.learned b c.elements c.outer s.body) (spot_in bytes c) t r h,
+  code_is IsPlain (align_of g.options) (rules_of g c) (rules_plain g c.learned b c.elements c.outer) (spot_in bytes c) t r h,
+)

@@ -15,20 +15,39 @@ use Rattle.exi_builtin.specs.Learning.{Learning, added_by, after_use, changed_at
 use Rattle.exi_names.specs.declared.names.NameId.{NameId}
 use Rattle.exi_tables.specs.Growth.{KeepsAll}
 use Rattle.exi_tables.specs.Partitions.{Partitions}
-use Rattle.exi_reader.specs.Configurations.{Element}
-use Rattle.exi_reader.specs.Sound.{IsElementOfName, IsLeastName, IsOfNames, IsSoundElement, IsSoundGrammar, IsSoundLearning}
+use Rattle.exi_reader.specs.Sound.{HasGrammar, IsElementOfName, IsLeastName, IsOfNames, IsSoundElement, IsSoundGrammar, IsSoundLearning, IsStateOfName}
+use Rattle.exi_reader.specs.declared.frames.Element.{Element}
+use Rattle.exi_reader.specs.declared.frames.State.{State}
+use Rattle.exi_reader.specs.declared.frames.State.TheVariants as state
 use Rattle.exi_reader.proofs.Standing.{name_on}
 
 -- ---- where the tables grow
 of_names_on : (p q : Partitions) → KeepsAll p q → (x : Learnable) → IsOfNames p x → IsOfNames q x
-of_names_on p q keeps (learnable.Known name attribute) h = name_on p q name keeps h
+of_names_on p q keeps (learnable.Known name is_attribute) h = name_on p q name keeps h
 of_names_on p q keeps (learnable.Ch one_part) h = h
 of_names_on p q keeps (learnable.Ee one_part) h = h
-of_names_on p q keeps other h = absurd h
+of_names_on p q keeps learnable.SeAny h = h
+of_names_on p q keeps learnable.AtAny h = h
+of_names_on p q keeps learnable.Ed h = h
+of_names_on p q keeps learnable.Ns h = h
+of_names_on p q keeps learnable.Sc h = h
+of_names_on p q keeps learnable.Er h = h
+of_names_on p q keeps learnable.Cm h = h
+of_names_on p q keeps learnable.Pi h = h
 
 element_on : (p q : Partitions) → KeepsAll p q → (x : Learnable) → IsElementOfName p x → IsElementOfName q x
 element_on p q keeps (learnable.Known name false) h = name_on p q name keeps h
-element_on p q keeps other h = h
+element_on p q keeps (learnable.Known name true) h = h
+element_on p q keeps (learnable.Ch one_part) h = h
+element_on p q keeps (learnable.Ee one_part) h = h
+element_on p q keeps learnable.SeAny h = h
+element_on p q keeps learnable.AtAny h = h
+element_on p q keeps learnable.Ed h = h
+element_on p q keeps learnable.Ns h = h
+element_on p q keeps learnable.Sc h = h
+element_on p q keeps learnable.Er h = h
+element_on p q keeps learnable.Cm h = h
+element_on p q keeps learnable.Pi h = h
 
 grammar_on : (p q : Partitions) → KeepsAll p q → (g : ElementGrammar) → IsSoundGrammar p g → IsSoundGrammar q g
 grammar_on p q keeps g s = record {
@@ -62,10 +81,17 @@ names_added [] more number g is = absurd (none-some g is)
 names_added (x ∷ xs) more zero g is = (g, is, refl)
 names_added (x ∷ xs) more (suc number) g is = names_added xs more number g is
 
+has_on : (l m : Learning) (number : ℕ) (name : NameId) → KeepsNames l.grammars m.grammars → HasGrammar l number name → HasGrammar m number name
+has_on l m number name names h = let n = names number h.grammar h.stands in record { grammar = n.0; stands = n.1; same = n.2 ∙ h.same }
+
+state_on : (l m : Learning) (name : NameId) (s : State) → KeepsNames l.grammars m.grammars → IsStateOfName l name s → IsStateOfName m name s
+state_on l m name (state.BuiltIn (room.StartTag number)) names h = has_on l m number name names h
+state_on l m name (state.BuiltIn (room.Content number)) names h = has_on l m number name names h
+state_on l m name (state.BuiltIn room.Fragment) names h = h
+state_on l m name (state.Informed grammar number empty) names h = h
+
 pub open_on : (p q : Partitions) (l m : Learning) → KeepsAll p q → KeepsNames l.grammars m.grammars → (e : Element) → IsSoundElement p l e → IsSoundElement q m e
-open_on p q l m keeps names e s =
-    let n = names e.grammar s.grammar s.stands in
-    record { name = name_on p q e.name keeps s.name; grammar = n.0; stands = n.1; same = n.2 ∙ s.same }
+open_on p q l m keeps names e s = record { name = name_on p q e.name keeps s.name; state = state_on l m e.name e.state names s.state }
 
 -- ---- a use
 all_changed : (P : ElementGrammar → Type 0) (gs : List ElementGrammar) (place : ℕ) (change : ElementGrammar → ElementGrammar) → ((g : ElementGrammar) → P g → P (change g)) → All P gs → All P (changed_at gs place change)
@@ -80,7 +106,8 @@ either_of P false l m x y = y
 -- what may be learned in a state
 abbrev pub MayStand : Partitions → Room → Learnable → Type 0
 MayStand p room.Fragment x = IsElementOfName p x
-MayStand p other x = IsOfNames p x
+MayStand p (room.StartTag number) x = IsOfNames p x
+MayStand p (room.Content number) x = IsOfNames p x
 
 abbrev in_start_tag : Learnable → ElementGrammar → ElementGrammar
 in_start_tag x g = record g { start_tag = x ∷ g.start_tag }
@@ -141,18 +168,15 @@ last_of : (gs : List ElementGrammar) (g : ElementGrammar) → slice_get (gs ++ g
 last_of [] g = refl
 last_of (x ∷ xs) g = last_of xs g
 
-abbrev HasGrammar : List ElementGrammar → ℕ → NameId → Type 0
-HasGrammar gs number name = (g : ElementGrammar) × (slice_get gs number ≡ Some g) × (g.name ≡ name)
-
-made_has : (l : Learning) (name : NameId) (o : Option ℕ) → grammar_place l name ≡ o → HasGrammar (made_unless l name o).grammars (unwrap_or o (length l.grammars)) name
+made_has : (l : Learning) (name : NameId) (o : Option ℕ) → grammar_place l name ≡ o → HasGrammar (made_unless l name o) (unwrap_or o (length l.grammars)) name
 made_has l name (Some place) e =
     let at = position-Some (λ (g : ElementGrammar). same_name g.name name) l.grammars place (new_grammar name) e in
     let g : ElementGrammar = get_or l.grammars place (new_grammar name) in
-    (g, slice_get-get_or l.grammars place (new_grammar name) at.0, same_is g.name name at.1)
-made_has l name None e = (new_grammar name, last_of l.grammars (new_grammar name), refl)
+    record { grammar = g; stands = slice_get-get_or l.grammars place (new_grammar name) at.0; same = same_is g.name name at.1 }
+made_has l name None e = record { grammar = new_grammar name; stands = last_of l.grammars (new_grammar name); same = refl }
 
 -- the number of a name's grammar tells a grammar of that name
-pub number_has : (l : Learning) (name : NameId) → HasGrammar (with_grammar l name).grammars (grammar_number l name) name
+pub number_has : (l : Learning) (name : NameId) → HasGrammar (with_grammar l name) (grammar_number l name) name
 number_has l name = made_has l name (grammar_place l name) refl
 
 made_names : (l : Learning) (name : NameId) (o : Option ℕ) → KeepsNames l.grammars (made_unless l name o).grammars

@@ -1,46 +1,54 @@
 -- The first configuration is sound, and so is each that turns lead to.
-use Rattle.std.proofs.Common.{◌≡◌, Bool, true, false, cond, List, [], ◌∷◌, Option, Result, Ok, Err, refl, ap, ◌∙◌, subst}
+use Rattle.std.proofs.Common.{◌≡◌, ◌⊎◌, inl, inr, ℕ, Bool, true, false, cond, List, [], ◌∷◌, Option, Result, Ok, Err, refl, ap, ◌∙◌, subst, arith}
 use Rattle.std.proofs.lemmas.List.Elements.{All-nil}
 use Rattle.exi_builtin.specs.Learning.{nothing_learned}
+use Rattle.exi_gram.specs.Books.{IsBook}
+use Rattle.exi_gram.specs.Switches.{fragment}
+use Rattle.exi_meter.specs.Metering.{Bounds}
 use Rattle.exi_names.specs.Events.{Happening}
-use Rattle.exi_tables.specs.Partitions.{Partitions, first_partitions}
+use Rattle.exi_tables.specs.Partitions.{Partitions}
 use Rattle.exi_typed.specs.Courses.{Failure}
-use Rattle.exi_reader.specs.Configurations.{Config, Setting, first_config}
-use Rattle.exi_reader.specs.OneEvent.{Given, one}
-use Rattle.exi_reader.specs.Runs.{Leads, closed_end, ends, goes, has_ended, turned_by}
-use Rattle.exi_reader.specs.Sound.{FirstIsSound, IsElementOfName, IsSound, IsSoundElement, IsSoundGrammar, ReachedAreSound}
-use Rattle.exi_reader.proofs.Onward.{good}
-use Rattle.exi_reader.proofs.Soundness.{steps_keep_sound}
+use Rattle.exi_typed.proofs.CourseItems.{told}
+use Rattle.exi_reader.specs.Changes.{is_alone}
+use Rattle.exi_reader.specs.Configurations.{Config, Setting, body_outer, first_outer, first_tables}
+use Rattle.exi_reader.specs.OneEvent.{one}
+use Rattle.exi_reader.specs.Plans.{Given}
+use Rattle.exi_reader.specs.Runs.{Job, Leads, first}
+use Rattle.exi_reader.specs.Sound.{FirstIsSound, IsElementOfName, IsOuter, IsSound, IsSoundAside, IsSoundElement, IsSoundGrammar, ReachedAreSound, levels_in}
+use Rattle.exi_reader.specs.declared.start.Start.{Start}
+use Rattle.exi_reader.specs.declared.start.Start.TheVariants as start
+use Rattle.exi_reader.proofs.Sequences.{by_result}
+use Rattle.exi_reader.proofs.Soundness.{levels_none, steps_keep_sound}
 
 -- ---- the first configuration
+body_is_outer : (b : Bool) → IsOuter (body_outer b)
+body_is_outer true = tt
+body_is_outer false = (refl, inl refl)
+
+first_is_outer : (g : Setting) (s : Start) → IsOuter (first_outer g s)
+first_is_outer g start.Body = body_is_outer (fragment g.options)
+first_is_outer g (start.Fragment byte) = tt
+
 pub first_is_sound : FirstIsSound
-first_is_sound g start limits begin names =
-    let p : Partitions = first_partitions g.names g.options.most g.options.capacity in
+first_is_sound j s limits names =
+    let p : Partitions = first_tables j.setting in
+    let n : levels_in [] (first_outer j.setting s) ≡ 0 = levels_none (first_outer j.setting s) in
     record {
-      learned = record { grammars = All-nil (IsSoundGrammar p); fragment = All-nil (IsElementOfName p) };
-      elements = All-nil (IsSoundElement p nothing_learned);
-      level = refl;
-      outside = λ some. absurd (some refl);
+      body = record {
+        learned = record { grammars = All-nil (IsSoundGrammar p); fragment = All-nil (IsElementOfName p) };
+        elements = All-nil (IsSoundElement p nothing_learned);
+        outside = λ some. absurd (some refl);
+        outer_is = first_is_outer j.setting s;
+      };
+      level = omega (arith, n);
       after_start = λ e. absurd cc;
+      aside = All-nil IsSoundAside;
     }
 
 -- ---- what is reached
-same_goes : (e d : Option Happening) (b c : Config) → goes e b ≡ goes d c → (e ≡ d) × (b ≡ c)
-same_goes e d b c h = (cc, cc)
-
-by_ended : (b : Bool) (x : Given) (e : Option Happening) (next : Config) → cond b (ends x.0 (closed_end x.1)) (goes x.0 x.1) ≡ goes e next → x ≡ (e, next)
-by_ended true x e next h = absurd cc
-by_ended false x e next h =
-    let s = same_goes x.0 e x.1 next h in
-    ap (λ (z : Option Happening). (z, x.1)) s.0 ∙ ap (λ (z : Config). (e, z)) s.1
-
-goes_by : (c : Config) (r : Result Given Failure) (e : Option Happening) (next : Config) → turned_by c r ≡ goes e next → r ≡ good (e, next)
-goes_by c (Ok x) e next h = ap (λ (z : Given). good z) (by_ended (has_ended x.1) x e next h)
-goes_by c (Err f) e next h = absurd cc
-
-led_sound : (g : Setting) (turns : List (Option Happening)) (c reached : Config) → IsSound c → Leads g c turns reached → IsSound reached
-led_sound g [] c reached s l = subst (λ (z : Config). IsSound z) l s
-led_sound g (e ∷ turns) c reached s l = led_sound g turns l.0 reached (steps_keep_sound g c l.0 e s (goes_by c (one g c) e l.0 l.1)) l.2
+led_sound : (g : Setting) (bytes : List ℕ) (turns : List (Option Happening)) (c last : Config) → IsBook g → IsSound c → Leads g bytes c turns last → IsSound last
+led_sound g bytes [] c last b s l = subst (λ (z : Config). IsSound z) l s
+led_sound g bytes (e ∷ turns) c last b s l = led_sound g bytes turns l.0 last b (steps_keep_sound g bytes c l.0 e b s (by_result bytes c (one g bytes c) e l.0 l.1)) l.2
 
 pub reached_are_sound : ReachedAreSound
-reached_are_sound g start limits begin turns reached names l = led_sound g turns (first_config g start limits begin) reached (first_is_sound g start limits begin names) l
+reached_are_sound j s limits turns last b names l = led_sound j.setting j.bytes turns (first j s limits) last b (first_is_sound j s limits names) l

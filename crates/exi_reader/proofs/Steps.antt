@@ -1,209 +1,215 @@
--- One event goes on in the same bits, never backwards, against the same limits, and is counted.
-use Rattle.std.proofs.Common.{◌≡◌, ℕ, ◌+◌, ◌≤◌, Bool, true, false, cond, List, Option, Some, None, Result, Ok, Err, refl, sym, ap, ◌∙◌, subst, arith}
+-- One event goes onward against the same limits; it is counted where it gives an event, and else comes nearer to the
+-- end of a fragment.
+use Rattle.std.proofs.Common.{◌≡◌, ℕ, zero, suc, ◌+◌, ◌*◌, ◌/◌, ◌≤◌, Bool, true, false, cond, List, [], ◌∷◌, length, Option, Some, None, Result, Ok, Err, refl, sym, ap, ◌∙◌, subst, arith}
 use Rattle.std.proofs.lemmas.Bool.{leb-true}
-use Rattle.exi_bits.specs.declared.align.Align.{Align}
 use Rattle.exi_bits.specs.declared.fault.Kind.{Kind}
 use Rattle.exi_bits.specs.declared.fault.Kind.TheVariants as kind
 use Rattle.exi_bits.specs.Bits.{Spot}
-use Rattle.exi_bits.specs.Unsigned.{◌>>=◌}
-use Rattle.exi_builtin.specs.declared.learnable.Learned.TheVariants as used
-use Rattle.exi_builtin.specs.Learning.{is_type}
-use Rattle.exi_gram.specs.Codes.{code_at}
-use Rattle.exi_gram.specs.Switches.{align_of, prefixes, strict}
-use Rattle.exi_items.specs.Charges.{text_charge}
-use Rattle.exi_meter.specs.Metering.{Metering, event_fits, level_fits, with_event, with_level, with_text}
-use Rattle.exi_names.specs.declared.names.NameId.{NameId}
+use Rattle.exi_gram.specs.Switches.{align_of}
+use Rattle.exi_meter.specs.Metering.{Bounds, Metering, event_fits, with_event, with_level, with_text}
+use Rattle.exi_meter.specs.declared.tally.Tally.{Tally}
 use Rattle.exi_names.specs.Events.{Happening}
 use Rattle.exi_names.specs.Events as happening
-use Rattle.exi_names.specs.Seen.{Value}
-use Rattle.exi_names.specs.Seen as value
-use Rattle.exi_typed.specs.Courses.{Course, Courser, Failure, at_spot_of, failing}
-use Rattle.exi_typed.specs.NameValues.{name_value_at, with_meter}
-use Rattle.exi_typed.specs.Strings.{Named, declaration_at, known_at, name_at, no_growth, value_at}
-use Rattle.exi_reader.specs.Configurations.{Config, Setting, Terminal, any_attribute, any_element, characters, comment, declaration, document_type, end_document, end_element, entity, instruction, known_attribute, known_element, productions_of, self_contained, start_document}
-use Rattle.exi_reader.specs.OneEvent.{Given, any_attribute_at, any_element_at, at_event, attribute_value_at, characters_at, charged_if, closed, comment_at, declaration_event_at, document_type_at, entity_at, event_charge, event_of, instruction_at, is_start, known_attribute_at, known_element_at, learns, level_charge, moves, name_of, one, opened, remembered, string_at, text_at, type_at, went}
-use Rattle.exi_reader.proofs.Onward.{Ahead, GoesOnward, Onward, ahead_same, ahead_then, bind_is, charge_is, code_ahead, declaration_onward, failing_is, good, good_is, known_onward, literal_onward, name_onward, onward_either, onward_made, onward_same, onward_then, value_onward}
+use Rattle.exi_typed.specs.Courses.{Course, Failure}
+use Rattle.exi_typed.specs.Onward.{Onward}
+use Rattle.exi_typed.proofs.CourseItems.{fine, told}
+use Rattle.exi_reader.specs.Changes.{moved_outer, outer_behind, resumed}
+use Rattle.exi_reader.specs.Configurations.{Body, Config, Setting, course_in, reached, rules_of, spot_in}
+use Rattle.exi_reader.specs.Fragments.{begins}
+use Rattle.exi_reader.specs.OneEvent.{behind, one, remembered}
+use Rattle.exi_reader.specs.Plans.{Alone, Given, Plan, alone_in, at_end, at_first, at_start, ended_in, nowhere, plan_of, plan_on}
+use Rattle.exi_reader.specs.Rules.{Rule, Telling, Terminal, attribute, characters, comment, declaration, document_type, element, end_document, end_element, entity, informed, instruction, known, self_contained, spelled, start_document}
+use Rattle.exi_reader.specs.Spelled.{IsCharged, counted_by, entered_by}
+use Rattle.exi_reader.specs.declared.frames.Element.{Element}
+use Rattle.exi_reader.specs.declared.frames.Outer.{Outer}
+use Rattle.exi_reader.specs.declared.frames.Outer.TheVariants as outer
+use Rattle.exi_reader.proofs.CodePlaces.{code_goes}
+use Rattle.exi_reader.proofs.EventOne.{at_place, stepped}
+use Rattle.exi_reader.proofs.PlanFacts.{made_stays, plan_reads}
 
--- ---- charges
-abbrev metered : Course → Metering → Course
-metered c m = record c { beside = record c.beside { meter = m } }
+-- ---- how many turns without an event are left in the fragments that are open
+abbrev pub weight : Outer → ℕ
+weight (outer.Book grammar number) = 0
+weight outer.FragmentStart = 0
+weight outer.FragmentContent = 0
+weight outer.AloneStart = 3
+weight outer.AloneFirst = 2
+weight outer.AloneOver = 1
+weight outer.Ended = 0
 
-charged_is : (b : Bool) (k : Kind) (bit : ℕ) (c d : Course) (m : Metering) → charged_if b k bit c m ≡ good d → (b ≡ true) × (metered c m ≡ d)
-charged_is true k bit c d m e = (refl, good_is (metered c m) d e)
-charged_is false k bit c d m e = absurd cc
+abbrev pub weights_in : List Body → ℕ
+weights_in [] = 0
+weights_in (b ∷ bs) = weight b.outer + weights_in bs
 
-level_onward : (bit : ℕ) (c d : Course) → level_charge bit c ≡ good d → Onward c d
-level_onward bit c d e =
-    let k = charged_is (level_fits c.beside.meter) kind.DepthLimit bit c d (with_level c.beside.meter) e in
-    subst (λ (z : Course). Onward c z) k.1 (record { ahead = ahead_same c.spot; limits = refl; events = refl })
+abbrev pub weights : Config → ℕ
+weights c = weight c.outer + weights_in c.aside
 
--- ---- values
-name_value_onward : (keep : Bool) (a : Align) → GoesOnward (name_value_at keep a)
-unfolding name_value_at
-name_value_onward keep a c d x e =
-    let b = bind_is (failing c.beside.meter (text_charge 1 c.spot.place c.beside.meter)) (λ (m : Metering). name_at keep a (with_meter c m)) (x, d) e in
-    let k = charge_is 1 c.spot.place c.beside.meter b.0 (failing_is c.beside.meter (text_charge 1 c.spot.place c.beside.meter) b.0 b.1) in
-    let charged : Onward c (with_meter c (with_text c.beside.meter 1)) = record { ahead = ahead_same c.spot; limits = refl; events = refl } in
-    onward_then c (with_meter c b.0) d (subst (λ (m : Metering). Onward c (with_meter c m)) k charged) (name_onward keep a (with_meter c b.0) d x b.2)
+-- by so many a state that follows has fewer
+abbrev fewer : Alone → ℕ
+fewer nowhere = 0
+fewer at_start = 1
+fewer at_first = 1
+fewer at_end = 0
 
-no_type : Course → Named × Course → Result (Value × Course) Failure
-no_type c name = Err (record { fault = record { kind = kind.BadType; bit = c.spot.place }; meter = name.1.beside.meter })
+moved_weight : (to : ℕ) (es : List Element) (o : Outer) → weight (outer_behind to es o) + fewer (alone_in es o) ≤ weight o
+moved_weight to (e ∷ es) o = omega arith
+moved_weight to [] (outer.Book grammar number) = omega arith
+moved_weight zero [] outer.FragmentStart = omega arith
+moved_weight (suc to) [] outer.FragmentStart = omega arith
+moved_weight zero [] outer.FragmentContent = omega arith
+moved_weight (suc to) [] outer.FragmentContent = omega arith
+moved_weight to [] outer.AloneStart = omega arith
+moved_weight to [] outer.AloneFirst = omega arith
+moved_weight to [] outer.AloneOver = omega arith
+moved_weight to [] outer.Ended = omega arith
 
-the_type : Named × Course → Result (Value × Course) Failure
-the_type name = good (value.name name.0.name, name.1)
+-- the end of a fragment leaves none of it
+abbrev ends_less : Alone → ℕ
+ends_less nowhere = 0
+ends_less at_start = 1
+ends_less at_first = 1
+ends_less at_end = 1
 
-type_onward : (g : Setting) → GoesOnward (type_at g)
-unfolding type_at no_type the_type
-type_onward g c d x e =
-    let b = bind_is (name_value_at (prefixes g.options) (align_of g.options) c) (λ (name : Named × Course). cond (strict g.options) (no_type c name) (the_type name)) (x, d) e in
-    onward_then c b.0.1 d (name_value_onward (prefixes g.options) (align_of g.options) c b.0.1 b.0.0 b.1) (by_strict (strict g.options) b.0 b.2)
-  where
-    by_strict : (b : Bool) (name : Named × Course) → cond b (no_type c name) (the_type name) ≡ good (x, d) → Onward name.1 d
-    by_strict true name h = absurd cc
-    by_strict false name h = subst (λ (z : Course). Onward name.1 z) (ap (λ (z : Value × Course). z.1) (good_is (value.name name.0.name, name.1) (x, d) h)) (onward_same name.1)
+resumed_weight : (bs : List Body) (k : Config) → k.aside ≡ bs → weights (resumed bs k) ≤ weights_in bs
+resumed_weight [] k h = let n : weights_in k.aside ≡ 0 = ap (λ (z : List Body). weights_in z) h in omega (arith, n)
+resumed_weight (b ∷ bs) k h = omega arith
 
-string_onward : (g : Setting) (name : NameId) → GoesOnward (string_at g name)
-unfolding string_at
-string_onward g name = onward_made (value_at None (align_of g.options) name) (λ text c. value.text text) (value_onward None (align_of g.options) name)
+alone_weight : (es : List Element) (o : Outer) → ends_less (alone_in es o) ≤ weight o
+alone_weight (e ∷ es) o = omega arith
+alone_weight [] (outer.Book grammar number) = omega arith
+alone_weight [] outer.FragmentStart = omega arith
+alone_weight [] outer.FragmentContent = omega arith
+alone_weight [] outer.AloneStart = omega arith
+alone_weight [] outer.AloneFirst = omega arith
+alone_weight [] outer.AloneOver = omega arith
+alone_weight [] outer.Ended = omega arith
 
-attribute_onward : (g : Setting) (name : NameId) → GoesOnward (attribute_value_at g name)
-attribute_onward g name = onward_either (is_type name) (type_at g) (string_at g name) (type_onward g) (string_onward g name)
+ended_weight : (a : Alone) (k : Config) → ends_less a ≤ weight k.outer → weights (ended_in a k) + ends_less a ≤ weights k
+ended_weight nowhere k h = omega arith
+ended_weight at_start k h = omega (arith, h, resumed_weight k.aside k refl)
+ended_weight at_first k h = omega (arith, h, resumed_weight k.aside k refl)
+ended_weight at_end k h = omega (arith, h, resumed_weight k.aside k refl)
 
-text_onward : (g : Setting) → GoesOnward (text_at g)
-text_onward g = literal_onward (align_of g.options) no_growth
+-- ---- what a plan gives
+-- an event where one is counted, and then the weights may grow by a fragment's; and else none, and they get less
+abbrev Gives : Bool → Given → Config → Type 0
+Gives true given k = (e : Happening) × (given.0 ≡ Some e) × (weights given.1 ≤ weights k + 3 * begins e)
+Gives false given k = (given.0 ≡ None) × (weights given.1 + 1 ≤ weights k)
 
--- ---- what follows a code
-abbrev GoesOn : (Config → Result Given Failure) → Type 0
-GoesOn read = (c d : Config) (e : Option Happening) → read c ≡ good (e, d) → Onward c.course d.course
+plain_gives : (to : ℕ) (k d : Config) (e : Happening) → d.outer ≡ outer_behind to k.elements k.outer → d.aside ≡ k.aside → Gives true (Some e, d) k
+plain_gives to k d e h i =
+    let n : weight d.outer ≡ weight (outer_behind to k.elements k.outer) = ap (λ (z : Outer). weight z) h in
+    let m : weights_in d.aside ≡ weights_in k.aside = ap (λ (z : List Body). weights_in z) i in
+    (e, refl, omega (arith, n, m, moved_weight to k.elements k.outer))
 
--- the last step makes the event and the configuration; its course is the reading's
-abbrev KeepsCourse : {X : Type 0} → (X → Config → Course → Given) → Type 0
-KeepsCourse {X} make = (x : X) (c : Config) (k : Course) → (make x c k).1.course ≡ k
+own_gives : (to : ℕ) (k d : Config) → 1 ≤ fewer (alone_in k.elements k.outer) → d.outer ≡ outer_behind to k.elements k.outer → d.aside ≡ k.aside → Gives false (None, d) k
+own_gives to k d less h i =
+    let n : weight d.outer ≡ weight (outer_behind to k.elements k.outer) = ap (λ (z : Outer). weight z) h in
+    let m : weights_in d.aside ≡ weights_in k.aside = ap (λ (z : List Body). weights_in z) i in
+    (refl, omega (arith, less, n, m, moved_weight to k.elements k.outer))
 
-made_onward : {X : Type 0} (read : Courser X) (make : X → Config → Course → Given) → KeepsCourse make → GoesOnward read → (c : Config) (k : Course) (d : Config) (e : Option Happening)
-    → (read k >>= λ x. good (make x.0 c x.1)) ≡ good (e, d) → Onward k d.course
-made_onward {X} read make keeps onward c k d e h =
-    let b = bind_is (read k) (λ (x : X × Course). good (make x.0 c x.1)) (e, d) h in
-    let m : make b.0.0 c b.0.1 ≡ (e, d) = good_is (make b.0.0 c b.0.1) (e, d) b.2 in
-    let s : b.0.1 ≡ d.course = sym (keeps b.0.0 c b.0.1) ∙ ap (λ (z : Given). z.1.course) m in
-    subst (λ (z : Course). Onward k z) s (onward k b.0.1 b.0.0 b.1)
+one_fewer : (a b : Alone) → a ≡ b → 1 ≤ fewer b → 1 ≤ fewer a
+one_fewer a b h le = subst (λ (z : Alone). 1 ≤ fewer z) (sym h) le
 
-any_element_on : (g : Setting) (bit : ℕ) → GoesOn (any_element_at g bit)
-unfolding any_element_at
-any_element_on g bit c d e h =
-    let make : Named → Config → Course → Given = λ name c k. (Some (happening.se name.name), opened name.id (moves any_element (learns (used.Se name.id) (went c k)))) in
-    let b = bind_is (level_charge bit c.course) (λ (k : Course). name_at (prefixes g.options) (align_of g.options) k >>= λ name. good (make name.0 c name.1)) (e, d) h in
-    onward_then c.course b.0 d.course (level_onward bit c.course b.0 b.1) (made_onward (name_at (prefixes g.options) (align_of g.options)) make (λ x c k. refl) (name_onward (prefixes g.options) (align_of g.options)) c b.0 d e b.2)
+none_some : {X : Type 0} (x : X) → Some x ≡ None → ⊥
+none_some x e = absurd cc
 
-known_element_on : (g : Setting) (bit : ℕ) (id : NameId) → GoesOn (known_element_at g bit id)
-unfolding known_element_at
-known_element_on g bit id c d e h =
-    let make : Named → Config → Course → Given = λ name c k. (Some (happening.se name.name), opened id (moves (known_element id) (went c k))) in
-    let b = bind_is (level_charge bit c.course) (λ (k : Course). known_at (prefixes g.options) (align_of g.options) id k >>= λ name. good (make name.0 c name.1)) (e, d) h in
-    onward_then c.course b.0 d.course (level_onward bit c.course b.0 b.1) (made_onward (known_at (prefixes g.options) (align_of g.options) id) make (λ x c k. refl) (known_onward (prefixes g.options) (align_of g.options) id) c b.0 d e b.2)
+module _ (g : Setting) (c : Config) (r : Rule) where
+  abbrev p : Alone → Terminal → Plan
+  p a t = plan_on g a c r t
 
-any_attribute_on : (g : Setting) → GoesOn (any_attribute_at g)
-unfolding any_attribute_at
-any_attribute_on g c d e h =
-    let make : Named → Value → Config → Course → Given = λ name found c k. (Some (happening.at name.name found), moves any_attribute (learns (used.At name.id) (went c k))) in
-    let b = bind_is (name_at (prefixes g.options) (align_of g.options) c.course) (λ (name : Named × Course). attribute_value_at g name.0.id name.1 >>= λ found. good (make name.0 found.0 c found.1)) (e, d) h in
-    onward_then c.course b.0.1 d.course (name_onward (prefixes g.options) (align_of g.options) c.course b.0.1 b.0.0 b.1) (made_onward (attribute_value_at g b.0.0.id) (make b.0.0) (λ x c k. refl) (attribute_onward g b.0.0.id) c b.0.1 d e b.2)
-
-known_attribute_on : (g : Setting) (id : NameId) → GoesOn (known_attribute_at g id)
-unfolding known_attribute_at
-known_attribute_on g id c d e h =
-    let make : Named → Value → Config → Course → Given = λ name found c k. (Some (happening.at name.name found), moves (known_attribute id) (went c k)) in
-    let b = bind_is (known_at (prefixes g.options) (align_of g.options) id c.course) (λ (name : Named × Course). attribute_value_at g id name.1 >>= λ found. good (make name.0 found.0 c found.1)) (e, d) h in
-    onward_then c.course b.0.1 d.course (known_onward (prefixes g.options) (align_of g.options) id c.course b.0.1 b.0.0 b.1) (made_onward (attribute_value_at g id) (make b.0.0) (λ x c k. refl) (attribute_onward g id) c b.0.1 d e b.2)
-
-characters_on : (g : Setting) → GoesOn (characters_at g)
-unfolding characters_at
-characters_on g c d e h = made_onward (string_at g (name_of c.elements)) (λ found c k. (Some (happening.ch found), moves characters (learns used.Ch (went c k)))) (λ x c k. refl) (string_onward g (name_of c.elements)) c c.course d e h
-
-declaration_on : (g : Setting) → GoesOn (declaration_event_at g)
-unfolding declaration_event_at
-declaration_on g c d e h = made_onward (declaration_at (align_of g.options)) (λ found c k. (Some (happening.ns found.uri found.prefix found.element), moves declaration (went c k))) (λ x c k. refl) (declaration_onward (align_of g.options)) c c.course d e h
-
-comment_on : (g : Setting) → GoesOn (comment_at g)
-unfolding comment_at
-comment_on g c d e h = made_onward (text_at g) (λ text c k. (Some (happening.cm text), moves comment (went c k))) (λ x c k. refl) (text_onward g) c c.course d e h
-
-entity_on : (g : Setting) → GoesOn (entity_at g)
-unfolding entity_at
-entity_on g c d e h = made_onward (text_at g) (λ name c k. (Some (happening.er name), moves entity (went c k))) (λ x c k. refl) (text_onward g) c c.course d e h
-
-instruction_on : (g : Setting) → GoesOn (instruction_at g)
-unfolding instruction_at
-instruction_on g c d e h =
-    let make : List ℕ → List ℕ → Config → Course → Given = λ target text c k. (Some (happening.pi target text), moves instruction (went c k)) in
-    let b = bind_is (text_at g c.course) (λ (target : List ℕ × Course). text_at g target.1 >>= λ text. good (make target.0 text.0 c text.1)) (e, d) h in
-    onward_then c.course b.0.1 d.course (text_onward g c.course b.0.1 b.0.0 b.1) (made_onward (text_at g) (make b.0.0) (λ x c k. refl) (text_onward g) c b.0.1 d e b.2)
-
-document_type_on : (g : Setting) → GoesOn (document_type_at g)
-unfolding document_type_at
-document_type_on g c d e h =
-    let make : List ℕ → List ℕ → List ℕ → List ℕ → Config → Course → Given = λ name public system text c k. (Some (happening.dt name public system text), moves document_type (went c k)) in
-    let b1 = bind_is (text_at g c.course) (λ (name : List ℕ × Course). text_at g name.1 >>= λ public. text_at g public.1 >>= λ system. text_at g system.1 >>= λ text. good (make name.0 public.0 system.0 text.0 c text.1)) (e, d) h in
-    let b2 = bind_is (text_at g b1.0.1) (λ (public : List ℕ × Course). text_at g public.1 >>= λ system. text_at g system.1 >>= λ text. good (make b1.0.0 public.0 system.0 text.0 c text.1)) (e, d) b1.2 in
-    let b3 = bind_is (text_at g b2.0.1) (λ (system : List ℕ × Course). text_at g system.1 >>= λ text. good (make b1.0.0 b2.0.0 system.0 text.0 c text.1)) (e, d) b2.2 in
-    onward_then c.course b1.0.1 d.course (text_onward g c.course b1.0.1 b1.0.0 b1.1)
-    (onward_then b1.0.1 b2.0.1 d.course (text_onward g b1.0.1 b2.0.1 b2.0.0 b2.1)
-    (onward_then b2.0.1 b3.0.1 d.course (text_onward g b2.0.1 b3.0.1 b3.0.0 b3.1)
-    (made_onward (text_at g) (make b1.0.0 b2.0.0 b3.0.0) (λ x c k. refl) (text_onward g) c b3.0.1 d e b3.2)))
-
--- an event without content
-plain_on : (c : Config) (made : Given) (d : Config) (e : Option Happening) → Onward c.course made.1.course → good {E = Failure} made ≡ good (e, d) → Onward c.course d.course
-plain_on c made d e on h = subst (λ (z : Given). Onward c.course z.1.course) (good_is made (e, d) h) on
-
-event_on : (g : Setting) (bit : ℕ) (t : Terminal) → GoesOn (event_of g bit t)
-event_on g bit start_document c d e h = plain_on c (Some happening.sd, moves start_document c) d e (onward_same c.course) h
-event_on g bit end_document c d e h = plain_on c (Some happening.ed, moves end_document c) d e (onward_same c.course) h
-event_on g bit any_element c d e h = any_element_on g bit c d e h
-event_on g bit (known_element id) c d e h = known_element_on g bit id c d e h
-event_on g bit any_attribute c d e h = any_attribute_on g c d e h
-event_on g bit (known_attribute id) c d e h = known_attribute_on g id c d e h
-event_on g bit characters c d e h = characters_on g c d e h
-event_on g bit end_element c d e h = plain_on c (Some happening.ee, closed (learns used.Ee c)) d e (record { ahead = ahead_same c.course.spot; limits = refl; events = refl }) h
-event_on g bit declaration c d e h = declaration_on g c d e h
-event_on g bit self_contained c d e h = absurd cc
-event_on g bit comment c d e h = comment_on g c d e h
-event_on g bit instruction c d e h = instruction_on g c d e h
-event_on g bit document_type c d e h = document_type_on g c d e h
-event_on g bit entity c d e h = entity_on g c d e h
+  plan_gives : (a : Alone) (t : Terminal) (x : (p a t).Item) (k : Config) → alone_in k.elements k.outer ≡ a → (p a t).barred ≡ None → (p a t).refused x ≡ None → Gives (p a t).counted ((p a t).make x k) k
+  plan_gives nowhere start_document x k h b f = plain_gives r.to k ((p nowhere start_document).make x k).1 happening.sd refl refl
+  plan_gives at_start start_document x k h b f = own_gives r.to k ((p at_start start_document).make x k).1 (one_fewer (alone_in k.elements k.outer) at_start h (omega arith)) refl refl
+  plan_gives at_first start_document x k h b f = own_gives r.to k ((p at_first start_document).make x k).1 (one_fewer (alone_in k.elements k.outer) at_first h (omega arith)) refl refl
+  plan_gives at_end start_document x k h b f = absurd (none_some kind.ScNotOne b)
+  plan_gives nowhere end_document x k h b f = (happening.ed, refl, omega (arith, ended_weight nowhere k (omega arith)))
+  plan_gives at_start end_document x k h b f = (refl, ended_weight at_start k (subst (λ (z : Alone). ends_less z ≤ weight k.outer) h (alone_weight k.elements k.outer)))
+  plan_gives at_first end_document x k h b f = (refl, ended_weight at_first k (subst (λ (z : Alone). ends_less z ≤ weight k.outer) h (alone_weight k.elements k.outer)))
+  plan_gives at_end end_document x k h b f = (refl, ended_weight at_end k (subst (λ (z : Alone). ends_less z ≤ weight k.outer) h (alone_weight k.elements k.outer)))
+  plan_gives nowhere (element spelled) x k h b f = plain_gives r.to k ((p nowhere (element spelled)).make x k).1 (happening.se x.name) refl refl
+  plan_gives nowhere (element (known id)) x k h b f = plain_gives r.to k ((p nowhere (element (known id))).make x k).1 (happening.se x.name) refl refl
+  plan_gives at_start (element spelled) x k h b f = own_gives r.to k ((p at_start (element spelled)).make x k).1 (one_fewer (alone_in k.elements k.outer) at_start h (omega arith)) refl refl
+  plan_gives at_start (element (known id)) x k h b f = own_gives r.to k ((p at_start (element (known id))).make x k).1 (one_fewer (alone_in k.elements k.outer) at_start h (omega arith)) refl refl
+  plan_gives at_first (element spelled) x k h b f = own_gives r.to k ((p at_first (element spelled)).make x k).1 (one_fewer (alone_in k.elements k.outer) at_first h (omega arith)) refl refl
+  plan_gives at_first (element (known id)) x k h b f = own_gives r.to k ((p at_first (element (known id))).make x k).1 (one_fewer (alone_in k.elements k.outer) at_first h (omega arith)) refl refl
+  plan_gives at_end (element t) x k h b f = absurd (none_some kind.ScNotOne b)
+  plan_gives a (attribute spelled) x k h b f = plain_gives r.to k ((p a (attribute spelled)).make x k).1 (happening.at x.0.name x.1) refl refl
+  plan_gives a (attribute (known id)) x k h b f = plain_gives r.to k ((p a (attribute (known id))).make x k).1 (happening.at x.0.name x.1) refl refl
+  plan_gives a characters x k h b f = plain_gives r.to k ((p a characters).make x k).1 (happening.ch x) refl refl
+  plan_gives a end_element x k h b f = (happening.ee, refl, omega arith)
+  plan_gives a declaration x k h b f = plain_gives r.to k ((p a declaration).make x k).1 (happening.ns x.uri x.prefix x.element) refl refl
+  plan_gives a self_contained x k h b f = (happening.sc (k.place / 8), refl, omega arith)
+  plan_gives a comment x k h b f = plain_gives r.to k ((p a comment).make x k).1 (happening.cm x) refl refl
+  plan_gives a instruction x k h b f = plain_gives r.to k ((p a instruction).make x k).1 (happening.pi x.0 x.1) refl refl
+  plan_gives a document_type x k h b f = plain_gives r.to k ((p a document_type).make x k).1 (happening.dt x.0.0 x.0.1 x.1.0 x.1.1) refl refl
+  plan_gives a entity x k h b f = plain_gives r.to k ((p a entity).make x k).1 (happening.er x) refl refl
+  plan_gives a (informed symbol) x k h b f = absurd (none_some kind.NoCode b)
 
 -- ---- one event
+abbrev pub events : Config → ℕ
+events c = c.meter.used.events
+
+abbrev pub Counts : Option Happening → Config → Config → Type 0
+Counts None c d = (events d ≡ events c) × (weights d + 1 ≤ weights c)
+Counts (Some e) c d = (events d ≡ events c + 1) × (events d ≤ c.meter.limits.events) × (weights d ≤ weights c + 3 * begins e)
+
 -- a step: no bit is read twice, and one event more is within the same limit
-pub record Steps (c d : Config) : Type 0 where
-  pub ahead : Ahead c.course.spot d.course.spot
-  pub limits : d.course.beside.meter.limits ≡ c.course.beside.meter.limits
-  pub events : d.course.beside.meter.used.events ≡ c.course.beside.meter.used.events + 1
-  pub within : d.course.beside.meter.used.events ≤ c.course.beside.meter.limits.events
+pub record Steps (c : Config) (e : Option Happening) (d : Config) : Type 0 where
+  pub place : c.place ≤ d.place
+  pub limits : d.meter.limits ≡ c.meter.limits
+  pub counts : Counts e c d
 
-pub at_event_is : {X : Type 0} (bit : ℕ) (r : Result X Failure) (x : X) → at_event bit r ≡ good x → r ≡ good x
-at_event_is bit (Ok y) x e = ap (λ z. good z) (good_is y x e)
-at_event_is bit (Err f) x e = absurd cc
+charged_meter : (p : Plan) (b : Bool) (m n : Metering) → p.counted ≡ b → IsCharged p m n → (n.used.events ≡ (counted_by b m).used.events) × (n.limits ≡ m.limits)
+charged_meter p b m n h k = (ap (λ (z : Metering). z.used.events) k.after ∙ entered_events p.entered (counted_by p.counted m) ∙ ap (λ (z : Bool). (counted_by z m).used.events) h, ap (λ (z : Metering). z.limits) k.after ∙ entered_limits p.entered (counted_by p.counted m) ∙ counted_limits p.counted m)
+  where
+    entered_events : (e : Bool) (i : Metering) → (entered_by e i).used.events ≡ i.used.events
+    entered_events true i = refl
+    entered_events false i = refl
 
-pub step_is : (g : Setting) (c d : Config) (e : Option Happening) → one g c ≡ good (e, d) → Steps c d
-unfolding one
-step_is g c d e h =
-    let bit : ℕ = c.course.spot.place in
-    let behind : Spot → Course = λ s. at_spot_of c.course s in
-    let code : Result (Terminal × Spot) Failure = failing c.course.beside.meter (code_at (align_of g.options) (productions_of g c) c.course.spot) in
-    let b = bind_is code (λ (chosen : Terminal × Spot). event_charge bit (behind chosen.1) >>= λ k. at_event bit (event_of g bit chosen.0 (went c k)) >>= λ given. good (remembered given)) (e, d) h in
-    let f = bind_is (event_charge bit (behind b.0.1)) (λ (k : Course). at_event bit (event_of g bit b.0.0 (went c k)) >>= λ given. good (remembered given)) (e, d) b.2 in
-    let r = bind_is (at_event bit (event_of g bit b.0.0 (went c f.0))) (λ (given : Given). good (remembered given)) (e, d) f.2 in
-    let told = failing_is c.course.beside.meter (code_at (align_of g.options) (productions_of g c) c.course.spot) b.0 b.1 in
-    let counted = charged_is (event_fits c.course.beside.meter) kind.EventLimit bit (behind b.0.1) f.0 (with_event c.course.beside.meter) f.1 in
-    let on = event_on g bit b.0.0 (went c f.0) r.0.1 r.0.0 (at_event_is bit (event_of g bit b.0.0 (went c f.0)) r.0 r.1) in
-    let same : r.0.1.course ≡ d.course = ap (λ (z : Given). z.1.course) (good_is (remembered r.0) (e, d) r.2) in
-    let onward : Onward f.0 d.course = subst (λ (z : Course). Onward f.0 z) same on in
-    let spots : b.0.1 ≡ f.0.spot = ap (λ (z : Course). z.spot) counted.1 in
-    let events : c.course.beside.meter.used.events + 1 ≡ f.0.beside.meter.used.events = ap (λ (z : Course). z.beside.meter.used.events) counted.1 in
-    let limits : c.course.beside.meter.limits ≡ f.0.beside.meter.limits = ap (λ (z : Course). z.beside.meter.limits) counted.1 in
-    let fits : c.course.beside.meter.used.events + 1 ≤ c.course.beside.meter.limits.events = leb-true (c.course.beside.meter.used.events + 1) c.course.beside.meter.limits.events counted.0 in
-    record {
-      ahead = ahead_then c.course.spot f.0.spot d.course.spot (subst (λ (z : Spot). Ahead c.course.spot z) spots (code_ahead (align_of g.options) (productions_of g c) c.course.spot b.0.1 b.0.0 told)) onward.ahead;
-      limits = onward.limits ∙ sym limits;
-      events = onward.events ∙ sym events;
-      within = omega (arith, fits, onward.events, events);
-    }
+    entered_limits : (e : Bool) (i : Metering) → (entered_by e i).limits ≡ i.limits
+    entered_limits true i = refl
+    entered_limits false i = refl
+
+    counted_limits : (e : Bool) (i : Metering) → (counted_by e i).limits ≡ i.limits
+    counted_limits true i = refl
+    counted_limits false i = refl
+
+behind_meter : (b : Bool) (k : Course) → (behind b k).beside.meter ≡ k.beside.meter
+behind_meter true k = refl
+behind_meter false k = refl
+
+behind_place : (b : Bool) (k : Course) → k.spot.place ≤ (behind b k).spot.place
+behind_place true k = omega arith
+behind_place false k = omega arith
+
+given_counts : (b : Bool) (made : Given) (k c : Config) → Gives b made k → weights k ≡ weights c → events made.1 ≡ (counted_by b c.meter).used.events → (b ≡ true → event_fits c.meter ≡ true) → Counts made.0 c made.1
+given_counts true made k c gives w ev fits =
+    let le : events c + 1 ≤ c.meter.limits.events = leb-true (events c + 1) c.meter.limits.events (fits refl) in
+    subst (λ (z : Option Happening). Counts z c made.1) (sym gives.1) (ev, omega (arith, ev, le), omega (arith, gives.2, w))
+given_counts false made k c gives w ev fits = subst (λ (z : Option Happening). Counts z c made.1) (sym gives.0) (ev, omega (arith, gives.1, w))
+
+pub step_is : (g : Setting) (bytes : List ℕ) (c d : Config) (e : Option Happening) → one g bytes c ≡ told (e, d) → Steps c e d
+step_is g bytes c d e h =
+    let u = stepped g bytes c (e, d) h in
+    let t = u.rest_is in
+    let a : Alone = alone_in c.elements c.outer in
+    let p : Plan = plan_of g c u.rule in
+    let on : Config = at_place c u.spot.place in
+    let k : Config = reached (behind p.padded t.course) on in
+    let made : Given = p.make t.item k in
+    let stays = made_stays g a c u.rule u.rule.on t.item k in
+    let goes : Onward (course_in bytes t.meter on) t.course = (plan_reads g a c u.rule u.rule.on).goes t.item (course_in bytes t.meter on) t.course t.read in
+    let gives : Gives p.counted made k = plan_gives g c u.rule a u.rule.on t.item k refl t.charged.free t.free in
+    let m = charged_meter p p.counted c.meter t.meter refl t.charged in
+    let read_meter : k.meter ≡ with_text t.meter goes.units = behind_meter p.padded t.course ∙ goes.meter in
+    let ev : events made.1 ≡ (counted_by p.counted c.meter).used.events = ap (λ (z : Tally). z.events) stays.used ∙ ap (λ (z : Metering). z.used.events) read_meter ∙ m.0 in
+    let limits : made.1.meter.limits ≡ c.meter.limits = stays.limits ∙ ap (λ (z : Metering). z.limits) read_meter ∙ m.1 in
+    let code : c.place ≤ u.spot.place = (code_goes (align_of g.options) (rules_of g c) (u.rule, u.spot) (spot_in bytes c) u.code).place in
+    let far : c.place ≤ made.1.place = omega (arith, code, goes.place, behind_place p.padded t.course, stays.place) in
+    let counts : Counts made.0 c made.1 = given_counts p.counted made k c gives refl ev t.charged.counted in
+    subst (λ (z : Given). Steps c z.0 z.1) (sym t.is) (record { place = far; limits = limits; counts = by_event made.0 made.1 counts })
+  where
+    by_event : (x : Option Happening) (n : Config) → Counts x c n → Counts x c (remembered (x, n)).1
+    by_event None n k = k
+    by_event (Some y) n k = k

@@ -1,26 +1,36 @@
 -- Sequential processing of whole streams, worked by hand.
-use Rattle.std.proofs.Common.{◌≡◌, ℕ, zero, suc, ◌∷◌, [], List, true, false, Option, Some, None, refl, sym, ap, ◌∙◌}
+use Rattle.std.proofs.Common.{◌≡◌, ℕ, zero, suc, Bool, true, false, ◌∷◌, [], List, Option, Some, None, map, refl, sym, ap, ◌∙◌}
 use Rattle.std.specs.Prelude.{codes}
 use Rattle.exi_bits.specs.declared.fault.Kind.{Kind}
 use Rattle.exi_bits.specs.declared.fault.Kind.TheVariants as kind
 use Rattle.exi_bits.specs.Bits.{bits, le_value, number_at, number_bits, value_of}
 use Rattle.exi_bits.specs.Repeat.{times}
-use Rattle.exi_bits.specs.Unsigned.{field_at, groups_at, narrow_groups_at, below_at, unsigned_at}
+use Rattle.exi_bits.specs.Unsigned.{below_at, field_at, groups_at, narrow_groups_at, unsigned_at}
 use Rattle.exi_bits.specs.Widths.{width_from}
+use Rattle.exi_gram.specs.Books.{Contents, state_of}
 use Rattle.exi_gram.specs.Codes.{code_at, member_at, part_at, second_at}
 use Rattle.exi_gram.specs.Switches.{default_options}
+use Rattle.exi_gram.specs.Wholes.{document, without_schema}
+use Rattle.exi_gram.specs.declared.options.Options.{Options}
 use Rattle.exi_items.specs.Charges.{text_charge}
 use Rattle.exi_meter.specs.Metering.{Bounds, bounds_of, stream_bounds}
 use Rattle.exi_names.specs.Characters.{is_xml_char}
-use Rattle.exi_names.specs.Events.{Happening, at, ch, cm, dt, ed, ee, er, ns, pi, sd, se}
+use Rattle.exi_names.specs.Events.{Happening, at, ch, cm, dt, ed, ee, er, ns, pi, sc, sd, se}
 use Rattle.exi_names.specs.Seen.{name, text}
 use Rattle.exi_names.specs.StartTables.{first_names}
+use Rattle.exi_names.specs.declared.names.QName.{QName}
 use Rattle.exi_text.specs.Literals.{chars_at, code_at as char_code_at, in_set_at}
+use Rattle.exi_typed.specs.Items.{item_at}
 use Rattle.exi_typed.specs.NameValues.{name_value_at}
 use Rattle.exi_typed.specs.Strings.{charged_at, declaration_at, hit_at, indexed_at, known_at, literal_at, local_at, missed_at, name_at, name_under, value_at}
-use Rattle.exi_reader.specs.Configurations.{Config, Setting, body, first_config}
-use Rattle.exi_reader.specs.OneEvent.{any_attribute_at, any_element_at, characters_at, comment_at, declaration_event_at, document_type_at, entity_at, instruction_at, known_attribute_at, known_element_at, one, string_at, type_at}
-use Rattle.exi_reader.specs.Runs.{End, Ending, IsRun, Turn, done, ends, events_of, fault, goes, turn}
+use Rattle.exi_reader.specs.Configurations.{Config, Setting, first_config}
+use Rattle.exi_reader.specs.Contents.{attribute_value_at, both_at}
+use Rattle.exi_reader.specs.OneEvent.{charge_at, followed, one}
+use Rattle.exi_reader.specs.Runs.{IsRun, Turn, ends, events_of, goes, turn}
+use Rattle.exi_reader.specs.declared.end.End.{End}
+use Rattle.exi_reader.specs.declared.end.End.TheVariants as end
+use Rattle.exi_reader.specs.declared.start.Start.{Start}
+use Rattle.exi_reader.specs.declared.start.Start.TheVariants as start
 
 -- the events from a configuration on, over at most so many turns, and the end where it is reached
 pub record Walk : Type 0 where
@@ -35,19 +45,19 @@ abbrev walk_on : Turn → (Config → Walk) → Walk
 walk_on (ends x e) more = in_front x (record { events = []; end = Some e })
 walk_on (goes x next) more = in_front x (more next)
 
-abbrev walk : ℕ → Setting → Config → Walk
-walk zero g c = record { events = []; end = None }
-walk (suc n) g c = walk_on (turn g c) (walk n g)
+abbrev walk : ℕ → Setting → List ℕ → Config → Walk
+walk zero g bytes c = record { events = []; end = None }
+walk (suc n) g bytes c = walk_on (turn g bytes c) (walk n g bytes)
 
--- what was walked to an end is a run with these events and this end
-pub record Walked (g : Setting) (c : Config) (w : Walk) : Type 0 where
+-- ---- what was walked to an end is a run with these events and this end
+pub record Walked (g : Setting) (bytes : List ℕ) (c : Config) (w : Walk) : Type 0 where
   pub turns : List (Option Happening)
   pub end : End
-  pub run : IsRun g c turns end
+  pub run : IsRun g bytes c turns end
   pub same : w ≡ record { events = events_of turns; end = Some end }
 
-pub IsReached : Setting → Config → Walk → Type 0
-IsReached g c w = (e : End) → w.end ≡ Some e → Walked g c w
+pub IsReached : Setting → List ℕ → Config → Walk → Type 0
+IsReached g bytes c w = (e : End) → w.end ≡ Some e → Walked g bytes c w
 
 front_end : (x : Option Happening) (w : Walk) → (in_front x w).end ≡ w.end
 front_end None w = refl
@@ -57,15 +67,15 @@ front_walk : (x : Option Happening) (turns : List (Option Happening)) (how : End
 front_walk None turns how = refl
 front_walk (Some e) turns how = refl
 
-turn_walked : (g : Setting) (c : Config) (t : Turn) (more : Config → Walk) → turn g c ≡ t → ((d : Config) → IsReached g d (more d)) → IsReached g c (walk_on t more)
+turn_walked : (g : Setting) (bytes : List ℕ) (c : Config) (t : Turn) (more : Config → Walk) → turn g bytes c ≡ t → ((d : Config) → IsReached g bytes d (more d)) → IsReached g bytes c (walk_on t more)
 unfolding IsReached
-turn_walked g c (ends x e) more h reached how k = record {
+turn_walked g bytes c (ends x e) more h reached how k = record {
   turns = x ∷ [];
   end = e;
   run = record { before = []; reached = c; leads = refl; event = x; at_end = h; all = refl };
   same = front_walk x [] e;
 }
-turn_walked g c (goes x next) more h reached how k =
+turn_walked g bytes c (goes x next) more h reached how k =
     let w = reached next how (sym (front_end x (more next)) ∙ k) in
     record {
       turns = x ∷ w.turns;
@@ -74,17 +84,26 @@ turn_walked g c (goes x next) more h reached how k =
       same = ap (λ (z : Walk). in_front x z) w.same ∙ front_walk x w.turns w.end;
     }
 
-pub walked : (n : ℕ) (g : Setting) (c : Config) → IsReached g c (walk n g c)
+pub walked : (n : ℕ) (g : Setting) (bytes : List ℕ) (c : Config) → IsReached g bytes c (walk n g bytes c)
 unfolding IsReached
-walked zero g c how k = absurd cc
-walked (suc n) g c how k = turn_walked g c (turn g c) (walk n g) refl (walked n g) how k
+walked zero g bytes c how k = absurd cc
+walked (suc n) g bytes c how k = turn_walked g bytes c (turn g bytes c) (walk n g bytes) refl (walked n g bytes) how k
 
--- behind the header's byte, under the default options
-abbrev default_setting : Setting
-default_setting = record { options = default_options; names = first_names }
+-- ---- words for the streams
+abbrev options : ℕ → Options
+options flags = record default_options { flags = record { 0 = flags } }
 
-abbrev first_of : Setting → List ℕ → Config
-first_of g bytes = first_config g body stream_bounds (record { bytes = bytes; place = 8 })
+-- a book without a schema
+abbrev book : Options → Contents
+book o = record { options = o; schema = without_schema; states = map (state_of o first_names) (document []) ∷ [] }
+
+-- a body behind the header's byte, under these options and limits
+abbrev read : ℕ → Bounds → List ℕ → Walk
+read flags limits bytes = walk 40 (book (options flags)) bytes (first_config (book (options flags)) 8 start.Body limits)
+
+-- a fragment at a byte
+abbrev read_at : ℕ → ℕ → List ℕ → Walk
+read_at flags byte bytes = walk 40 (book (options flags)) bytes (first_config (book (options flags)) 8 (start.Fragment byte) stream_bounds)
 
 abbrev element : List ℕ → Happening
 element local = se (record { uri = []; local = local; prefix = None })
@@ -95,191 +114,163 @@ a = codes "a"
 abbrev b : List ℕ
 b = codes "b"
 
-abbrev wrong : Kind → ℕ → Ending
-wrong k bit = fault (record { kind = k; bit = bit })
+-- the end, and the events, units of text and open elements that were charged
+abbrev done : ℕ → ℕ → ℕ → ℕ → End
+done bit events units deepest = end.Done bit (record { events = events; text = units; deepest = deepest }) None
 
--- under these options
-abbrev switched : ℕ → Setting
-switched flags = record { options = record default_options { flags = record { 0 = flags } }; names = first_names }
+abbrev wrong : Kind → ℕ → ℕ → ℕ → ℕ → End
+wrong k bit events units deepest = end.Fault (record { kind = k; bit = bit }) (record { events = events; text = units; deepest = deepest }) None
 
-abbrev self_contained : Setting
-self_contained = switched 4
+abbrev rooted : Option QName → End → End
+rooted root (end.Done bit tally old) = end.Done bit tally root
+rooted root (end.Fault fault tally old) = end.Fault fault tally root
 
-abbrev byte_aligned : Setting
-byte_aligned = switched 8
+abbrev reached : List Happening → End → Walk
+reached es e = record { events = es; end = Some e }
 
-abbrev prefixed : Setting
-prefixed = switched 128
+abbrev root_in : Option QName → Option End → Option End
+root_in root None = None
+root_in root (Some e) = Some (rooted root e)
 
-abbrev aligned_prefixed : Setting
-aligned_prefixed = switched 136
+abbrev with_root : Option QName → Walk → Walk
+with_root root w = record w { end = root_in root w.end }
 
-abbrev strict : Setting
-strict = switched 1
+-- ---- the streams, each named by what it shows
+pub record Streams : Type 0 where
+  -- an empty element
+  pub empty_element : read 0 stream_bounds (0x80 ∷ 0x40 ∷ 0x98 ∷ 0x40 ∷ []) ≡ reached (sd ∷ element a ∷ ee ∷ ed ∷ []) (done 28 4 1 1)
+  -- an element with a text
+  pub one_text : read 0 stream_bounds (0x80 ∷ 0x40 ∷ 0x98 ∷ 0x70 ∷ 0x37 ∷ 0x80 ∷ []) ≡ reached (sd ∷ element a ∷ ch (text (codes "x")) ∷ ee ∷ ed ∷ []) (done 45 5 2 1)
+  -- four elements of one name; from the second on their productions are learned ones
+  pub four_children : read 0 stream_bounds (0x80 ∷ 0x40 ∷ 0x98 ∷ 0x64 ∷ 0x09 ∷ 0x8B ∷ 0x03 ∷ 0x78 ∷ 0x48 ∷ 0x04 ∷ 0x06 ∷ 0xF2 ∷ 0x00 ∷ 0x6F ∷ 0x40 ∷ 0x06 ∷ 0xF0 ∷ 0x40 ∷ []) ≡ reached (sd ∷ element a ∷ element b ∷ ch (text (codes "x")) ∷ ee ∷ element b ∷ ch (text (codes "y")) ∷ ee ∷ element b ∷ ch (text (codes "z")) ∷ ee ∷ element b ∷ ch (text (codes "x")) ∷ ee ∷ ee ∷ ed ∷ []) (done 138 16 9 2)
+  -- the local name is cut off
+  pub cut_name : read 0 stream_bounds (0x80 ∷ 0x40 ∷ 0x98 ∷ []) ≡ reached (sd ∷ []) (wrong kind.Short 18 2 1 1)
+  -- a whole byte behind the end
+  pub byte_behind : read 0 stream_bounds (0x80 ∷ 0x40 ∷ 0x98 ∷ 0x40 ∷ 0x00 ∷ []) ≡ reached (sd ∷ element a ∷ ee ∷ ed ∷ []) (wrong kind.TrailingBytes 32 4 1 1)
+  -- a hit where no value is
+  pub no_value_there : read 0 stream_bounds (0x80 ∷ 0x40 ∷ 0x98 ∷ 0x70 ∷ 0x00 ∷ []) ≡ reached (sd ∷ element a ∷ []) (wrong kind.BadPlace 36 3 1 1)
+  -- the character 0
+  pub no_xml_character : read 0 stream_bounds (0x80 ∷ 0x40 ∷ 0x80 ∷ 0x00 ∷ []) ≡ reached (sd ∷ []) (wrong kind.BadChar 18 2 1 1)
+  -- the empty element in whole bytes
+  pub in_whole_bytes : read 8 stream_bounds (0x80 ∷ 0x01 ∷ 0x02 ∷ 0x61 ∷ 0x00 ∷ []) ≡ reached (sd ∷ element a ∷ ee ∷ ed ∷ []) (done 40 4 1 1)
+  -- a namespace declaration, whose prefix is that of the element
+  pub with_prefixes : read 128 stream_bounds (0x80 ∷ 0x00 ∷ 0x5D ∷ 0x40 ∷ 0x98 ∷ 0x54 ∷ 0x01 ∷ 0x70 ∷ 0x80 ∷ []) ≡ reached (sd ∷ se (record { uri = codes "u"; local = a; prefix = None }) ∷ ns (codes "u") (codes "p") true ∷ ee ∷ ed ∷ []) (done 68 5 4 1)
+  -- an attribute, and then a learned one with a value that is told by its place among its own
+  pub attributes : read 0 stream_bounds (0x80 ∷ 0x40 ∷ 0x98 ∷ 0x64 ∷ 0x09 ∷ 0x89 ∷ 0x40 ∷ 0x9A ∷ 0xC0 ∷ 0xDD ∷ 0xA4 ∷ 0x80 ∷ 0x28 ∷ 0x00 ∷ 0x80 ∷ []) ≡ reached (sd ∷ se (record { uri = []; local = codes "a"; prefix = None }) ∷ se (record { uri = []; local = codes "b"; prefix = None }) ∷ at (record { uri = []; local = codes "k"; prefix = None }) (text (codes "v")) ∷ ee ∷ se (record { uri = []; local = codes "b"; prefix = None }) ∷ at (record { uri = []; local = codes "k"; prefix = None }) (text (codes "v")) ∷ ee ∷ ee ∷ ed ∷ []) (done 113 10 7 2)
+  -- xsi:type has a name, and is learned once
+  pub types : read 0 stream_bounds (0x80 ∷ 0x40 ∷ 0x98 ∷ 0x5C ∷ 0x02 ∷ 0x81 ∷ 0x3A ∷ 0x10 ∷ 0x0D ∷ 0xC0 ∷ 0x28 ∷ 0x06 ∷ 0x00 ∷ []) ≡ reached (sd ∷ se (record { uri = []; local = codes "a"; prefix = None }) ∷ at (record { uri = codes "http://www.w3.org/2001/XMLSchema-instance"; local = codes "type"; prefix = None }) (name (record { uri = []; local = codes "t"; prefix = None })) ∷ at (record { uri = codes "http://www.w3.org/2001/XMLSchema-instance"; local = codes "type"; prefix = None }) (name (record { uri = []; local = codes "t"; prefix = None })) ∷ at (record { uri = codes "http://www.w3.org/2001/XMLSchema-instance"; local = codes "type"; prefix = None }) (name (record { uri = []; local = codes "t"; prefix = None })) ∷ ee ∷ ed ∷ []) (done 97 7 142 1)
+  -- in a strict stream a type that is not there is at fault, at its first bit
+  pub no_type_there : read 1 stream_bounds (0x80 ∷ 0x40 ∷ 0x98 ∷ 0x5C ∷ 0x02 ∷ 0x81 ∷ 0x3A ∷ 0x00 ∷ []) ≡ reached (sd ∷ se (record { uri = []; local = codes "a"; prefix = None }) ∷ []) (wrong kind.BadType 39 3 48 1)
+  -- xsi:nil has a string
+  pub nil_is_a_string : read 0 stream_bounds (0x80 ∷ 0x40 ∷ 0x98 ∷ 0x5C ∷ 0x00 ∷ 0x06 ∷ 0x63 ∷ 0x00 ∷ []) ≡ reached (sd ∷ se (record { uri = []; local = codes "a"; prefix = None }) ∷ at (record { uri = codes "http://www.w3.org/2001/XMLSchema-instance"; local = codes "nil"; prefix = None }) (text (codes "1")) ∷ ee ∷ ed ∷ []) (done 58 5 46 1)
+  -- comments and processing instructions before, in and after the element
+  pub comments_and_instructions : read 48 stream_bounds (0x80 ∷ 0x80 ∷ 0x58 ∷ 0xC8 ∷ 0x13 ∷ 0x0C ∷ 0x80 ∷ 0xBA ∷ 0x01 ∷ 0xBC ∷ 0x10 ∷ 0x3C ∷ 0xE0 ∷ 0x0B ∷ 0x23 ∷ 0x01 ∷ 0x74 ∷ 0x00 ∷ 0x00 ∷ []) ≡ reached (sd ∷ cm (codes "c") ∷ se (record { uri = []; local = codes "a"; prefix = None }) ∷ pi (codes "t") (codes "x y") ∷ cm (codes "d") ∷ ee ∷ pi (codes "t") [] ∷ ed ∷ []) (done 145 8 8 1)
+  -- a document type and entity references
+  pub document_type : read 64 stream_bounds (0x80 ∷ 0x80 ∷ 0xB0 ∷ 0x80 ∷ 0x00 ∷ 0xB9 ∷ 0x80 ∷ 0x10 ∷ 0x26 ∷ 0x18 ∷ 0x02 ∷ 0xCB ∷ 0x80 ∷ 0x59 ∷ 0x80 ∷ []) ≡ reached (sd ∷ dt (codes "a") [] (codes "s") [] ∷ se (record { uri = []; local = codes "a"; prefix = None }) ∷ er (codes "e") ∷ er (codes "f") ∷ ee ∷ ed ∷ []) (done 115 7 5 1)
+  -- a fragment of two elements, the second by a learned production
+  pub a_fragment : read 2 stream_bounds (0x80 ∷ 0x20 ∷ 0x4C ∷ 0x20 ∷ 0x80 ∷ []) ≡ reached (sd ∷ se (record { uri = []; local = codes "a"; prefix = None }) ∷ ee ∷ se (record { uri = []; local = codes "a"; prefix = None }) ∷ ee ∷ ed ∷ []) (done 34 6 2 1)
+  -- a local name that is spelled out again goes on as its least place
+  pub second_places : read 0 stream_bounds (0x80 ∷ 0x40 ∷ 0x98 ∷ 0x64 ∷ 0x09 ∷ 0x8B ∷ 0x03 ∷ 0x78 ∷ 0x48 ∷ 0x13 ∷ 0x10 ∷ 0x01 ∷ 0x10 ∷ 0x08 ∷ 0x02 ∷ 0x80 ∷ []) ≡ reached (sd ∷ se (record { uri = []; local = codes "a"; prefix = None }) ∷ se (record { uri = []; local = codes "b"; prefix = None }) ∷ ch (text (codes "x")) ∷ ee ∷ se (record { uri = []; local = codes "b"; prefix = None }) ∷ ch (text (codes "x")) ∷ ee ∷ se (record { uri = []; local = codes "b"; prefix = None }) ∷ ch (text (codes "x")) ∷ ee ∷ ee ∷ ed ∷ []) (done 122 13 7 2)
+  -- the empty value is not added
+  pub empty_value : read 0 stream_bounds (0x80 ∷ 0x40 ∷ 0x98 ∷ 0x70 ∷ 0x2C ∷ 0x00 ∷ []) ≡ reached (sd ∷ se (record { uri = []; local = codes "a"; prefix = None }) ∷ ch (text []) ∷ []) (wrong kind.BadPlace 46 4 1 1)
+  -- with prefixes five productions are told apart by three bits, of which 111 is none
+  pub no_code : read 128 stream_bounds (0x80 ∷ 0x40 ∷ 0x98 ∷ 0x78 ∷ []) ≡ reached (sd ∷ se (record { uri = []; local = codes "a"; prefix = Some [] }) ∷ []) (wrong kind.NoCode 26 2 1 1)
+  -- the limit of text has the first bit of the event
+  pub too_much_text : read 0 (bounds_of 10 2 10) (0x80 ∷ 0x41 ∷ 0x18 ∷ 0x58 ∷ 0x98 ∷ 0xC0 ∷ []) ≡ reached (sd ∷ []) (wrong kind.TextLimit 8 2 0 1)
+  -- the limit of events has the first bit of the code
+  pub too_many_events : read 0 (bounds_of 2 10 10) (0x80 ∷ 0x40 ∷ 0x98 ∷ 0x40 ∷ []) ≡ reached (sd ∷ se (record { uri = []; local = codes "a"; prefix = None }) ∷ []) (wrong kind.EventLimit 26 2 1 1)
+  -- the limit of depth comes before the name
+  pub too_deep : read 0 (bounds_of 10 10 1) (0x80 ∷ 0x40 ∷ 0x98 ∷ 0x60 ∷ []) ≡ reached (sd ∷ se (record { uri = []; local = codes "a"; prefix = None }) ∷ []) (wrong kind.DepthLimit 26 3 1 1)
+  -- names whose URI has no prefix yet, two, and one
+  pub prefixes_by_place : read 128 stream_bounds (0x80 ∷ 0x00 ∷ 0x5D ∷ 0x40 ∷ 0x98 ∷ 0x54 ∷ 0x01 ∷ 0x70 ∷ 0xA8 ∷ 0x01 ∷ 0x71 ∷ 0x38 ∷ 0x04 ∷ 0xC7 ∷ 0x24 ∷ 0x09 ∷ 0xAC ∷ 0x0A ∷ 0x00 ∷ []) ≡ reached (sd ∷ se (record { uri = codes "u"; local = codes "a"; prefix = None }) ∷ ns (codes "u") (codes "p") true ∷ ns (codes "u") (codes "q") false ∷ se (record { uri = codes "u"; local = codes "c"; prefix = Some (codes "q") }) ∷ at (record { uri = []; local = codes "k"; prefix = Some [] }) (text []) ∷ ee ∷ ee ∷ ed ∷ []) (done 147 9 10 2)
+  -- in whole bytes a number may be too large for its bits
+  pub number_too_large : read 8 stream_bounds (0x80 ∷ 0x04 ∷ []) ≡ reached (sd ∷ []) (wrong kind.BadPlace 8 2 0 1)
+  -- in whole bytes the flag of a declaration may be neither 0 nor 1
+  pub flag_too_large : read 136 stream_bounds (0x80 ∷ 0x01 ∷ 0x02 ∷ 0x61 ∷ 0x02 ∷ 0x01 ∷ 0x01 ∷ 0x02 ∷ []) ≡ reached (sd ∷ se (record { uri = []; local = codes "a"; prefix = Some [] }) ∷ []) (wrong kind.BadPlace 56 3 1 1)
+  -- a URI that is spelled out again goes on as its least place, whose local names are found
+  pub second_uri : read 0 stream_bounds (0x80 ∷ 0x00 ∷ 0x5D ∷ 0x40 ∷ 0x98 ∷ 0x60 ∷ 0x02 ∷ 0xEA ∷ 0x01 ∷ 0x50 ∷ 0x27 ∷ 0xA0 ∷ []) ≡ reached (sd ∷ se (record { uri = codes "u"; local = codes "a"; prefix = None }) ∷ se (record { uri = codes "u"; local = codes "a"; prefix = None }) ∷ []) (wrong kind.Short 85 4 43 2)
+  -- elements of one name learn together, also while one is open in another
+  pub nested : read 0 stream_bounds (0x80 ∷ 0x40 ∷ 0x98 ∷ 0x64 ∷ 0x01 ∷ 0x30 ∷ 0x37 ∷ 0x60 ∷ 0x01 ∷ 0x40 ∷ []) ≡ reached (sd ∷ se (record { uri = []; local = codes "a"; prefix = None }) ∷ se (record { uri = []; local = codes "a"; prefix = None }) ∷ se (record { uri = []; local = codes "a"; prefix = None }) ∷ ee ∷ ch (text (codes "v")) ∷ ch (text (codes "v")) ∷ ee ∷ ee ∷ ed ∷ []) (done 74 10 5 3)
+  -- a value that another name added is told among all, and stands not among the own
+  pub other_value : read 0 stream_bounds (0x80 ∷ 0x40 ∷ 0x98 ∷ 0x54 ∷ 0x09 ∷ 0xAC ∷ 0x0D ∷ 0xDB ∷ 0x80 ∷ 0xE0 ∷ 0x00 ∷ []) ≡ reached (sd ∷ se (record { uri = []; local = codes "a"; prefix = None }) ∷ at (record { uri = []; local = codes "k"; prefix = None }) (text (codes "v")) ∷ ch (text (codes "v")) ∷ []) (wrong kind.BadPlace 83 5 4 1)
+  -- of three prefixes no fourth is told
+  pub third_prefix : read 128 stream_bounds (0x80 ∷ 0x00 ∷ 0x5D ∷ 0x40 ∷ 0x98 ∷ 0x54 ∷ 0x01 ∷ 0x70 ∷ 0x28 ∷ 0x01 ∷ 0x71 ∷ 0x28 ∷ 0x00 ∷ 0xB9 ∷ 0x1C ∷ 0x02 ∷ 0x6B ∷ 0xC0 ∷ []) ≡ reached (sd ∷ se (record { uri = codes "u"; local = codes "a"; prefix = None }) ∷ ns (codes "u") (codes "p") false ∷ ns (codes "u") (codes "q") false ∷ ns (codes "u") (codes "r") false ∷ []) (wrong kind.BadPlace 136 6 10 2)
+  -- a document may be a fragment of no element, in whole bytes; a whole byte behind it is at fault
+  pub only_ed : read 10 stream_bounds (0x80 ∷ 0x01 ∷ 0x00 ∷ []) ≡ reached (sd ∷ ed ∷ []) (wrong kind.TrailingBytes 16 2 0 0)
+  -- a comment before the element stays, and the next code is cut off
+  pub cut_behind_comment : read 16 stream_bounds (0x80 ∷ 0x80 ∷ 0x00 ∷ []) ≡ reached (sd ∷ cm [] ∷ []) (wrong kind.Short 20 3 0 1)
+  -- with DT, CM and PI the third part of a code is cut off
+  pub three_parts : read 112 stream_bounds (0x80 ∷ 0xE0 ∷ []) ≡ reached (sd ∷ []) (wrong kind.Short 11 2 0 0)
+  -- a code that is cut off comes before the limit of events
+  pub one_event : read 16 (bounds_of 1 9 9) (0x80 ∷ []) ≡ reached (sd ∷ []) (wrong kind.Short 8 1 0 0)
+  -- an element in an element is too deep, by a learned production
+  pub level_of_nested : read 0 (bounds_of 10 2 2) (0x80 ∷ 0x40 ∷ 0x98 ∷ 0x64 ∷ 0x01 ∷ 0x30 ∷ 0x37 ∷ 0x60 ∷ 0x01 ∷ 0x40 ∷ []) ≡ reached (sd ∷ se (record { uri = []; local = codes "a"; prefix = None }) ∷ se (record { uri = []; local = codes "a"; prefix = None }) ∷ []) (wrong kind.DepthLimit 38 4 2 2)
+  -- a comment charges its length before its characters
+  pub text_of_comment : read 16 (bounds_of 9 3 9) (0x80 ∷ 0x82 ∷ 0x00 ∷ []) ≡ reached (sd ∷ []) (wrong kind.TextLimit 8 2 0 0)
+  -- a value of another element is not among the own
+  pub other_element_value : read 0 stream_bounds (0x80 ∷ 0x40 ∷ 0x98 ∷ 0x70 ∷ 0x37 ∷ 0x89 ∷ 0x02 ∷ 0x62 ∷ 0xC0 ∷ 0x00 ∷ []) ≡ reached (sd ∷ se (record { uri = []; local = codes "a"; prefix = None }) ∷ ch (text (codes "x")) ∷ se (record { uri = []; local = codes "b"; prefix = None }) ∷ []) (wrong kind.BadPlace 74 5 3 2)
+  -- a comment in the start tag goes to the content
+  pub comment_inside : read 16 stream_bounds (0x80 ∷ 0x20 ∷ 0x4C ∷ 0x30 ∷ 0x00 ∷ []) ≡ reached (sd ∷ se (record { uri = []; local = codes "a"; prefix = None }) ∷ cm [] ∷ ee ∷ ed ∷ []) (done 40 5 1 1)
+  -- a URI has local names of its own
+  pub own_uri : read 4 stream_bounds (0x80 ∷ 0x00 ∷ 0x00 ∷ 0x98 ∷ 0x8B ∷ 0x00 ∷ 0x90 ∷ 0xA6 ∷ 0x38 ∷ []) ≡ reached (sd ∷ se (record { uri = []; local = codes "b"; prefix = None }) ∷ []) (wrong kind.Short 68 3 56 1)
+  -- an element that is self-contained: the fragment begins at a whole byte, with SD, SE and ED of its own
+  pub self_contained : read 4 stream_bounds (0x80 ∷ 0x40 ∷ 0x98 ∷ 0x5A ∷ 0x04 ∷ 0xC4 ∷ 0x80 ∷ 0x20 ∷ 0x4C ∷ 0x42 ∷ 0x00 ∷ []) ≡ reached (sd ∷ se (record { uri = []; local = codes "a"; prefix = None }) ∷ se (record { uri = []; local = codes "b"; prefix = None }) ∷ sc 7 ∷ ee ∷ ee ∷ ed ∷ []) (done 81 7 3 2)
+  -- the fragment begins with another element
+  pub other_root : read 4 stream_bounds (0x80 ∷ 0x40 ∷ 0x98 ∷ 0x5A ∷ 0x04 ∷ 0xC4 ∷ 0x80 ∷ 0x20 ∷ 0x4C ∷ 0x62 ∷ 0x00 ∷ []) ≡ reached (sd ∷ se (record { uri = []; local = codes "a"; prefix = None }) ∷ se (record { uri = []; local = codes "b"; prefix = None }) ∷ sc 7 ∷ []) (wrong kind.ScRoot 56 4 3 2)
+  -- the name of the fragment's element is cut off
+  pub cut_fragment : read 4 stream_bounds (0x80 ∷ 0x40 ∷ 0x98 ∷ 0x5A ∷ 0x04 ∷ 0xC4 ∷ 0x80 ∷ 0x20 ∷ 0x4C ∷ []) ≡ reached (sd ∷ se (record { uri = []; local = codes "a"; prefix = None }) ∷ se (record { uri = []; local = codes "b"; prefix = None }) ∷ sc 7 ∷ []) (wrong kind.Short 67 4 3 2)
+  -- the fragment's own events are not counted, and its EE is
+  pub events_in_fragment : read 4 (bounds_of 4 100 100) (0x80 ∷ 0x40 ∷ 0x98 ∷ 0x5A ∷ 0x04 ∷ 0xC4 ∷ 0x80 ∷ 0x20 ∷ 0x4C ∷ 0x42 ∷ 0x00 ∷ []) ≡ reached (sd ∷ se (record { uri = []; local = codes "a"; prefix = None }) ∷ se (record { uri = []; local = codes "b"; prefix = None }) ∷ sc 7 ∷ []) (wrong kind.EventLimit 75 4 3 2)
+  -- a fragment that is read by itself ends at the next whole byte, whatever follows, with the root
+  pub alone : read_at 4 7 (0x80 ∷ 0x40 ∷ 0x98 ∷ 0x5A ∷ 0x04 ∷ 0xC4 ∷ 0x80 ∷ 0x20 ∷ 0x4C ∷ 0x42 ∷ 0x00 ∷ []) ≡ with_root (Some (record { uri = []; local = codes "b"; prefix = None })) (reached (ee ∷ []) (done 80 1 1 0))
+  -- a comment in the place of its element is at fault at its first byte, once it is read
+  pub alone_comment : read_at 22 1 (0x80 ∷ 0x68 ∷ []) ≡ with_root (None) (reached ([]) (wrong kind.ScRoot 8 0 0 0))
 
-abbrev fragments : Setting
-fragments = switched 2
-
-abbrev commented : Setting
-commented = switched 48
-
-abbrev with_dtd : Setting
-with_dtd = switched 64
-
--- under these limits
-abbrev limited : Setting → Bounds → List ℕ → Config
-limited g limits bytes = first_config g body limits (record { bytes = bytes; place = 8 })
-
--- the events, the end, and the events, units of text and open elements that were charged
-abbrev reached : List Happening → Ending → ℕ → ℕ → ℕ → Walk
-reached es how events units deepest = record { events = es; end = Some (record { how = how; tally = record { events = events; text = units; deepest = deepest }; root = None }) }
-
--- an empty element
-empty_element : walk 40 default_setting (first_of default_setting (0x80 ∷ 0x40 ∷ 0x98 ∷ 0x40 ∷ [])) ≡ reached (sd ∷ element a ∷ ee ∷ ed ∷ []) (done 28) 4 1 1
-unfolding one any_element_at known_element_at characters_at any_attribute_at known_attribute_at declaration_event_at comment_at instruction_at document_type_at entity_at string_at type_at name_value_at code_at second_at member_at part_at name_at name_under known_at local_at indexed_at literal_at missed_at hit_at charged_at value_at declaration_at chars_at in_set_at char_code_at times is_xml_char text_charge below_at field_at unsigned_at narrow_groups_at groups_at number_at value_of bits number_bits le_value width_from
-empty_element = refl
-
--- an element with a text
-one_text : walk 40 default_setting (first_of default_setting (0x80 ∷ 0x40 ∷ 0x98 ∷ 0x70 ∷ 0x37 ∷ 0x80 ∷ [])) ≡ reached (sd ∷ element a ∷ ch (text (codes "x")) ∷ ee ∷ ed ∷ []) (done 45) 5 2 1
-unfolding one any_element_at known_element_at characters_at any_attribute_at known_attribute_at declaration_event_at comment_at instruction_at document_type_at entity_at string_at type_at name_value_at code_at second_at member_at part_at name_at name_under known_at local_at indexed_at literal_at missed_at hit_at charged_at value_at declaration_at chars_at in_set_at char_code_at times is_xml_char text_charge below_at field_at unsigned_at narrow_groups_at groups_at number_at value_of bits number_bits le_value width_from
-one_text = refl
-
--- four elements of one name; from the second on their productions are learned ones
-four_children : walk 40 default_setting (first_of default_setting (0x80 ∷ 0x40 ∷ 0x98 ∷ 0x64 ∷ 0x09 ∷ 0x8B ∷ 0x03 ∷ 0x78 ∷ 0x48 ∷ 0x04 ∷ 0x06 ∷ 0xF2 ∷ 0x00 ∷ 0x6F ∷ 0x40 ∷ 0x06 ∷ 0xF0 ∷ 0x40 ∷ [])) ≡ reached (sd ∷ element a ∷ element b ∷ ch (text (codes "x")) ∷ ee ∷ element b ∷ ch (text (codes "y")) ∷ ee ∷ element b ∷ ch (text (codes "z")) ∷ ee ∷ element b ∷ ch (text (codes "x")) ∷ ee ∷ ee ∷ ed ∷ []) (done 138) 16 9 2
-unfolding one any_element_at known_element_at characters_at any_attribute_at known_attribute_at declaration_event_at comment_at instruction_at document_type_at entity_at string_at type_at name_value_at code_at second_at member_at part_at name_at name_under known_at local_at indexed_at literal_at missed_at hit_at charged_at value_at declaration_at chars_at in_set_at char_code_at times is_xml_char text_charge below_at field_at unsigned_at narrow_groups_at groups_at number_at value_of bits number_bits le_value width_from
-four_children = refl
-
--- the local name is cut off
-cut_name : walk 40 default_setting (first_of default_setting (0x80 ∷ 0x40 ∷ 0x98 ∷ [])) ≡ reached (sd ∷ []) (wrong kind.Short 18) 2 1 1
-unfolding one any_element_at known_element_at characters_at any_attribute_at known_attribute_at declaration_event_at comment_at instruction_at document_type_at entity_at string_at type_at name_value_at code_at second_at member_at part_at name_at name_under known_at local_at indexed_at literal_at missed_at hit_at charged_at value_at declaration_at chars_at in_set_at char_code_at times is_xml_char text_charge below_at field_at unsigned_at narrow_groups_at groups_at number_at value_of bits number_bits le_value width_from
-cut_name = refl
-
--- a whole byte behind the end
-byte_behind : walk 40 default_setting (first_of default_setting (0x80 ∷ 0x40 ∷ 0x98 ∷ 0x40 ∷ 0x00 ∷ [])) ≡ reached (sd ∷ element a ∷ ee ∷ ed ∷ []) (wrong kind.TrailingBytes 32) 4 1 1
-unfolding one any_element_at known_element_at characters_at any_attribute_at known_attribute_at declaration_event_at comment_at instruction_at document_type_at entity_at string_at type_at name_value_at code_at second_at member_at part_at name_at name_under known_at local_at indexed_at literal_at missed_at hit_at charged_at value_at declaration_at chars_at in_set_at char_code_at times is_xml_char text_charge below_at field_at unsigned_at narrow_groups_at groups_at number_at value_of bits number_bits le_value width_from
-byte_behind = refl
-
--- a hit where no value is
-no_value_there : walk 40 default_setting (first_of default_setting (0x80 ∷ 0x40 ∷ 0x98 ∷ 0x70 ∷ 0x00 ∷ [])) ≡ reached (sd ∷ element a ∷ []) (wrong kind.BadPlace 36) 3 1 1
-unfolding one any_element_at known_element_at characters_at any_attribute_at known_attribute_at declaration_event_at comment_at instruction_at document_type_at entity_at string_at type_at name_value_at code_at second_at member_at part_at name_at name_under known_at local_at indexed_at literal_at missed_at hit_at charged_at value_at declaration_at chars_at in_set_at char_code_at times is_xml_char text_charge below_at field_at unsigned_at narrow_groups_at groups_at number_at value_of bits number_bits le_value width_from
-no_value_there = refl
-
--- the character 0
-no_xml_character : walk 40 default_setting (first_of default_setting (0x80 ∷ 0x40 ∷ 0x80 ∷ 0x00 ∷ [])) ≡ reached (sd ∷ []) (wrong kind.BadChar 18) 2 1 1
-unfolding one any_element_at known_element_at characters_at any_attribute_at known_attribute_at declaration_event_at comment_at instruction_at document_type_at entity_at string_at type_at name_value_at code_at second_at member_at part_at name_at name_under known_at local_at indexed_at literal_at missed_at hit_at charged_at value_at declaration_at chars_at in_set_at char_code_at times is_xml_char text_charge below_at field_at unsigned_at narrow_groups_at groups_at number_at value_of bits number_bits le_value width_from
-no_xml_character = refl
-
--- the empty element in whole bytes
-in_whole_bytes : walk 40 byte_aligned (first_of byte_aligned (0x80 ∷ 0x01 ∷ 0x02 ∷ 0x61 ∷ 0x00 ∷ [])) ≡ reached (sd ∷ element a ∷ ee ∷ ed ∷ []) (done 40) 4 1 1
-unfolding one any_element_at known_element_at characters_at any_attribute_at known_attribute_at declaration_event_at comment_at instruction_at document_type_at entity_at string_at type_at name_value_at code_at second_at member_at part_at name_at name_under known_at local_at indexed_at literal_at missed_at hit_at charged_at value_at declaration_at chars_at in_set_at char_code_at times is_xml_char text_charge below_at field_at unsigned_at narrow_groups_at groups_at number_at value_of bits number_bits le_value width_from
-in_whole_bytes = refl
-
--- a namespace declaration, whose prefix is that of the element
-with_prefixes : walk 40 prefixed (first_of prefixed (0x80 ∷ 0x00 ∷ 0x5D ∷ 0x40 ∷ 0x98 ∷ 0x54 ∷ 0x01 ∷ 0x70 ∷ 0x80 ∷ [])) ≡ reached (sd ∷ se (record { uri = codes "u"; local = a; prefix = None }) ∷ ns (codes "u") (codes "p") true ∷ ee ∷ ed ∷ []) (done 68) 5 4 1
-unfolding one any_element_at known_element_at characters_at any_attribute_at known_attribute_at declaration_event_at comment_at instruction_at document_type_at entity_at string_at type_at name_value_at code_at second_at member_at part_at name_at name_under known_at local_at indexed_at literal_at missed_at hit_at charged_at value_at declaration_at chars_at in_set_at char_code_at times is_xml_char text_charge below_at field_at unsigned_at narrow_groups_at groups_at number_at value_of bits number_bits le_value width_from
-with_prefixes = refl
-
--- SC is not read yet: its code is the three bits from 47 on
-no_fragment_yet : walk 40 self_contained (first_of self_contained (0x80 ∷ 0x40 ∷ 0x98 ∷ 0x5A ∷ 0x04 ∷ 0xC4 ∷ 0x80 ∷ 0x20 ∷ 0x4C ∷ 0x42 ∷ 0x00 ∷ [])) ≡ reached (sd ∷ element a ∷ element b ∷ []) (wrong kind.ScPlace 47) 4 2 2
-unfolding one any_element_at known_element_at characters_at any_attribute_at known_attribute_at declaration_event_at comment_at instruction_at document_type_at entity_at string_at type_at name_value_at code_at second_at member_at part_at name_at name_under known_at local_at indexed_at literal_at missed_at hit_at charged_at value_at declaration_at chars_at in_set_at char_code_at times is_xml_char text_charge below_at field_at unsigned_at narrow_groups_at groups_at number_at value_of bits number_bits le_value width_from
-no_fragment_yet = refl
-
--- an attribute, and then a learned one with a value that is told by its place among its own
-attributes : walk 40 default_setting (limited default_setting stream_bounds (0x80 ∷ 0x40 ∷ 0x98 ∷ 0x64 ∷ 0x09 ∷ 0x89 ∷ 0x40 ∷ 0x9A ∷ 0xC0 ∷ 0xDD ∷ 0xA4 ∷ 0x80 ∷ 0x28 ∷ 0x00 ∷ 0x80 ∷ [])) ≡ reached (sd ∷ se (record { uri = []; local = codes "a"; prefix = None }) ∷ se (record { uri = []; local = codes "b"; prefix = None }) ∷ at (record { uri = []; local = codes "k"; prefix = None }) (text (codes "v")) ∷ ee ∷ se (record { uri = []; local = codes "b"; prefix = None }) ∷ at (record { uri = []; local = codes "k"; prefix = None }) (text (codes "v")) ∷ ee ∷ ee ∷ ed ∷ []) (done 113) 10 7 2
-unfolding one any_element_at known_element_at characters_at any_attribute_at known_attribute_at declaration_event_at comment_at instruction_at document_type_at entity_at string_at type_at name_value_at code_at second_at member_at part_at name_at name_under known_at local_at indexed_at literal_at missed_at hit_at charged_at value_at declaration_at chars_at in_set_at char_code_at times is_xml_char text_charge below_at field_at unsigned_at narrow_groups_at groups_at number_at value_of bits number_bits le_value width_from
-attributes = refl
-
--- xsi:type has a name, and is learned once
-types : walk 40 default_setting (limited default_setting stream_bounds (0x80 ∷ 0x40 ∷ 0x98 ∷ 0x5C ∷ 0x02 ∷ 0x81 ∷ 0x3A ∷ 0x10 ∷ 0x0D ∷ 0xC0 ∷ 0x28 ∷ 0x06 ∷ 0x00 ∷ [])) ≡ reached (sd ∷ se (record { uri = []; local = codes "a"; prefix = None }) ∷ at (record { uri = codes "http://www.w3.org/2001/XMLSchema-instance"; local = codes "type"; prefix = None }) (name (record { uri = []; local = codes "t"; prefix = None })) ∷ at (record { uri = codes "http://www.w3.org/2001/XMLSchema-instance"; local = codes "type"; prefix = None }) (name (record { uri = []; local = codes "t"; prefix = None })) ∷ at (record { uri = codes "http://www.w3.org/2001/XMLSchema-instance"; local = codes "type"; prefix = None }) (name (record { uri = []; local = codes "t"; prefix = None })) ∷ ee ∷ ed ∷ []) (done 97) 7 142 1
-unfolding one any_element_at known_element_at characters_at any_attribute_at known_attribute_at declaration_event_at comment_at instruction_at document_type_at entity_at string_at type_at name_value_at code_at second_at member_at part_at name_at name_under known_at local_at indexed_at literal_at missed_at hit_at charged_at value_at declaration_at chars_at in_set_at char_code_at times is_xml_char text_charge below_at field_at unsigned_at narrow_groups_at groups_at number_at value_of bits number_bits le_value width_from
-types = refl
-
--- in a strict stream a type that is not there is at fault, at its first bit
-no_type_there : walk 40 strict (limited strict stream_bounds (0x80 ∷ 0x40 ∷ 0x98 ∷ 0x5C ∷ 0x02 ∷ 0x81 ∷ 0x3A ∷ 0x00 ∷ [])) ≡ reached (sd ∷ se (record { uri = []; local = codes "a"; prefix = None }) ∷ []) (wrong kind.BadType 39) 3 48 1
-unfolding one any_element_at known_element_at characters_at any_attribute_at known_attribute_at declaration_event_at comment_at instruction_at document_type_at entity_at string_at type_at name_value_at code_at second_at member_at part_at name_at name_under known_at local_at indexed_at literal_at missed_at hit_at charged_at value_at declaration_at chars_at in_set_at char_code_at times is_xml_char text_charge below_at field_at unsigned_at narrow_groups_at groups_at number_at value_of bits number_bits le_value width_from
-no_type_there = refl
-
--- xsi:nil has a string
-nil_is_a_string : walk 40 default_setting (limited default_setting stream_bounds (0x80 ∷ 0x40 ∷ 0x98 ∷ 0x5C ∷ 0x00 ∷ 0x06 ∷ 0x63 ∷ 0x00 ∷ [])) ≡ reached (sd ∷ se (record { uri = []; local = codes "a"; prefix = None }) ∷ at (record { uri = codes "http://www.w3.org/2001/XMLSchema-instance"; local = codes "nil"; prefix = None }) (text (codes "1")) ∷ ee ∷ ed ∷ []) (done 58) 5 46 1
-unfolding one any_element_at known_element_at characters_at any_attribute_at known_attribute_at declaration_event_at comment_at instruction_at document_type_at entity_at string_at type_at name_value_at code_at second_at member_at part_at name_at name_under known_at local_at indexed_at literal_at missed_at hit_at charged_at value_at declaration_at chars_at in_set_at char_code_at times is_xml_char text_charge below_at field_at unsigned_at narrow_groups_at groups_at number_at value_of bits number_bits le_value width_from
-nil_is_a_string = refl
-
--- comments and processing instructions before, in and after the element
-comments_and_instructions : walk 40 commented (limited commented stream_bounds (0x80 ∷ 0x80 ∷ 0x58 ∷ 0xC8 ∷ 0x13 ∷ 0x0C ∷ 0x80 ∷ 0xBA ∷ 0x01 ∷ 0xBC ∷ 0x10 ∷ 0x3C ∷ 0xE0 ∷ 0x0B ∷ 0x23 ∷ 0x01 ∷ 0x74 ∷ 0x00 ∷ 0x00 ∷ [])) ≡ reached (sd ∷ cm (codes "c") ∷ se (record { uri = []; local = codes "a"; prefix = None }) ∷ pi (codes "t") (codes "x y") ∷ cm (codes "d") ∷ ee ∷ pi (codes "t") [] ∷ ed ∷ []) (done 145) 8 8 1
-unfolding one any_element_at known_element_at characters_at any_attribute_at known_attribute_at declaration_event_at comment_at instruction_at document_type_at entity_at string_at type_at name_value_at code_at second_at member_at part_at name_at name_under known_at local_at indexed_at literal_at missed_at hit_at charged_at value_at declaration_at chars_at in_set_at char_code_at times is_xml_char text_charge below_at field_at unsigned_at narrow_groups_at groups_at number_at value_of bits number_bits le_value width_from
-comments_and_instructions = refl
-
--- a document type and entity references
-document_type : walk 40 with_dtd (limited with_dtd stream_bounds (0x80 ∷ 0x80 ∷ 0xB0 ∷ 0x80 ∷ 0x00 ∷ 0xB9 ∷ 0x80 ∷ 0x10 ∷ 0x26 ∷ 0x18 ∷ 0x02 ∷ 0xCB ∷ 0x80 ∷ 0x59 ∷ 0x80 ∷ [])) ≡ reached (sd ∷ dt (codes "a") [] (codes "s") [] ∷ se (record { uri = []; local = codes "a"; prefix = None }) ∷ er (codes "e") ∷ er (codes "f") ∷ ee ∷ ed ∷ []) (done 115) 7 5 1
-unfolding one any_element_at known_element_at characters_at any_attribute_at known_attribute_at declaration_event_at comment_at instruction_at document_type_at entity_at string_at type_at name_value_at code_at second_at member_at part_at name_at name_under known_at local_at indexed_at literal_at missed_at hit_at charged_at value_at declaration_at chars_at in_set_at char_code_at times is_xml_char text_charge below_at field_at unsigned_at narrow_groups_at groups_at number_at value_of bits number_bits le_value width_from
-document_type = refl
-
--- a fragment of two elements, the second by a learned production
-a_fragment : walk 40 fragments (limited fragments stream_bounds (0x80 ∷ 0x20 ∷ 0x4C ∷ 0x20 ∷ 0x80 ∷ [])) ≡ reached (sd ∷ se (record { uri = []; local = codes "a"; prefix = None }) ∷ ee ∷ se (record { uri = []; local = codes "a"; prefix = None }) ∷ ee ∷ ed ∷ []) (done 34) 6 2 1
-unfolding one any_element_at known_element_at characters_at any_attribute_at known_attribute_at declaration_event_at comment_at instruction_at document_type_at entity_at string_at type_at name_value_at code_at second_at member_at part_at name_at name_under known_at local_at indexed_at literal_at missed_at hit_at charged_at value_at declaration_at chars_at in_set_at char_code_at times is_xml_char text_charge below_at field_at unsigned_at narrow_groups_at groups_at number_at value_of bits number_bits le_value width_from
-a_fragment = refl
-
--- a local name that is spelled out again goes on as its least place
-second_places : walk 40 default_setting (limited default_setting stream_bounds (0x80 ∷ 0x40 ∷ 0x98 ∷ 0x64 ∷ 0x09 ∷ 0x8B ∷ 0x03 ∷ 0x78 ∷ 0x48 ∷ 0x13 ∷ 0x10 ∷ 0x01 ∷ 0x10 ∷ 0x08 ∷ 0x02 ∷ 0x80 ∷ [])) ≡ reached (sd ∷ se (record { uri = []; local = codes "a"; prefix = None }) ∷ se (record { uri = []; local = codes "b"; prefix = None }) ∷ ch (text (codes "x")) ∷ ee ∷ se (record { uri = []; local = codes "b"; prefix = None }) ∷ ch (text (codes "x")) ∷ ee ∷ se (record { uri = []; local = codes "b"; prefix = None }) ∷ ch (text (codes "x")) ∷ ee ∷ ee ∷ ed ∷ []) (done 122) 13 7 2
-unfolding one any_element_at known_element_at characters_at any_attribute_at known_attribute_at declaration_event_at comment_at instruction_at document_type_at entity_at string_at type_at name_value_at code_at second_at member_at part_at name_at name_under known_at local_at indexed_at literal_at missed_at hit_at charged_at value_at declaration_at chars_at in_set_at char_code_at times is_xml_char text_charge below_at field_at unsigned_at narrow_groups_at groups_at number_at value_of bits number_bits le_value width_from
-second_places = refl
-
--- the empty value is not added
-empty_value : walk 40 default_setting (limited default_setting stream_bounds (0x80 ∷ 0x40 ∷ 0x98 ∷ 0x70 ∷ 0x2C ∷ 0x00 ∷ [])) ≡ reached (sd ∷ se (record { uri = []; local = codes "a"; prefix = None }) ∷ ch (text []) ∷ []) (wrong kind.BadPlace 46) 4 1 1
-unfolding one any_element_at known_element_at characters_at any_attribute_at known_attribute_at declaration_event_at comment_at instruction_at document_type_at entity_at string_at type_at name_value_at code_at second_at member_at part_at name_at name_under known_at local_at indexed_at literal_at missed_at hit_at charged_at value_at declaration_at chars_at in_set_at char_code_at times is_xml_char text_charge below_at field_at unsigned_at narrow_groups_at groups_at number_at value_of bits number_bits le_value width_from
-empty_value = refl
-
--- with prefixes five productions are told apart by three bits, of which 111 is none
-no_code : walk 40 prefixed (limited prefixed stream_bounds (0x80 ∷ 0x40 ∷ 0x98 ∷ 0x78 ∷ [])) ≡ reached (sd ∷ se (record { uri = []; local = codes "a"; prefix = Some [] }) ∷ []) (wrong kind.NoCode 26) 2 1 1
-unfolding one any_element_at known_element_at characters_at any_attribute_at known_attribute_at declaration_event_at comment_at instruction_at document_type_at entity_at string_at type_at name_value_at code_at second_at member_at part_at name_at name_under known_at local_at indexed_at literal_at missed_at hit_at charged_at value_at declaration_at chars_at in_set_at char_code_at times is_xml_char text_charge below_at field_at unsigned_at narrow_groups_at groups_at number_at value_of bits number_bits le_value width_from
-no_code = refl
-
--- the limit of text has the first bit of the event
-too_much_text : walk 40 default_setting (limited default_setting (bounds_of 10 2 10) (0x80 ∷ 0x41 ∷ 0x18 ∷ 0x58 ∷ 0x98 ∷ 0xC0 ∷ [])) ≡ reached (sd ∷ []) (wrong kind.TextLimit 8) 2 0 1
-unfolding one any_element_at known_element_at characters_at any_attribute_at known_attribute_at declaration_event_at comment_at instruction_at document_type_at entity_at string_at type_at name_value_at code_at second_at member_at part_at name_at name_under known_at local_at indexed_at literal_at missed_at hit_at charged_at value_at declaration_at chars_at in_set_at char_code_at times is_xml_char text_charge below_at field_at unsigned_at narrow_groups_at groups_at number_at value_of bits number_bits le_value width_from
-too_much_text = refl
-
--- the limit of events has the first bit of the code
-too_many_events : walk 40 default_setting (limited default_setting (bounds_of 2 10 10) (0x80 ∷ 0x40 ∷ 0x98 ∷ 0x40 ∷ [])) ≡ reached (sd ∷ se (record { uri = []; local = codes "a"; prefix = None }) ∷ []) (wrong kind.EventLimit 26) 2 1 1
-unfolding one any_element_at known_element_at characters_at any_attribute_at known_attribute_at declaration_event_at comment_at instruction_at document_type_at entity_at string_at type_at name_value_at code_at second_at member_at part_at name_at name_under known_at local_at indexed_at literal_at missed_at hit_at charged_at value_at declaration_at chars_at in_set_at char_code_at times is_xml_char text_charge below_at field_at unsigned_at narrow_groups_at groups_at number_at value_of bits number_bits le_value width_from
-too_many_events = refl
-
--- the limit of depth comes before the name
-too_deep : walk 40 default_setting (limited default_setting (bounds_of 10 10 1) (0x80 ∷ 0x40 ∷ 0x98 ∷ 0x60 ∷ [])) ≡ reached (sd ∷ se (record { uri = []; local = codes "a"; prefix = None }) ∷ []) (wrong kind.DepthLimit 26) 3 1 1
-unfolding one any_element_at known_element_at characters_at any_attribute_at known_attribute_at declaration_event_at comment_at instruction_at document_type_at entity_at string_at type_at name_value_at code_at second_at member_at part_at name_at name_under known_at local_at indexed_at literal_at missed_at hit_at charged_at value_at declaration_at chars_at in_set_at char_code_at times is_xml_char text_charge below_at field_at unsigned_at narrow_groups_at groups_at number_at value_of bits number_bits le_value width_from
-too_deep = refl
-
--- names whose URI has no prefix yet, two, and one
-prefixes_by_place : walk 40 prefixed (limited prefixed stream_bounds (0x80 ∷ 0x00 ∷ 0x5D ∷ 0x40 ∷ 0x98 ∷ 0x54 ∷ 0x01 ∷ 0x70 ∷ 0xA8 ∷ 0x01 ∷ 0x71 ∷ 0x38 ∷ 0x04 ∷ 0xC7 ∷ 0x24 ∷ 0x09 ∷ 0xAC ∷ 0x0A ∷ 0x00 ∷ [])) ≡ reached (sd ∷ se (record { uri = codes "u"; local = codes "a"; prefix = None }) ∷ ns (codes "u") (codes "p") true ∷ ns (codes "u") (codes "q") false ∷ se (record { uri = codes "u"; local = codes "c"; prefix = Some (codes "q") }) ∷ at (record { uri = []; local = codes "k"; prefix = Some [] }) (text []) ∷ ee ∷ ee ∷ ed ∷ []) (done 147) 9 10 2
-unfolding one any_element_at known_element_at characters_at any_attribute_at known_attribute_at declaration_event_at comment_at instruction_at document_type_at entity_at string_at type_at name_value_at code_at second_at member_at part_at name_at name_under known_at local_at indexed_at literal_at missed_at hit_at charged_at value_at declaration_at chars_at in_set_at char_code_at times is_xml_char text_charge below_at field_at unsigned_at narrow_groups_at groups_at number_at value_of bits number_bits le_value width_from
-prefixes_by_place = refl
-
--- in whole bytes a number may be too large for its bits
-number_too_large : walk 40 byte_aligned (limited byte_aligned stream_bounds (0x80 ∷ 0x04 ∷ [])) ≡ reached (sd ∷ []) (wrong kind.BadPlace 8) 2 0 1
-unfolding one any_element_at known_element_at characters_at any_attribute_at known_attribute_at declaration_event_at comment_at instruction_at document_type_at entity_at string_at type_at name_value_at code_at second_at member_at part_at name_at name_under known_at local_at indexed_at literal_at missed_at hit_at charged_at value_at declaration_at chars_at in_set_at char_code_at times is_xml_char text_charge below_at field_at unsigned_at narrow_groups_at groups_at number_at value_of bits number_bits le_value width_from
-number_too_large = refl
-
--- in whole bytes the flag of a declaration may be neither 0 nor 1
-flag_too_large : walk 40 aligned_prefixed (limited aligned_prefixed stream_bounds (0x80 ∷ 0x01 ∷ 0x02 ∷ 0x61 ∷ 0x02 ∷ 0x01 ∷ 0x01 ∷ 0x02 ∷ [])) ≡ reached (sd ∷ se (record { uri = []; local = codes "a"; prefix = Some [] }) ∷ []) (wrong kind.BadPlace 56) 3 1 1
-unfolding one any_element_at known_element_at characters_at any_attribute_at known_attribute_at declaration_event_at comment_at instruction_at document_type_at entity_at string_at type_at name_value_at code_at second_at member_at part_at name_at name_under known_at local_at indexed_at literal_at missed_at hit_at charged_at value_at declaration_at chars_at in_set_at char_code_at times is_xml_char text_charge below_at field_at unsigned_at narrow_groups_at groups_at number_at value_of bits number_bits le_value width_from
-flag_too_large = refl
-
--- a URI that is spelled out again goes on as its least place, whose local names are found
-second_uri : walk 40 default_setting (limited default_setting stream_bounds (0x80 ∷ 0x00 ∷ 0x5D ∷ 0x40 ∷ 0x98 ∷ 0x60 ∷ 0x02 ∷ 0xEA ∷ 0x01 ∷ 0x50 ∷ 0x27 ∷ 0xA0 ∷ [])) ≡ reached (sd ∷ se (record { uri = codes "u"; local = codes "a"; prefix = None }) ∷ se (record { uri = codes "u"; local = codes "a"; prefix = None }) ∷ []) (wrong kind.Short 85) 4 43 2
-unfolding one any_element_at known_element_at characters_at any_attribute_at known_attribute_at declaration_event_at comment_at instruction_at document_type_at entity_at string_at type_at name_value_at code_at second_at member_at part_at name_at name_under known_at local_at indexed_at literal_at missed_at hit_at charged_at value_at declaration_at chars_at in_set_at char_code_at times is_xml_char text_charge below_at field_at unsigned_at narrow_groups_at groups_at number_at value_of bits number_bits le_value width_from
-second_uri = refl
-
--- elements of one name learn together, also while one is open in another
-nested : walk 40 default_setting (limited default_setting stream_bounds (0x80 ∷ 0x40 ∷ 0x98 ∷ 0x64 ∷ 0x01 ∷ 0x30 ∷ 0x37 ∷ 0x60 ∷ 0x01 ∷ 0x40 ∷ [])) ≡ reached (sd ∷ se (record { uri = []; local = codes "a"; prefix = None }) ∷ se (record { uri = []; local = codes "a"; prefix = None }) ∷ se (record { uri = []; local = codes "a"; prefix = None }) ∷ ee ∷ ch (text (codes "v")) ∷ ch (text (codes "v")) ∷ ee ∷ ee ∷ ed ∷ []) (done 74) 10 5 3
-unfolding one any_element_at known_element_at characters_at any_attribute_at known_attribute_at declaration_event_at comment_at instruction_at document_type_at entity_at string_at type_at name_value_at code_at second_at member_at part_at name_at name_under known_at local_at indexed_at literal_at missed_at hit_at charged_at value_at declaration_at chars_at in_set_at char_code_at times is_xml_char text_charge below_at field_at unsigned_at narrow_groups_at groups_at number_at value_of bits number_bits le_value width_from
-nested = refl
-
--- a value that another name added is told among all, and stands not among the own
-other_value : walk 40 default_setting (limited default_setting stream_bounds (0x80 ∷ 0x40 ∷ 0x98 ∷ 0x54 ∷ 0x09 ∷ 0xAC ∷ 0x0D ∷ 0xDB ∷ 0x80 ∷ 0xE0 ∷ 0x00 ∷ [])) ≡ reached (sd ∷ se (record { uri = []; local = codes "a"; prefix = None }) ∷ at (record { uri = []; local = codes "k"; prefix = None }) (text (codes "v")) ∷ ch (text (codes "v")) ∷ []) (wrong kind.BadPlace 83) 5 4 1
-unfolding one any_element_at known_element_at characters_at any_attribute_at known_attribute_at declaration_event_at comment_at instruction_at document_type_at entity_at string_at type_at name_value_at code_at second_at member_at part_at name_at name_under known_at local_at indexed_at literal_at missed_at hit_at charged_at value_at declaration_at chars_at in_set_at char_code_at times is_xml_char text_charge below_at field_at unsigned_at narrow_groups_at groups_at number_at value_of bits number_bits le_value width_from
-other_value = refl
-
--- of three prefixes no fourth is told
-third_prefix : walk 40 prefixed (limited prefixed stream_bounds (0x80 ∷ 0x00 ∷ 0x5D ∷ 0x40 ∷ 0x98 ∷ 0x54 ∷ 0x01 ∷ 0x70 ∷ 0x28 ∷ 0x01 ∷ 0x71 ∷ 0x28 ∷ 0x00 ∷ 0xB9 ∷ 0x1C ∷ 0x02 ∷ 0x6B ∷ 0xC0 ∷ [])) ≡ reached (sd ∷ se (record { uri = codes "u"; local = codes "a"; prefix = None }) ∷ ns (codes "u") (codes "p") false ∷ ns (codes "u") (codes "q") false ∷ ns (codes "u") (codes "r") false ∷ []) (wrong kind.BadPlace 136) 6 10 2
-unfolding one any_element_at known_element_at characters_at any_attribute_at known_attribute_at declaration_event_at comment_at instruction_at document_type_at entity_at string_at type_at name_value_at code_at second_at member_at part_at name_at name_under known_at local_at indexed_at literal_at missed_at hit_at charged_at value_at declaration_at chars_at in_set_at char_code_at times is_xml_char text_charge below_at field_at unsigned_at narrow_groups_at groups_at number_at value_of bits number_bits le_value width_from
-third_prefix = refl
+streams : Streams
+unfolding one followed charge_at item_at both_at attribute_value_at declaration_at name_value_at name_at name_under known_at local_at indexed_at literal_at missed_at hit_at charged_at value_at chars_at in_set_at char_code_at is_xml_char text_charge code_at second_at member_at part_at times below_at field_at unsigned_at narrow_groups_at groups_at number_at value_of bits number_bits le_value width_from
+streams = record {
+  empty_element = refl;
+  one_text = refl;
+  four_children = refl;
+  cut_name = refl;
+  byte_behind = refl;
+  no_value_there = refl;
+  no_xml_character = refl;
+  in_whole_bytes = refl;
+  with_prefixes = refl;
+  attributes = refl;
+  types = refl;
+  no_type_there = refl;
+  nil_is_a_string = refl;
+  comments_and_instructions = refl;
+  document_type = refl;
+  a_fragment = refl;
+  second_places = refl;
+  empty_value = refl;
+  no_code = refl;
+  too_much_text = refl;
+  too_many_events = refl;
+  too_deep = refl;
+  prefixes_by_place = refl;
+  number_too_large = refl;
+  flag_too_large = refl;
+  second_uri = refl;
+  nested = refl;
+  other_value = refl;
+  third_prefix = refl;
+  only_ed = refl;
+  cut_behind_comment = refl;
+  three_parts = refl;
+  one_event = refl;
+  level_of_nested = refl;
+  text_of_comment = refl;
+  other_element_value = refl;
+  comment_inside = refl;
+  own_uri = refl;
+  self_contained = refl;
+  other_root = refl;
+  cut_fragment = refl;
+  events_in_fragment = refl;
+  alone = refl;
+  alone_comment = refl;
+}

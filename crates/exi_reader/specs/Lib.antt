@@ -1,6 +1,13 @@
+pub mod Changes
 pub mod Configurations
+pub mod Contents
+pub mod Fragments
 pub mod Laws
+pub mod Metered
 pub mod OneEvent
+pub mod Plans
+pub mod Rules
 pub mod Runs
 pub mod Sound
 pub mod Spelled
+pub mod Splices

@@ -1,7 +1,8 @@
 //! What holds of sequential processing. Each law is a function that does nothing: what it ensures is
 //! the law.
 
-ghost use Rattle.exi_reader.specs.Laws.{AFaultEnds, ARunIsThere, ASequenceIsThere, EndsAtEd, FewTurns, IsFrontOfRun, LimitsAreKept, NeverBack, OneRun, OneSequence, OneStepOrOneFault};
+ghost use Rattle.exi_reader.specs.Laws.{AFaultEnds, ARunIsThere, ASequenceIsThere, EndIs, EndsAtEd, FewTurns, IsFrontOfRun, LimitsAreKept, NeverBack, OneRun, OneSequence, OneStepOrOneFault};
+ghost use Rattle.exi_reader.specs.Metered.{OneIsMetered};
 ghost use Rattle.exi_reader.specs.Spelled.{OneAtMost, OneIsSpelled, SpelledIsOne};
 ghost use Rattle.exi_reader.specs.Sound.{CodesFit, FirstIsSound, ReachedAreSound, StepsKeepSound};
 
@@ -10,7 +11,7 @@ pub fn one_step_or_one_fault()
     ensures law { OneStepOrOneFault }
 {}
 
-/// A step stays in the same bytes and never goes backwards.
+/// A step never goes backwards.
 pub fn never_back()
     ensures law { NeverBack }
 {}
@@ -35,17 +36,18 @@ pub fn a_fault_ends()
     ensures law { AFaultEnds }
 {}
 
-/// A body has a list of events, an end and a number of turns.
+/// A body or a fragment has a list of events, an end and a number of turns.
 pub fn a_sequence_is_there()
     ensures law { ASequenceIsThere }
 {}
 
-/// A body has one list of events, one end and one number of turns at most.
+/// A body or a fragment has one list of events, one end and one number of turns at most.
 pub fn one_sequence()
     ensures law { OneSequence }
 {}
 
-/// Reading a body takes at most one turn more than its limit of events.
+/// Reading takes at most one turn more than its limit of events, and three more for each fragment of a
+/// self-contained element.
 pub fn few_turns()
     ensures law { FewTurns }
 {}
@@ -66,12 +68,12 @@ pub fn reached_are_sound()
     ensures law { ReachedAreSound }
 {}
 
-/// What is read as one event is spelled so, and a byte-aligned stream stays in whole bytes.
+/// What is read as one event is spelled so, and the next configuration stands in the same bytes.
 pub fn one_is_spelled()
     ensures law { OneIsSpelled }
 {}
 
-/// One event that is spelled so is read, whatever follows.
+/// One event that is spelled so is read, whatever the bytes are that have it.
 pub fn spelled_is_one()
     ensures law { SpelledIsOne }
 {}
@@ -87,7 +89,13 @@ pub fn codes_fit()
     ensures law { CodesFit }
 {}
 
-/// Reading that does not fail ends with ED.
+/// The last event of a body is ED, behind which its end is done or a whole byte more is at fault; or
+/// the end is a fault.
+pub fn end_is()
+    ensures law { EndIs }
+{}
+
+/// Reading of a body that does not fail ends with ED.
 pub fn ends_at_ed()
     ensures law { EndsAtEd }
 {}
@@ -95,4 +103,9 @@ pub fn ends_at_ed()
 /// Nothing that is charged passes its limit, wherever reading ends.
 pub fn limits_are_kept()
     ensures law { LimitsAreKept }
+{}
+
+/// One event charges a list of dues, whatever the meter is, and goes on without the meter.
+pub fn one_is_metered()
+    ensures law { OneIsMetered }
 {}

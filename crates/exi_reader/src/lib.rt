@@ -19,4 +19,11 @@
 //! first fault, and the run. [`laws`] has what is proved of them.
 #![tactic(auto)]
 
+mod end;
+mod frames;
 pub mod laws;
+mod start;
+
+pub use end::End;
+pub use frames::{Element, Outer, State};
+pub use start::Start;

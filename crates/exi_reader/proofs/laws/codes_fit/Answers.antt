@@ -1,4 +1,4 @@
-use Rattle.exi_reader.proofs.Soundness.{codes_fit}
+use Rattle.exi_reader.proofs.Fitting.{codes_fit}
 use Rattle.exi_reader.proofs.laws.codes_fit.Goals as goal
 
 pub returns : goal.returns
