@@ -2,3 +2,12 @@ pub mod Holds
 pub mod Escapes
 pub mod Signs
 pub mod Counts
+pub mod Texts
+pub mod Plain
+pub mod Scalars
+pub mod Moments
+pub mod Spelled
+pub mod Back
+pub mod Told
+pub mod Read
+pub mod Feedless

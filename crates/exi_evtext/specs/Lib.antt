@@ -1,2 +1,5 @@
 pub mod Lines
 pub mod Kept
+pub mod Reading
+pub mod Spelling
+pub mod Laws

@@ -28,6 +28,7 @@
 //! Runs of characters that stand for themselves are copied at once.
 #![tactic(auto)]
 
+pub mod laws;
 mod print;
 mod quote;
 #[cfg(test)]

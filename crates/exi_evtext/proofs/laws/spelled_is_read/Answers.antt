@@ -1,0 +1,5 @@
+use Rattle.exi_evtext.proofs.Spelled.{says_read}
+use Rattle.exi_evtext.proofs.laws.spelled_is_read.Goals as goal
+
+pub returns : goal.returns
+returns c = says_read

@@ -1,0 +1,5 @@
+use Rattle.exi_evtext.proofs.Feedless.{printed_says, says_one}
+use Rattle.exi_evtext.proofs.laws.written_is_read.Goals as goal
+
+pub returns : goal.returns
+returns c = record { printed = printed_says; one = says_one }
