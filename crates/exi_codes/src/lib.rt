@@ -2,7 +2,6 @@
 //! 8.4); here where there is no schema.
 #![tactic(auto)]
 
-mod document;
 mod make;
 #[cfg(test)]
 mod tests;

@@ -4,9 +4,20 @@ ghost use Rattle.exi_gram.specs.Books.{state_of};
 ghost use Rattle.exi_gram.specs.Switches.{conflicts};
 ghost use Rattle.exi_gram.specs.Wholes.{document};
 
-use crate::document::document_states;
-use exi_gram::{Book, Items, Options, Schema};
+use exi_gram::{Book, CodedState, Items, Options, Schema, document};
 use std::alloc::{AllocError, Global};
+
+/// The states of the Document grammar without a schema (EXI 1.0, section 8.4.1), as the options leave them.
+fn document_left(alloc: Global, options: &Options) -> Result<Items<CodedState>, AllocError>
+    ensures { IfOk result (λ states. states ≡ map (state_of options.now first_names) (document [])) }
+{
+    let whole = document(alloc)?;
+    let mut states = Items::new(alloc);
+    for state in whole.as_slice() {
+        states.push(state.left(alloc, options)?)?;
+    }
+    Ok(states)
+}
 
 /// The book by which a stream with these options is read and written. There may be no schema yet, and
 /// the options may not conflict ([`Options::conflicts`](exi_gram::Options::conflicts)).
@@ -22,6 +33,6 @@ pub fn book(alloc: Global, schema: Schema, options: Options) -> Result<Book, All
     ensures states { IfOk result (λ b. b.states ≡ map (state_of options first_names) (document []) ∷ []) }
 {
     let mut states = Items::new(alloc);
-    states.push(document_states(alloc, &options)?)?;
+    states.push(document_left(alloc, &options)?)?;
     Ok(Book::of(options, schema, states))
 }

@@ -12,7 +12,7 @@ use Rattle.exi_bits.specs.Unsigned.{◌>>=◌, fault_at, field_at}
 use Rattle.exi_bits.specs.Widths.{width_for, width_from}
 use Rattle.exi_bits.proofs.BitLaws.{pow_up}
 use Rattle.exi_items.specs.Spellings.{Made, Then}
-use Rattle.exi_items.proofs.Items.{Item, Taken, given, item_field, item_for, item_made, item_same, item_spelled, item_tested, ok_is}
+use Rattle.exi_items.proofs.Items.{Item, Taken, given, item_below, item_for, item_made, item_same, item_spelled, ok_is}
 use Rattle.exi_gram.specs.Codes.{Productions, Second, code_at, first_told, first_values, group, member_at, part_at, second_at, second_told, single, told}
 
 -- ---- what is below a count fits its bits
@@ -61,7 +61,7 @@ unfolding part_at
 part_item count a = item_spelled a (part_at count a) (λ v text. (ltb v count ≡ true) × ((text ≡ number (width_for count) a v) × (v < 2 ^ taken (width_for count) a))) (PartText count a)
     (λ v text m. (ltb-true v count m.0, m.1.0))
     (λ v text m. (lt-ltb v count m.0, (m.1, below_fits v count a m.0)))
-    (item_tested a (field_at (width_for count) a) (λ v text. (text ≡ number (width_for count) a v) × (v < 2 ^ taken (width_for count) a)) (λ v. ltb v count) (λ s x. record { kind = kind.NoCode; bit = s.place }) (item_field (width_for count) a))
+    (item_below count a kind.NoCode)
 
 -- ---- what comes behind a part, and is all that is told
 pub record Behind {X Y : Type 0} (First : X → List Bool → Type 0) (Second : X → Y → List Bool → Type 0) (y : Y) (text : List Bool) : Type 0 where

@@ -3,10 +3,12 @@ pub mod CodeItems
 pub mod CodeLaws
 pub mod CodeLists
 pub mod CodeSets
+pub mod CodeTells
+pub mod Leaving
 pub mod PartLaws
-pub mod Reading
 pub mod StateSets
 pub mod TableLists
+pub mod Tabled
 pub mod Trees
 pub mod Walks
 pub mod WithoutSchema

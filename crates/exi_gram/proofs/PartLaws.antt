@@ -6,7 +6,7 @@ use Rattle.exi_bits.specs.declared.align.Align.{Align}
 use Rattle.exi_bits.specs.declared.fault.Fault.{Fault}
 use Rattle.exi_bits.specs.declared.fault.Kind.TheVariants as kind
 use Rattle.exi_bits.specs.Bits.{Spot}
-use Rattle.exi_bits.specs.Unsigned.{◌>>=◌, field_at}
+use Rattle.exi_bits.specs.Unsigned.{◌>>=◌, below_at, field_at}
 use Rattle.exi_bits.specs.Widths.{width_for}
 use Rattle.exi_items.proofs.Items.{bind_ok, given, guard_ok}
 use Rattle.exi_gram.specs.Codes.{Coded, HasMembers, IsClosedUp, Productions, Second, code_at, coded_from, coded_second, coded_seconds, first_told, first_values, going_on, group, member_at, part_at, second_at, second_told, single, told, values_of}
@@ -90,7 +90,7 @@ second_ends {X} part (y ∷ xs) (suc j) x e =
 
 -- ---- reading
 pub part_within : (count : ℕ) (a : Align) (s : Spot) (q : ℕ × Spot) → part_at count a s ≡ given q → q.0 < count
-unfolding part_at
+unfolding part_at below_at
 part_within count a s q e =
     let u = bind_ok (field_at (width_for count) a s) (λ found. cond (ltb found.0 count) (Ok found) (Err (record { kind = kind.NoCode; bit = s.place }))) q e in
     let g = guard_ok (ltb u.0.0 count) u.0 q (record { kind = kind.NoCode; bit = s.place }) u.2 in

@@ -3,6 +3,7 @@ use Rattle.std.specs.Prelude.{◌≡◌, ℕ, ◌<◌, Bool, true, false, List, 
 use Rattle.exi_names.specs.StartTables.{Names}
 use Rattle.exi_gram.specs.declared.options.Options.{Options}
 use Rattle.exi_gram.specs.Codes.{Productions, mapped, pruned}
+use Rattle.exi_gram.specs.Laws.{codes}
 use Rattle.exi_gram.specs.Naming.{Entry, entry_of}
 use Rattle.exi_gram.specs.Outlines.{Outline}
 use Rattle.exi_gram.specs.Switches.{conflicts}
@@ -17,12 +18,18 @@ pub record Contents : Type 0 where
   pub states : List (List (Productions Entry))
 
 -- what the options leave of a state
-abbrev pub left_of : Options → Productions Rule → Productions Rule
-left_of o p = pruned (λ r. is_left o r.on) p
+abbrev pub is_kept : Options → Entry → Bool
+is_kept o e = is_left o e.rule.on
 
--- a state as a book has it: what the options leave, with the places of the names
+abbrev pub left_of : Options → Productions Entry → Productions Entry
+left_of o p = pruned (is_kept o) p
+
+-- a state with the places of its names, and as a book has it: what the options leave of that
+abbrev pub placed_in : Names → Productions Rule → Productions Entry
+placed_in names p = mapped (entry_of names) p
+
 abbrev pub state_of : Options → Names → Productions Rule → Productions Entry
-state_of o names p = mapped (entry_of names) (left_of o p)
+state_of o names p = left_of o (placed_in names p)
 
 -- The states are those of the schema's grammars under the options. Where there is no schema this is the Document
 -- grammar alone (EXI 1.0, section 8.4.1). The grammars of a schema (section 8.5.4) will be the other case; until
@@ -30,6 +37,10 @@ state_of o names p = mapped (entry_of names) (left_of o p)
 abbrev pub HoldsStates : Bool → Options → Names → List (List (Productions Entry)) → Type 0
 HoldsStates false o names states = states ≡ map (state_of o names) (document []) ∷ []
 HoldsStates true o names states = ⊥
+
+-- the codes of the states, for which the compiled tables stand
+abbrev pub tables_of : List (List (Productions Entry)) → List (List (List (List ℕ)))
+tables_of states = map (map codes) states
 
 -- what holds of every book
 pub record IsBook (b : Contents) : Type 0 where

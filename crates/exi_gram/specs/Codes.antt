@@ -4,13 +4,13 @@
 -- or a group; the members of a group are told apart by a third part.
 --
 -- A part is an n-bit number, of the fewest bits that tell the values apart that it can have there.
-use Rattle.std.specs.Prelude.{◌≡◌, ◌≢◌, ℕ, suc, ◌+◌, max, Bool, true, false, ◌==◌, Option, Some, None, Result, Ok, nat_lt, if◌then◌else◌, List, [], ◌∷◌, ◌++◌, length, map, filter, slice_get, All}
+use Rattle.std.specs.Prelude.{◌≡◌, ◌≢◌, ℕ, suc, ◌+◌, max, Bool, true, false, ◌==◌, Option, Some, None, Result, Ok, if◌then◌else◌, List, [], ◌∷◌, ◌++◌, length, map, filter, slice_get, All}
 use Rattle.exi_bits.specs.declared.align.Align.{Align}
 use Rattle.exi_bits.specs.declared.fault.Fault.{Fault}
 use Rattle.exi_bits.specs.declared.fault.Kind.TheVariants as kind
 use Rattle.exi_bits.specs.Bits.{Spot, number}
 use Rattle.exi_bits.specs.Repeat.{Reader}
-use Rattle.exi_bits.specs.Unsigned.{◌>>=◌, fault_at, field_at}
+use Rattle.exi_bits.specs.Unsigned.{◌>>=◌, below_at, fault_at}
 use Rattle.exi_bits.specs.Widths.{width_for}
 
 -- what a second part tells
@@ -92,9 +92,7 @@ code_bits a codes (part ∷ parts) = number (width_for (values_of codes)) a part
 -- ---- the reading
 -- a part that has so many values, or NoCode at its first bit
 unfoldable pub part_at : ℕ → Align → Reader ℕ
-part_at count a s = do
-  found ← field_at (width_for count) a s
-  if nat_lt found.0 count then Ok found else fault_at kind.NoCode s
+part_at count a s = below_at count a kind.NoCode s
 
 -- how many values the first part has: one for each code of one part, and one for all longer ones
 abbrev pub longer : {X : Type 0} → List (Second X) → ℕ

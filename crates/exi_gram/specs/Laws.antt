@@ -1,6 +1,6 @@
 -- The laws of event codes: what is read is spelled so, and what is spelled so is read. They speak of the productions
 -- of a state in which no group is empty, as pruning leaves them.
-use Rattle.std.specs.Prelude.{◌≡◌, ℕ, zero, suc, ◌+◌, Bool, true, false, Some, Result, Ok, Err, if◌then◌else◌, List, [], ◌∷◌, ◌++◌, length, map, slice_get}
+use Rattle.std.specs.Prelude.{◌≡◌, ℕ, zero, suc, ◌+◌, ◌≤◌, ◌⊎◌, Bool, true, false, Some, Result, Ok, Err, if◌then◌else◌, List, [], ◌∷◌, ◌++◌, length, map, slice_get}
 use Rattle.exi_bits.specs.declared.align.Align.{Align}
 use Rattle.exi_bits.specs.declared.fault.Fault.{Fault}
 use Rattle.exi_bits.specs.Bits.{Spot}
@@ -57,6 +57,25 @@ ends (Err f) = Err f
 -- its values, or whose bits are not there
 abbrev pub CodeIsParts : Type 0 → Type 0
 CodeIsParts X = (p : Productions X) → IsClosedUp p → (a : Align) (s : Spot) → ends (code_at a p s) ≡ ends (parts_read 3 a (codes p) s)
+
+-- ---- what a code tells
+abbrev pub StandsIn : {X : Type 0} → Second X → X → Type 0
+StandsIn (single y) x = y ≡ x
+StandsIn (group ys) x = (place : ℕ) × (slice_get ys place ≡ Some x)
+
+-- it is one of the productions of a state
+abbrev pub IsOneOf : {X : Type 0} → Productions X → X → Type 0
+IsOneOf {X} p x =
+    ((place : ℕ) × (slice_get p.firsts place ≡ Some x))
+    ⊎ ((place : ℕ) × (y : Second X) × (slice_get p.seconds place ≡ Some y) × StandsIn y x)
+
+-- what a code tells is one of the state's productions
+abbrev pub CodeIsOfState : Type 0 → Type 0
+CodeIsOfState X = (p : Productions X) (a : Align) (s t : Spot) (x : X) → code_at a p s ≡ Ok (x, t) → IsOneOf p x
+
+-- reading a code stays in the same bytes, and does not go back
+abbrev pub CodeGoesOn : Type 0 → Type 0
+CodeGoesOn X = (p : Productions X) (a : Align) (s t : Spot) (x : X) → code_at a p s ≡ Ok (x, t) → (t.bytes ≡ s.bytes) × (s.place ≤ t.place)
 
 -- pruning leaves no group empty
 abbrev pub PrunedIsClosedUp : Type 0 → Type 0

@@ -75,6 +75,13 @@ with_first p x = record p { firsts = p.firsts ++ x ∷ [] }
 abbrev pub with_second : {X : Type 0} → Productions X → Second X → Productions X
 with_second p x = record p { seconds = p.seconds ++ x ∷ [] }
 
+-- more of either, one behind the other
+abbrev pub with_firsts : {X : Type 0} → Productions X → List X → Productions X
+with_firsts p xs = record p { firsts = p.firsts ++ xs }
+
+abbrev pub with_seconds : {X : Type 0} → Productions X → List (Second X) → Productions X
+with_seconds p xs = record p { seconds = p.seconds ++ xs }
+
 -- one that joins the group of the last second part
 abbrev joined : {X : Type 0} → Second X → X → Second X
 joined (single y) x = single y

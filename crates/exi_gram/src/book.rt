@@ -1,21 +1,25 @@
-ghost use Rattle.std.specs.Prelude.{◌≡◌, ◌<◌, ◌++◌, IfOk, OnOk, OnErr};
+ghost use Rattle.std.specs.Prelude.{◌≡◌, ◌<◌, ◌++◌, IfOk, OnOk, OnErr, length};
 ghost use Rattle.exi_bits.specs.Bits.{IsAligned};
 ghost use Rattle.exi_bits.specs.Unsigned.{Reads};
 ghost use Rattle.exi_bits.specs.Written.{IsWholeBytes};
 ghost use Rattle.exi_items.specs.Fronts.{HoldsFront};
-ghost use Rattle.exi_gram.specs.Books.{IsBook, IsStateOf, state_at};
+ghost use Rattle.exi_gram.specs.Books.{IsBook, IsStateOf, state_at, tables_of};
 ghost use Rattle.exi_gram.specs.Codes.{code_at, code_bits};
+ghost use Rattle.exi_gram.specs.CodeTrees.{place_read};
 ghost use Rattle.exi_gram.specs.Laws.{codes, placed};
 ghost use Rattle.exi_gram.specs.Switches.{align_of};
 ghost use Rattle.exi_gram.specs.Tables.{parts_at, size};
 
+use crate::code_table::CodeTable;
 use crate::items::Items;
 use crate::options::Options;
 use crate::schema::Schema;
 use crate::state::CodedState;
 use exi_bits::{BitIn, BitOut, Fault};
+use exi_steps::Steps;
 use std::alloc::AllocError;
-use std::marker::Model;
+use std::marker::{Brand, Model};
+use std::sync::ledger::{Blank, Ledger};
 
 /// What a stream is read and written by: its options, its schema, and of each grammar and state the
 /// productions with their codes, as the options leave them.
@@ -24,6 +28,7 @@ pub struct Book {
     options: Options,
     schema: Schema,
     states: Items<Items<CodedState>>,
+    tables: Items<Items<CodeTable>>,
 }
 
 impl Model for Book {
@@ -38,20 +43,31 @@ impl Model for Book {
 
     ghost view = { λ b. record { options = b.options; schema = b.schema; states = b.states } };
 
-    ghost invariant = { λ b. IsBook (record { options = b.options; schema = b.schema; states = b.states }) };
+    ghost use Rattle.exi_gram.specs.Books.{tables_of};
+    ghost use Rattle.std.specs.Prelude.{◌≡◌};
+
+    ghost invariant = { λ b.
+        IsBook (record { options = b.options; schema = b.schema; states = b.states }) × (b.tables ≡ tables_of b.states) };
 }
 
 impl Book {
     /// The book of these options and this schema. The states have to be those of the schema's grammars
-    /// under the options, and the options may not conflict.
-    pub fn of(options: Options, schema: Schema, states: Items<Items<CodedState>>) -> Book
+    /// under the options, with a table for each of them, and the options may not conflict.
+    pub fn of(
+        options: Options,
+        schema: Schema,
+        states: Items<Items<CodedState>>,
+        tables: Items<Items<CodeTable>>,
+    ) -> Book
         requires book { IsBook (record { options = options; schema = schema; states = states }) }
+        requires tables { tables ≡ tables_of states }
         ensures { result ≡ record { options = options; schema = schema; states = states } }
     {
         Book {
             options,
             schema,
             states,
+            tables,
         }
     }
 
@@ -80,12 +96,21 @@ impl Book {
     }
 
     /// The productions of a state of a grammar, which has to exist, with their codes.
-    pub fn table(&self, grammar: u32, state: u32) -> &CodedState
+    pub fn state(&self, grammar: u32, state: u32) -> &CodedState
         requires exists { IsStateOf self.now grammar state }
         ensures { result.now ≡ state_at self.now grammar state }
     {
         let states = self.states();
-        let tables = states[grammar as usize].as_slice();
+        let coded = states[grammar as usize].as_slice();
+        &coded[state as usize]
+    }
+
+    /// The compiled codes of a state of a grammar, which has to exist.
+    pub fn table(&self, grammar: u32, state: u32) -> &CodeTable
+        requires exists { IsStateOf self.now grammar state }
+        ensures { result.now ≡ codes (state_at self.now grammar state) }
+    {
+        let tables = self.tables.as_slice()[grammar as usize].as_slice();
         &tables[state as usize]
     }
 }
@@ -111,8 +136,35 @@ pub fn read_code(input: &mut BitIn<'_>, book: &Book, grammar: u32, state: u32) -
     ensures bytes { input.new.bytes ≡ input.old.bytes }
     ensures aligned { IsAligned (align_of book.now.options) input.new }
 {
-    book.table(grammar, state)
-        .read(input, book.options().align())
+    find_in::<Brand>(input, book, grammar, state, Blank::new(1))
+}
+
+/// [`read_code`], with a blank for the steps, which nobody counts.
+fn find_in<L: Ledger>(
+    input: &mut BitIn<'_>,
+    book: &Book,
+    grammar: u32,
+    state: u32,
+    blank: Blank,
+) -> Result<u32, Fault>
+    requires name { blank.name ≡ L.name }
+    requires parts { (blank.parts ≡ L.parts) × (blank.parts ≡ 1) }
+    requires exists { IsStateOf book.now grammar state }
+    requires aligned { IsAligned (align_of book.now.options) input.old }
+    ensures read { Reads
+        (λ x. x)
+        result
+        input.old
+        input.new
+        (place_read (align_of book.now.options) (codes (state_at book.now grammar state)) input.old) }
+    ensures below { IfOk result (λ place. place < length (codes (state_at book.now grammar state))) }
+    ensures bytes { input.new.bytes ≡ input.old.bytes }
+    ensures aligned { IsAligned (align_of book.now.options) input.new }
+    ensures book { IsBook book.now }
+{
+    let align = book.options().align();
+    let mut steps = Steps::<L>::of(blank);
+    book.table(grammar, state).find(input, align, &mut steps)
 }
 
 /// Writes the code of the production at a place in a state of a grammar, as [`read_code`] reads it.
@@ -151,6 +203,6 @@ pub fn write_code(
         out.new) }
     ensures aligned { IsWholeBytes (align_of book.now.options) out.new }
 {
-    book.table(grammar, state)
+    book.state(grammar, state)
         .write(out, place, book.options().align())
 }

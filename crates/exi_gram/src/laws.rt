@@ -4,7 +4,7 @@
 ghost use Rattle.exi_gram.specs.Wholes.{without_schema};
 ghost use Rattle.exi_gram.specs.Schemas.{IsSchema};
 ghost use Rattle.exi_gram.specs.CodeTrees.{CodeIsChosen, PlaceIsRead, StateIsCodeSet};
-ghost use Rattle.exi_gram.specs.Laws.{CodeIsNoPrefix, CodeIsParts, CodeIsRead, CodeIsSpelled, MappedIsRead, PlacedIsNumbered, PrunedIsClosedUp};
+ghost use Rattle.exi_gram.specs.Laws.{CodeGoesOn, CodeIsNoPrefix, CodeIsOfState, CodeIsParts, CodeIsRead, CodeIsSpelled, MappedIsRead, PlacedIsNumbered, PrunedIsClosedUp};
 
 /// The production that is read has a code of the state, and the bits of that code were taken.
 pub fn code_is_spelled<T>()
@@ -60,4 +60,14 @@ pub fn place_is_read<T>()
 /// The codes of a state are such as a compiled table can hold.
 pub fn state_is_code_set<T>()
     ensures { StateIsCodeSet T }
+{}
+
+/// What a code tells is one of the state's productions.
+pub fn code_is_of_state<T>()
+    ensures { CodeIsOfState T }
+{}
+
+/// Reading a code stays in the same bytes, and does not go back.
+pub fn code_goes_on<T>()
+    ensures { CodeGoesOn T }
 {}

@@ -33,7 +33,6 @@ pub mod laws;
 mod named;
 mod options;
 mod part;
-mod read;
 mod rows;
 mod schema;
 mod second;
@@ -41,6 +40,7 @@ mod state;
 mod terminal;
 #[cfg(test)]
 mod tests;
+mod wholes;
 mod write;
 
 pub use book::{Book, read_code, write_code};
@@ -55,3 +55,4 @@ pub use part::read_part;
 pub use schema::Schema;
 pub use state::CodedState;
 pub use terminal::Terminal;
+pub use wholes::document;

@@ -1,6 +1,8 @@
 ghost use Rattle.std.specs.Prelude.{◌≡◌, IfOk};
 ghost use Rattle.exi_gram.specs.Switches.{align_of, conflicts};
+ghost use Rattle.exi_gram.specs.Terminals.{is_left, symbol};
 
+use crate::terminal::Terminal;
 use bitflags::{Flag, Flags, bitflag_items};
 use exi_bits::Align;
 use exi_names::Txt;
@@ -125,6 +127,37 @@ impl Options {
         } else {
             Align::Bits
         }
+    }
+
+    /// Whether a production that reads this is left (EXI 1.0, section 8.3): comments, processing
+    /// instructions, DTDs and entity references, namespace declarations and self-contained elements have
+    /// an option that switches them on.
+    pub fn keeps(&self, on: &Terminal) -> bool
+        ensures { result ≡ is_left self.now (symbol on.now) }
+    {
+        let option = match on {
+            Terminal::Ns => OptionFlags::PREFIXES,
+            Terminal::Sc => OptionFlags::SELF_CONTAINED,
+            Terminal::Er | Terminal::Dt => OptionFlags::DTD,
+            Terminal::Cm => OptionFlags::COMMENTS,
+            Terminal::Pi => OptionFlags::PIS,
+            Terminal::Sd
+            | Terminal::Ed
+            | Terminal::Se(_)
+            | Terminal::SeIn(_)
+            | Terminal::SeAny
+            | Terminal::At(_, _)
+            | Terminal::AtIn(_)
+            | Terminal::AtAny
+            | Terminal::AtText(_)
+            | Terminal::AtAnyText
+            | Terminal::XsiType
+            | Terminal::XsiNil
+            | Terminal::Ch(_)
+            | Terminal::ChText
+            | Terminal::Ee => return true,
+        };
+        self.flags.contains(option)
     }
 
     /// Whether options are on that may not be on together: strict with comments, processing

@@ -1,9 +1,9 @@
-ghost use Rattle.std.specs.Prelude.{◌≡◌, ◌<◌, ◌≤◌, ◌^◌, IfOk};
+ghost use Rattle.std.specs.Prelude.{◌≡◌, ◌<◌, IfOk};
 ghost use Rattle.exi_bits.specs.Bits.{IsAligned};
 ghost use Rattle.exi_bits.specs.Unsigned.{Reads};
 ghost use Rattle.exi_gram.specs.Codes.{part_at};
 
-use exi_bits::{Align, BitIn, Fault, Kind, bits_for};
+use exi_bits::{Align, BitIn, Fault, Kind};
 
 /// Takes one part of an event code, which has so many values (EXI 1.0, section 6.2).
 ///
@@ -18,14 +18,6 @@ pub fn read_part(input: &mut BitIn<'_>, count: u32, align: Align) -> Result<u32,
     ensures bytes { input.new.bytes ≡ input.old.bytes }
     ensures aligned { IsAligned align input.new }
 {
-    let bit = input.at();
-    let value = input.number(bits_for(u64::from(count)), align)?;
-    if value < u64::from(count) {
-        return Ok(value as u32);
-    }
-    input.go_to_bit(bit);
-    Err(Fault {
-        kind: Kind::NoCode,
-        bit,
-    })
+    let value = input.below(u64::from(count), align, Kind::NoCode)?;
+    Ok(value as u32)
 }

@@ -1,20 +1,23 @@
-ghost use Rattle.std.specs.Prelude.{◌≡◌, ◌<◌, ◌≤◌, ◌∷◌, ◌++◌, [], true, OnOk, OnErr, IfOk, map, length};
-ghost use Rattle.exi_bits.specs.Bits.{IsAligned};
-ghost use Rattle.exi_bits.specs.Unsigned.{Reads};
+ghost use Rattle.std.specs.Prelude.{◌≡◌, ◌+◌, ◌<◌, ◌≤◌, ◌∷◌, ◌++◌, [], false, true, OnOk, OnErr, IfOk, filter, map, length};
 ghost use Rattle.exi_bits.specs.Written.{IsWholeBytes};
 ghost use Rattle.exi_items.specs.Fronts.{HoldsFront};
-ghost use Rattle.exi_gram.specs.Codes.{code_at, code_bits, coded, group, single};
-ghost use Rattle.exi_gram.specs.Laws.{codes, placed};
+ghost use Rattle.exi_gram.specs.Books.{is_kept, left_of};
+ghost use Rattle.exi_gram.specs.Codes.{code_bits, coded, group, kept_second, single};
+ghost use Rattle.exi_gram.specs.Laws.{codes};
 ghost use Rattle.exi_gram.specs.Naming.{entry};
-ghost use Rattle.exi_gram.specs.Tables.{parts_at, coded_of, ends_in_group, most_productions, no_productions, size, with_first, with_member, with_second};
+ghost use Rattle.exi_gram.specs.Tables.{coded_of, ends_in_group, items_of, kept_entry, most_productions, no_productions, parts_at, second_of, size, with_first, with_firsts, with_member, with_second, with_seconds};
+ghost use Rattle.exi_gram.specs.Terminals.{rule};
+ghost use Rattle.exi_gram.specs.Wholes.{listed};
 
 use crate::code::{Code, Coded};
+use crate::code_table::CodeTable;
 use crate::grammar::Production;
+use crate::items::Items;
 use crate::named::Named;
-use crate::read::read_first;
+use crate::options::Options;
 use crate::second::SecondPart;
 use crate::write::write_kept;
-use exi_bits::{Align, BitIn, BitOut, Fault};
+use exi_bits::{Align, BitOut};
 use std::alloc::{AllocError, Global};
 use std::marker::Model;
 
@@ -166,30 +169,137 @@ impl CodedState {
         Ok(())
     }
 
-    /// Reads a code. Answers the place of its production in the order of the codes.
+    /// This state as the options leave it (EXI 1.0, section 8.3): what they switch off is taken away, and
+    /// the other codes close up.
     ///
     /// # Errors
     ///
-    /// At the first bit of a part: `Short` where the bits end before the part does, and `NoCode` where no
-    /// code goes on so. The place in the input is then unchanged.
-    pub fn read(&self, input: &mut BitIn<'_>, align: Align) -> Result<u32, Fault>
-        requires aligned { IsAligned align input.old }
-        ensures read { Reads (λ x. x) result input.old input.new (code_at align (placed self.now) input.old) }
-        ensures below { IfOk result (λ place. place < size self.now) }
-        ensures bytes { input.new.bytes ≡ input.old.bytes }
-        ensures aligned { IsAligned align input.new }
+    /// `AllocError` where memory is refused.
+    pub fn left(&self, alloc: Global, options: &Options) -> Result<CodedState, AllocError>
+        ensures { IfOk result (λ s. s ≡ left_of options.now self.now) }
     {
-        let bit = input.at();
-        match read_first(input, self.firsts, &self.seconds, align) {
-            Ok(place) => Ok(place),
-            Err(fault) => {
-                input.go_to_bit(bit);
-                Err(fault)
-            }
+        let mut left = CodedState::new(alloc);
+        left.push_firsts(alloc, &self.coded[..self.firsts as usize], options)?;
+        for part in &self.seconds {
+            left.push_part(alloc, &self.coded, *part, options)?;
+        }
+        Ok(left)
+    }
+
+    /// Adds what the options leave of the productions that a second part tells.
+    fn push_part(
+        &mut self,
+        alloc: Global,
+        all: &[Coded],
+        part: SecondPart,
+        options: &Options,
+    ) -> Result<(), AllocError>
+        requires within { part.begin + part.count ≤ length all.now }
+        requires some { 1 ≤ part.count }
+        requires one { part.group ≡ false → part.count ≡ 1 }
+        requires room { size self.old + part.count ≤ most_productions }
+        ensures { OnOk result (self.new
+            ≡ with_seconds self.old (kept_second (is_kept options.now) (second_of (items_of all.now) part))) }
+    {
+        let begin = part.begin as usize;
+        if part.group {
+            let coded = &all[begin..begin + part.count as usize];
+            self.push_members(alloc, coded, options)
+        } else {
+            self.push_alone(alloc, &all[begin], options)
         }
     }
 
-    /// Writes the code of the production at a place, which has to exist, as [`CodedState::read`] reads it.
+    /// Adds those of these productions that the options leave, with codes of one part.
+    fn push_firsts(
+        &mut self,
+        alloc: Global,
+        from: &[Coded],
+        options: &Options,
+    ) -> Result<(), AllocError>
+        requires first { self.old.seconds ≡ [] }
+        requires room { size self.old + length from.now ≤ most_productions }
+        ensures { OnOk result (self.new ≡ with_firsts self.old (filter (is_kept options.now) (items_of from.now))) }
+    {
+        for coded in from {
+            if options.keeps(&coded.production.on) {
+                self.push_first(coded.production.copy(alloc)?, coded.named)?;
+            }
+        }
+        Ok(())
+    }
+
+    /// Adds those of these productions that the options leave, as a group that the next second part tells;
+    /// where none is left, nothing.
+    fn push_members(
+        &mut self,
+        alloc: Global,
+        from: &[Coded],
+        options: &Options,
+    ) -> Result<(), AllocError>
+        requires room { size self.old + length from.now ≤ most_productions }
+        ensures { OnOk result (self.new
+            ≡ with_seconds self.old (kept_second (is_kept options.now) (group (items_of from.now)))) }
+    {
+        let mut any = false;
+        for coded in from {
+            if options.keeps(&coded.production.on) {
+                let production = coded.production.copy(alloc)?;
+                if any {
+                    self.push_member(production, coded.named)?;
+                } else {
+                    self.push_group(production, coded.named)?;
+                    any = true;
+                }
+            }
+        }
+        Ok(())
+    }
+
+    /// Adds a production that the next second part tells, where the options leave it.
+    fn push_alone(
+        &mut self,
+        alloc: Global,
+        coded: &Coded,
+        options: &Options,
+    ) -> Result<(), AllocError>
+        requires room { size self.old < most_productions }
+        ensures { OnOk result (self.new
+            ≡ with_seconds self.old (kept_second (is_kept options.now) (single (kept_entry coded.now)))) }
+    {
+        if options.keeps(&coded.production.on) {
+            self.push_single(coded.production.copy(alloc)?, coded.named)?;
+        }
+        Ok(())
+    }
+
+    /// Its productions in the order of the codes, without them.
+    ///
+    /// # Errors
+    ///
+    /// `AllocError` where memory is refused.
+    pub fn productions(&self, alloc: Global) -> Result<Items<Production>, AllocError>
+        ensures { IfOk result (λ ps. map rule ps ≡ map (λ e. e.rule) (listed self.now)) }
+    {
+        let mut productions = Items::new(alloc);
+        for coded in &self.coded {
+            productions.push(coded.production.copy(alloc)?)?;
+        }
+        Ok(productions)
+    }
+
+    /// The compiled table of its codes.
+    ///
+    /// # Errors
+    ///
+    /// `AllocError` where memory is refused.
+    pub fn table(&self, alloc: Global) -> Result<CodeTable, AllocError>
+        ensures { IfOk result (λ t. t ≡ codes self.now) }
+    {
+        CodeTable::of(alloc, &self.coded)
+    }
+
+    /// Writes the code of the production at a place, which has to exist, as [`read_code`](crate::read_code) reads it.
     ///
     /// # Errors
     ///

@@ -7,7 +7,7 @@ of-requires c = record {
     c.grammars-2.view_is,
     c.in_ok-push.ensures.ok,
     c.new-grammars.ensures,
-    c.in_ok-document.ensures,
+    c.in_ok-document_grammar.ensures,
     c.new.ensures,
     c.new-2.ensures,
     c.new-3.ensures,
