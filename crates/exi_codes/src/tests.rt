@@ -21,7 +21,7 @@ fn may_write(book: &Book, state: u32, place: u32) -> bool
     requires { IsStateOf book.now 0 state }
     ensures { result ≡ true → place < size (state_at book.now 0 state) }
 {
-    (place as usize) < book.table(0, state).coded().len()
+    (place as usize) < book.state(0, state).coded().len()
 }
 
 #[test]

@@ -1,14 +1,13 @@
 -- The reading of a code as the reading of its parts, one behind the other.
-use Rattle.std.proofs.Common.{◌≡◌, ℕ, zero, suc, ◌+◌, ◌^◌, ◌<◌, ◌≤◌, ◌⊎◌, inl, inr, Bool, true, false, ltb, lit<, lt-ltb, ltb-true, leb, leb-true, List, [], ◌∷◌, ◌++◌, length, slice_get, Option, Some, None, Result, Ok, Err, refl, sym, ap, ◌∙◌, subst, arith}
+use Rattle.std.proofs.Common.{◌≡◌, ℕ, zero, suc, ◌+◌, ◌^◌, ◌<◌, ◌≤◌, ◌⊎◌, inl, inr, Bool, true, false, ltb, lit<, lt-ltb, ltb-true, leb, leb-true, List, [], ◌++◌, length, slice_get, Option, Some, None, Result, Ok, Err, refl, ap, ◌∙◌, subst, arith}
 use Rattle.std.proofs.Math.Nat.{pow-succ'}
-use Rattle.std.proofs.lemmas.Bool.{cases_lt}
 use Rattle.exi_bits.specs.declared.align.Align.{Align}
 use Rattle.exi_bits.specs.declared.align.Align.TheVariants as align
 use Rattle.exi_bits.specs.declared.fault.Fault.{Fault}
 use Rattle.exi_bits.specs.declared.fault.Kind.TheVariants as kind
-use Rattle.exi_bits.specs.Bits.{Spot, Front, IsAligned, IsBytes, moved, number, octets, rest, taken}
+use Rattle.exi_bits.specs.Bits.{Spot, IsAligned, IsBytes, moved, number, rest, taken}
 use Rattle.exi_bits.specs.Repeat.{Reader}
-use Rattle.exi_bits.specs.Unsigned.{◌>>=◌, fault_at, field_at}
+use Rattle.exi_bits.specs.Unsigned.{◌>>=◌, fault_at}
 use Rattle.exi_bits.specs.Widths.{width_for, width_from}
 use Rattle.exi_bits.proofs.BitLaws.{pow_up}
 use Rattle.exi_items.specs.Spellings.{Made, Then}

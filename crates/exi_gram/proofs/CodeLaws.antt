@@ -1,7 +1,7 @@
 -- What is read is spelled so, and what is spelled so is read: the reading takes the parts of a code one by one, and
 -- the codes of a state have these parts.
-use Rattle.std.proofs.Common.{◌≡◌, ◌≢◌, ℕ, zero, suc, ◌+◌, ◌<◌, ◌≤◌, max, Bool, true, false, cond, List, [], ◌∷◌, ◌++◌, length, map, filter, slice_get, option_map, Option, Some, None, Result, Ok, Err, ◌⊎◌, inl, inr, refl, sym, ap, ◌∙◌, subst, append_assoc, All, arith}
-use Rattle.std.proofs.lemmas.List.{append-nil, nil_from_length, length-append, length-map}
+use Rattle.std.proofs.Common.{◌≡◌, ℕ, zero, suc, ◌+◌, ◌<◌, ◌≤◌, Bool, true, false, cond, List, [], ◌∷◌, ◌++◌, length, map, filter, slice_get, option_map, Option, Some, None, Result, Ok, Err, inl, inr, refl, sym, ap, ◌∙◌, subst, All, arith}
+use Rattle.std.proofs.lemmas.List.{length-map}
 use Rattle.std.proofs.lemmas.List.Elements.{All-nil, All-cons}
 use Rattle.std.proofs.lemmas.Option.{slice_get_within, slice_get-map}
 use Rattle.exi_bits.specs.declared.align.Align.{Align}
@@ -9,13 +9,12 @@ use Rattle.exi_bits.specs.declared.fault.Fault.{Fault}
 use Rattle.exi_bits.specs.Bits.{Spot, number}
 use Rattle.exi_bits.specs.Unsigned.{◌>>=◌}
 use Rattle.exi_bits.specs.Widths.{width_for}
-use Rattle.exi_items.specs.Spellings.{Then}
 use Rattle.exi_items.proofs.Items.{Item, item_spelled}
 use Rattle.exi_items.proofs.NoPrefix.{item_no_prefix, is_read, is_spelled}
-use Rattle.exi_gram.specs.Codes.{Coded, HasMembers, IsClosedUp, Productions, Second, code_at, code_bits, coded, coded_from, coded_second, coded_seconds, first_told, first_values, going_on, group, group_unless_empty, kept_second, kept_seconds, longer, mapped, mapped_second, member_at, part_at, pruned, second_at, second_told, single, told, values_of}
+use Rattle.exi_gram.specs.Codes.{Coded, HasMembers, IsClosedUp, Productions, Second, code_at, code_bits, coded, coded_from, coded_second, coded_seconds, first_told, first_values, going_on, group, group_unless_empty, kept_second, kept_seconds, longer, mapped, mapped_second, member_at, part_at, second_at, second_told, single, told, values_of}
 use Rattle.exi_gram.specs.Laws.{CodeIsNoPrefix, CodeIsRead, CodeIsSpelled, MappedIsRead, PlacedIsNumbered, PrunedIsClosedUp, SpellsCode, codes, members, numbered, placed, placed_second, placed_seconds, places_from}
-use Rattle.exi_gram.proofs.CodeItems.{Behind, CodeText, FirstTold, MemberText, MemberTold, PartText, SecondText, SecondTold, code_item}
-use Rattle.exi_gram.proofs.CodeLists.{Stands, closed_head, closed_tail, some_is, StandsBehind, StandsFirst, StandsIn, first_count, going_group, going_longer, get_front, parts_in, place_of, stands_at, values_from, values_seconds}
+use Rattle.exi_gram.proofs.CodeItems.{CodeText, FirstTold, MemberTold, SecondTold, code_item}
+use Rattle.exi_gram.proofs.CodeLists.{Stands, closed_head, closed_tail, some_is, StandsBehind, StandsFirst, StandsIn, first_count, going_group, going_longer, parts_in, place_of, stands_at, values_from, values_seconds}
 
 -- ---- a part and the parts behind it
 code_next : (a : Align) (cs rests : List (List ℕ)) (part count : ℕ) (parts : List ℕ) (text first second : List Bool) → values_of cs ≡ count → going_on part cs ≡ rests → text ≡ first ++ second → first ≡ number (width_for count) a part → second ≡ code_bits a rests parts → text ≡ code_bits a cs (part ∷ parts)

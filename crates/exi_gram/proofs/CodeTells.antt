@@ -1,5 +1,5 @@
 -- What a code tells is one of the state's productions, and reading it goes onward.
-use Rattle.std.proofs.Common.{◌≡◌, ◌⊎◌, inl, inr, ℕ, ◌+◌, ◌≤◌, get_or, Bool, true, false, cond, ltb, List, [], ◌∷◌, filter, length, slice_get, Option, Some, None, Result, Ok, Err, refl, ap, subst, All, arith}
+use Rattle.std.proofs.Common.{◌≡◌, inl, inr, ℕ, ◌≤◌, get_or, Bool, true, false, cond, ltb, List, [], ◌∷◌, filter, length, slice_get, Option, Some, None, Err, refl, ap, subst, All, arith}
 use Rattle.std.proofs.lemmas.List.Elements.{All-append, All-cons, All-filter, All-head, All-map, All-nil, All-tail, All-weaker}
 use Rattle.std.proofs.lemmas.Option.{get_or_from_slice_get, slice_get-get_or, slice_get_within}
 use Rattle.exi_bits.specs.declared.align.Align.{Align}

@@ -1,20 +1,20 @@
 -- What options leave of the productions of a state, put together one by one.
-use Rattle.std.proofs.Common.{◌≡◌, ◌⊎◌, inl, inr, ℕ, zero, suc, ◌+◌, ◌<◌, ◌≤◌, Bool, true, false, cond, List, [], ◌∷◌, ◌++◌, length, map, take, drop, filter, get_or, slice_get, Some, refl, sym, ap, ◌∙◌, subst, append_assoc, arith}
+use Rattle.std.proofs.Common.{◌≡◌, inl, inr, ℕ, zero, suc, ◌+◌, ◌<◌, ◌≤◌, Bool, true, false, cond, List, [], ◌∷◌, ◌++◌, length, map, take, drop, filter, get_or, slice_get, Some, refl, sym, ap, ◌∙◌, subst, append_assoc, arith}
 use Rattle.std.proofs.lemmas.Bool.{cases_Bool}
-use Rattle.std.proofs.lemmas.List.{append-nil, length-append, length-map, length-take, length-drop, map-append, take_all, take_more, take-map, drop-map, get_or-map}
+use Rattle.std.proofs.lemmas.List.{append-nil, length-append, length-take, length-drop, map-append, take_all, take_more, take-map, drop-map, get_or-map}
 use Rattle.std.proofs.lemmas.List.Elements.{filter_more}
 use Rattle.std.proofs.lemmas.Option.{get_or_from_slice_get, slice_get-get_or}
 use Rattle.exi_gram.specs.declared.code.Coded.{Coded as Kept}
 use Rattle.exi_gram.specs.declared.second.SecondPart.{SecondPart}
 use Rattle.exi_gram.specs.declared.options.Options.{Options}
 use Rattle.exi_gram.specs.Books.{is_kept, left_of}
-use Rattle.exi_gram.specs.Codes.{Coded, Productions, Second, coded, coded_from, coded_second, coded_seconds, group, group_unless_empty, kept_second, kept_seconds, pruned, single}
+use Rattle.exi_gram.specs.Codes.{Coded, Productions, Second, coded_from, coded_second, coded_seconds, group, group_unless_empty, kept_second, kept_seconds, single}
 use Rattle.exi_gram.specs.Laws.{members}
 use Rattle.exi_gram.specs.Naming.{Entry}
 use Rattle.exi_gram.specs.Terminals.{Rule}
 use Rattle.exi_gram.specs.Wholes.{listed}
-use Rattle.exi_gram.specs.Tables.{Follow, IsTable, as_single, coded_of, ends_in_group, items_of, kept_entry, last_joined, most_productions, second_of, size, slice, table_of, with_first, with_firsts, with_member, with_second, with_seconds}
-use Rattle.exi_gram.proofs.TableLists.{count_items, ends_is, follow_within, last_is, second_coded}
+use Rattle.exi_gram.specs.Tables.{Follow, IsTable, as_single, coded_of, ends_in_group, items_of, kept_entry, most_productions, second_of, size, slice, table_of, with_first, with_firsts, with_member, with_second, with_seconds}
+use Rattle.exi_gram.proofs.TableLists.{count_items, ends_is, follow_within, last_is}
 
 -- ---- how many productions there are
 abbrev pub total : {X : Type 0} → List (Second X) → ℕ
@@ -149,10 +149,10 @@ pub group_starts_here : (keep : Entry → Bool) (cs : List Kept) (index : ℕ) (
 group_starts_here keep cs index c p now new any after x within e kept so_far none same n a =
     let k = kept_here keep cs index c within e kept in (
       n
-      ∙ ap (λ (y : Entry). with_second now (group (y ∷ []))) same
-      ∙ ap (λ (q : Productions Entry). with_second q (group (kept_entry c ∷ []))) so_far.0
-      ∙ group_starts p (SoFar keep (items_of cs) index) (kept_entry c) (sym so_far.1 ∙ none)
-      ∙ ap (λ (xs : List Entry). with_seconds p (group_unless_empty xs)) (sym k),
+          ∙ ap (λ (y : Entry). with_second now (group (y ∷ []))) same
+          ∙ ap (λ (q : Productions Entry). with_second q (group (kept_entry c ∷ []))) so_far.0
+          ∙ group_starts p (SoFar keep (items_of cs) index) (kept_entry c) (sym so_far.1 ∙ none)
+          ∙ ap (λ (xs : List Entry). with_seconds p (group_unless_empty xs)) (sym k),
       a ∙ sym (ap is_any k ∙ any_last (SoFar keep (items_of cs) index) (kept_entry c)),
     )
 
@@ -160,10 +160,10 @@ pub group_goes_on_here : (keep : Entry → Bool) (cs : List Kept) (index : ℕ) 
 group_goes_on_here keep cs index c p now new any after x within e kept so_far some same n a =
     let k = kept_here keep cs index c within e kept in (
       n
-      ∙ ap (λ (y : Entry). with_member now y) same
-      ∙ ap (λ (q : Productions Entry). with_member q (kept_entry c)) so_far.0
-      ∙ group_goes_on p (SoFar keep (items_of cs) index) (kept_entry c) (sym so_far.1 ∙ some)
-      ∙ ap (λ (xs : List Entry). with_seconds p (group_unless_empty xs)) (sym k),
+          ∙ ap (λ (y : Entry). with_member now y) same
+          ∙ ap (λ (q : Productions Entry). with_member q (kept_entry c)) so_far.0
+          ∙ group_goes_on p (SoFar keep (items_of cs) index) (kept_entry c) (sym so_far.1 ∙ some)
+          ∙ ap (λ (xs : List Entry). with_seconds p (group_unless_empty xs)) (sym k),
       a ∙ some ∙ sym (ap is_any k ∙ any_last (SoFar keep (items_of cs) index) (kept_entry c)),
     )
 
@@ -230,13 +230,13 @@ left_room keep cs firsts ss index s t within e =
 pub left_more : (keep : Entry → Bool) (cs : List Kept) (firsts : ℕ) (ss : List SecondPart) (index : ℕ) (s : SecondPart) (new : Productions Entry) → index < length ss → s ≡ get_or ss index s → new ≡ with_seconds (LeftTo keep cs firsts ss index) (kept_second keep (second_of (items_of cs) s)) → new ≡ LeftTo keep cs firsts ss (index + 1)
 left_more keep cs firsts ss index s new within e n =
     let one : map (second_of (items_of cs)) (take (index + 1) ss) ≡ map (second_of (items_of cs)) (take index ss) ++ second_of (items_of cs) s ∷ [] =
-      ap (map (second_of (items_of cs))) (take_more ss index s within ∙ ap (λ (s : SecondPart). take index ss ++ s ∷ []) (sym e))
-      ∙ map-append (second_of (items_of cs)) (take index ss) (s ∷ []) in
+    ap (map (second_of (items_of cs))) (take_more ss index s within ∙ ap (λ (s : SecondPart). take index ss ++ s ∷ []) (sym e))
+    ∙ map-append (second_of (items_of cs)) (take index ss) (s ∷ []) in
     n
     ∙ ap (λ (z : List (Second Entry)). record { firsts = filter keep (take firsts (items_of cs)); seconds = z })
-      (ap (λ (z : List (Second Entry)). kept_seconds keep (map (second_of (items_of cs)) (take index ss)) ++ z) (sym (append-nil (kept_second keep (second_of (items_of cs) s))))
-      ∙ sym (kept-append keep (map (second_of (items_of cs)) (take index ss)) (second_of (items_of cs) s ∷ []))
-      ∙ ap (kept_seconds keep) (sym one))
+    (ap (λ (z : List (Second Entry)). kept_seconds keep (map (second_of (items_of cs)) (take index ss)) ++ z) (sym (append-nil (kept_second keep (second_of (items_of cs) s))))
+    ∙ sym (kept-append keep (map (second_of (items_of cs)) (take index ss)) (second_of (items_of cs) s ∷ []))
+    ∙ ap (kept_seconds keep) (sym one))
 
 -- what a second part needs
 pub part_holds : (cs : List Kept) (firsts : ℕ) (ss : List SecondPart) (index : ℕ) (s : SecondPart) → IsTable cs firsts ss → index < length ss → s ≡ get_or ss index s → (s.begin + s.count ≤ length cs) × (1 ≤ s.count) × (s.group ≡ false → s.count ≡ 1)
@@ -301,7 +301,7 @@ pub alone_told : (keep : Entry → Bool) (all : List Kept) (s : SecondPart) (c :
 alone_told keep all s c g one le e =
     let w : s.begin < length all = omega arith in
     let i : slice (items_of all) s ≡ kept_entry c ∷ [] =
-      ap (λ (k : ℕ). take k (drop s.begin (items_of all))) one ∙ one_at (items_of all) s.begin (kept_entry c) (items_within all s.begin w) ∙ ap (λ (x : Entry). x ∷ []) (item_at all s.begin c w e) in
+    ap (λ (k : ℕ). take k (drop s.begin (items_of all))) one ∙ one_at (items_of all) s.begin (kept_entry c) (items_within all s.begin w) ∙ ap (λ (x : Entry). x ∷ []) (item_at all s.begin c w e) in
     ap (λ (xs : List Entry). kept_second keep (as_single xs)) (sym i)
     ∙ ap (λ (b : Bool). kept_second keep (cond b (group (slice (items_of all) s)) (as_single (slice (items_of all) s)))) (sym g)
 

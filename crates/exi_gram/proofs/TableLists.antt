@@ -1,5 +1,5 @@
 -- How productions are added to the codes that are kept.
-use Rattle.std.proofs.Common.{◌≡◌, ◌≢◌, ℕ, zero, suc, ◌+◌, ◌-◌, ◌<◌, ◌≤◌, ◌^◌, Bool, true, false, cond, Option, Some, None, List, [], ◌∷◌, ◌++◌, length, map, take, drop, slice_get, refl, sym, ap, ◌∙◌, subst, append_assoc, All, arith}
+use Rattle.std.proofs.Common.{◌≡◌, ℕ, suc, ◌+◌, ◌<◌, ◌≤◌, Bool, true, false, cond, List, [], ◌∷◌, ◌++◌, length, map, take, drop, refl, sym, ap, ◌∙◌, subst, append_assoc, All, arith}
 use Rattle.std.proofs.lemmas.List.{append-nil, map-append, length-append, length-map, length-take, length-drop, take-append-le, drop-append-le, drop_at, take_all}
 use Rattle.std.proofs.lemmas.List.Elements.{All-nil, All-cons}
 use Rattle.std.proofs.Math.Seq.{take-append-add}
@@ -11,8 +11,7 @@ use Rattle.exi_gram.specs.declared.named.Named.{Named}
 use Rattle.exi_gram.specs.declared.second.SecondPart.{SecondPart}
 use Rattle.exi_gram.specs.Codes.{Coded, HasMembers, IsClosedUp, Productions, Second, coded, coded_from, coded_second, coded_seconds, group, single}
 use Rattle.exi_gram.specs.Naming.{Entry, entry}
-use Rattle.exi_gram.specs.Laws.{members, placed, placed_second, placed_seconds, places_from}
-use Rattle.exi_gram.specs.Tables.{Follow, IsTable, as_single, coded_of, counting, ends_in_group, items_of, kept_entry, last_joined, most_productions, places_in, parts_of, places_of, second_of, size, slice, table_of, with_first, with_member, with_second}
+use Rattle.exi_gram.specs.Tables.{Follow, IsTable, as_single, coded_of, ends_in_group, items_of, kept_entry, last_joined, most_productions, parts_of, second_of, size, slice, table_of, with_first, with_member, with_second}
 
 -- ---- the codes of more productions
 from-append : {X : Type 0} (front : List ℕ) (part : ℕ) (xs ys : List X) → coded_from front part (xs ++ ys) ≡ coded_from front part xs ++ coded_from front (part + length xs) ys
@@ -352,38 +351,6 @@ seconds_few cs firsts ss t = omega (arith, follow_within firsts ss (length cs) t
 
 pub firsts_few : (cs : List Kept) (firsts : ℕ) (ss : List SecondPart) → IsTable cs firsts ss → firsts ≤ most_productions
 firsts_few cs firsts ss t = omega (arith, follow_within firsts ss (length cs) t.follow, t.small)
-
--- ---- what is kept, as places
-places_counting : {X : Type 0} (place : ℕ) (xs : List X) → places_from place xs ≡ counting place (length xs)
-places_counting place [] = refl
-places_counting place (x ∷ xs) = ap (λ (z : List ℕ). place ∷ z) (places_counting (suc place) xs)
-
-one_place : {X : Type 0} (place : ℕ) (ys : List X) → length ys ≡ 1 → (placed_second place (as_single ys) ≡ single place) × (members (as_single ys) ≡ 1)
-one_place place [] e = absurd (omega arith)
-one_place place (y ∷ ys) e = (refl, refl)
-
-second_placed : {X : Type 0} (place : ℕ) (ys : List X) (count : ℕ) (grouped : Bool) → length ys ≡ count → (grouped ≡ false → count ≡ 1)
-    → (placed_second place (cond grouped (group ys) (as_single ys)) ≡ cond grouped (group (counting place count)) (single place)) × (members (cond {A = Second X} grouped (group ys) (as_single ys)) ≡ count)
-second_placed place ys count true e one = (ap (λ (z : List ℕ). group z) (places_counting place ys ∙ ap (counting place) e), e)
-second_placed place ys count false e one = let k = one_place place ys (e ∙ one refl) in (k.0, k.1 ∙ sym (one refl))
-
-seconds_placed : {X : Type 0} (xs : List X) (place : ℕ) (ss : List SecondPart) (end : ℕ) → Follow place ss end → end ≤ length xs → placed_seconds place (map (second_of xs) ss) ≡ map places_of ss
-seconds_placed xs place [] end h le = refl
-seconds_placed {X} xs place (s ∷ ss) end h le =
-    let w = follow_within (place + s.count) ss end h.3 in
-    let n : length (slice xs s) ≡ s.count = omega (arith, h.0, length-take s.count (drop s.begin xs), length-drop s.begin xs) in
-    let k = second_placed place (slice xs s) s.count s.group n h.2 in
-    ap (λ (i : ℕ). placed_second place (second_of xs s) ∷ placed_seconds (place + i) (map (second_of xs) ss)) k.1
-    ∙ ap (λ (z : Second ℕ). z ∷ placed_seconds (place + s.count) (map (second_of xs) ss)) (k.0 ∙ ap (λ (i : ℕ). cond s.group (group (counting i s.count)) (single i)) (sym h.0))
-    ∙ ap (λ (z : List (Second ℕ)). places_of s ∷ z) (seconds_placed xs (place + s.count) ss end h.3 le)
-
-pub placed_table : (cs : List Kept) (firsts : ℕ) (ss : List SecondPart) → IsTable cs firsts ss → placed (table_of (items_of cs) firsts ss) ≡ places_in firsts ss
-placed_table cs firsts ss t =
-    let n = count_firsts cs firsts ss (length cs) t.follow (omega arith) in
-    let le : length cs ≤ length (items_of cs) = omega (arith, count_items cs) in
-    ap (λ (z : List ℕ). record { firsts = z; seconds = placed_seconds (length (take firsts (items_of cs))) (map (second_of (items_of cs)) ss) }) (places_counting 0 (take firsts (items_of cs)) ∙ ap (counting 0) n)
-    ∙ ap (λ (k : ℕ). record { firsts = counting 0 firsts; seconds = placed_seconds k (map (second_of (items_of cs)) ss) }) n
-    ∙ ap (λ (z : List (Second ℕ)). record { firsts = counting 0 firsts; seconds = z }) (seconds_placed (items_of cs) firsts ss (length cs) t.follow le)
 
 -- no group is empty
 second_members : {X : Type 0} (ys : List X) (grouped : Bool) → 1 ≤ length ys → HasMembers (cond {A = Second X} grouped (group ys) (as_single ys))

@@ -5,8 +5,8 @@ use Rattle.exi_names.specs.StartTables.{Names}
 use Rattle.exi_gram.specs.declared.code.Coded.{Coded as Kept}
 use Rattle.exi_gram.specs.declared.options.Options.{Options}
 use Rattle.exi_gram.specs.declared.second.SecondPart.{SecondPart}
-use Rattle.exi_gram.specs.Books.{Contents, HoldsStates, IsBook, left_of, state_at, state_of}
-use Rattle.exi_gram.specs.Codes.{Coded, HasMembers, IsClosedUp, Productions, coded}
+use Rattle.exi_gram.specs.Books.{Contents, HoldsStates, IsBook, is_kept, placed_in, state_at, state_of}
+use Rattle.exi_gram.specs.Codes.{Coded, HasMembers, IsClosedUp, Productions}
 use Rattle.exi_gram.specs.Laws.{codes}
 use Rattle.exi_gram.specs.Naming.{Entry}
 use Rattle.exi_gram.specs.Tables.{IsTable, coded_of, items_of, no_productions, parts_of, table_of}
@@ -37,7 +37,7 @@ closed_by true o names states grammar state h = absurd h
 closed_by false o names states grammar state h = subst (λ (z : List (List (Productions Entry))). IsClosedUp (get_or (get_or z grammar []) state no_productions)) (sym h) (of grammar)
   where
     of : (grammar : ℕ) → IsClosedUp (get_or (get_or (map (state_of o names) (document []) ∷ []) grammar []) state no_productions)
-    of zero = closed_or IsClosedUp none_closed (state_of o names) (λ p. pruned_closed _ _) (document []) state
+    of zero = closed_or IsClosedUp none_closed (state_of o names) (λ p. pruned_closed (is_kept o) (placed_in names p)) (document []) state
     of (suc grammar) = none_closed
 
 pub book_closed : (b : Contents) (grammar state : ℕ) → IsBook b → IsClosedUp (state_at b grammar state)

@@ -1,10 +1,9 @@
 -- What a schema keeps holds where there is none.
-use Rattle.std.proofs.Common.{◌≡◌, ◌≢◌, ℕ, ◌+◌, ◌<◌, ◌≤◌, ◌^◌, Bool, true, false, Option, Some, None, List, [], ◌∷◌, length, All, refl, lit<, lit≤, arith}
+use Rattle.std.proofs.Common.{◌≡◌, ◌≢◌, ℕ, ◌+◌, ◌<◌, ◌≤◌, ◌^◌, None, List, [], ◌∷◌, length, All, refl, lit<, lit≤}
 use Rattle.std.proofs.lemmas.List.Elements.{All-nil, All-cons}
 use Rattle.exi_names.specs.StartTables.{first_names}
 use Rattle.exi_names.specs.declared.names.QName.{QName}
 use Rattle.exi_gram.specs.Naming.{named_in}
-use Rattle.exi_gram.specs.Outlines.{Outline}
 use Rattle.exi_gram.specs.Schemas.{AllIn, IsFull, IsInner, IsOfPart, IsSchema, IsState, LeadsWithin, Opens, Stands, StandsIfAny}
 use Rattle.exi_gram.specs.Terminals.{Rule, Rules, Symbol, sd, ed, se, se_any, cm, pi, dt}
 use Rattle.exi_gram.specs.Wholes.{document, plain, whole_grammar, without_schema}

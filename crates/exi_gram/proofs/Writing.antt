@@ -1,5 +1,5 @@
 -- The bits of a code that is kept are those of the code of its production.
-use Rattle.std.proofs.Common.{◌≡◌, ℕ, zero, suc, ◌+◌, ◌<◌, ◌≤◌, ◌^◌, Bool, true, false, cond, Option, Some, None, List, [], ◌∷◌, ◌++◌, length, map, take, drop, get_or, slice_get, slice_index_or, option_map, ◌⊎◌, inl, inr, refl, sym, ap, ◌∙◌, subst, All, arith}
+use Rattle.std.proofs.Common.{◌≡◌, ℕ, zero, suc, ◌+◌, ◌<◌, ◌≤◌, Bool, true, false, cond, Some, List, [], ◌∷◌, ◌++◌, length, map, take, drop, slice_get, slice_index_or, option_map, inl, inr, refl, sym, ap, ◌∙◌, subst, arith}
 use Rattle.std.proofs.lemmas.List.{append-nil, length-map, length-take, length-drop}
 use Rattle.std.proofs.lemmas.Option.{slice_get-map, slice_get-get_or, slice_get_within, get_or_from_slice_get}
 use Rattle.exi_bits.specs.declared.align.Align.{Align}
@@ -9,12 +9,12 @@ use Rattle.exi_gram.specs.declared.code.Code.{Code}
 use Rattle.exi_gram.specs.declared.code.Code.TheVariants as code
 use Rattle.exi_gram.specs.declared.code.Coded.{Coded as Kept}
 use Rattle.exi_gram.specs.declared.second.SecondPart.{SecondPart}
-use Rattle.exi_gram.specs.Codes.{Coded, IsClosedUp, Productions, Second, code_bits, coded, coded_from, coded_seconds, first_values, going_on, group, longer, single}
+use Rattle.exi_gram.specs.Codes.{Coded, IsClosedUp, Productions, Second, code_bits, coded, coded_from, coded_seconds, first_values, going_on, group, single}
 use Rattle.exi_gram.specs.Laws.{codes}
 use Rattle.exi_gram.specs.Naming.{Entry}
 use Rattle.exi_gram.specs.Tables.{CodeFits, Follow, IsTable, as_single, coded_of, count_at, first_count, items_of, kept_bits, kept_entry, parts_at, parts_of, second_of, size, slice, table_of}
-use Rattle.exi_gram.proofs.CodeLaws.{code_none, code_parts, group_behind, second_count, some_longer, third_count}
-use Rattle.exi_gram.proofs.CodeLists.{Stands, StandsBehind, StandsFirst, StandsIn, first_count as first_values_are, going_longer, parts_in, some_is, stands_at}
+use Rattle.exi_gram.proofs.CodeLaws.{code_none, code_parts, group_behind, second_count, third_count}
+use Rattle.exi_gram.proofs.CodeLists.{StandsBehind, StandsFirst, StandsIn, first_count as first_values_are, going_longer, parts_in, some_is, stands_at}
 use Rattle.exi_gram.proofs.TableLists.{count_firsts, count_items, follow_within, size_is, table_closed}
 
 -- ---- the bits of a code by its parts

@@ -4,7 +4,7 @@
 -- or a group; the members of a group are told apart by a third part.
 --
 -- A part is an n-bit number, of the fewest bits that tell the values apart that it can have there.
-use Rattle.std.specs.Prelude.{◌≡◌, ◌≢◌, ℕ, suc, ◌+◌, max, Bool, true, false, ◌==◌, Option, Some, None, Result, Ok, if◌then◌else◌, List, [], ◌∷◌, ◌++◌, length, map, filter, slice_get, All}
+use Rattle.std.specs.Prelude.{◌≢◌, ℕ, suc, ◌+◌, max, Bool, ◌==◌, Option, Some, None, Result, Ok, if◌then◌else◌, List, [], ◌∷◌, ◌++◌, length, map, filter, slice_get, All}
 use Rattle.exi_bits.specs.declared.align.Align.{Align}
 use Rattle.exi_bits.specs.declared.fault.Fault.{Fault}
 use Rattle.exi_bits.specs.declared.fault.Kind.TheVariants as kind

@@ -1,5 +1,5 @@
 -- The least places in the first string tables (EXI 1.0, section 7.3 and appendix D) of what a production names.
-use Rattle.std.specs.Prelude.{◌≢◌, ℕ, Option, Some, None, List, [], get_or, position, bytes_eq}
+use Rattle.std.specs.Prelude.{ℕ, Option, Some, None, List, [], get_or, position, bytes_eq}
 use Rattle.exi_names.specs.StartTables.{Names}
 use Rattle.exi_names.specs.declared.names.NameId.{NameId}
 use Rattle.exi_names.specs.declared.names.QName.{QName}

@@ -1,10 +1,8 @@
 -- What holds of every schema: the facts by which readers and writers find what they need (the layout of the grammars
 -- is the codec's own; EXI 1.0, section 8.5, says what stands in them).
-use Rattle.std.specs.Prelude.{◌≡◌, ◌≢◌, ℕ, ◌+◌, ◌%◌, ◌<◌, ◌≤◌, ◌^◌, Bool, true, false, Option, Some, None, List, All, length, map, drop, slice_get, if◌then◌else◌}
+use Rattle.std.specs.Prelude.{◌≡◌, ◌≢◌, ℕ, ◌+◌, ◌%◌, ◌<◌, ◌≤◌, ◌^◌, true, false, Option, Some, None, List, All, length, map, drop, slice_get, if◌then◌else◌}
 use Rattle.exi_names.specs.StartTables.{Names}
 use Rattle.exi_names.specs.declared.names.QName.{QName}
-use Rattle.exi_gram.specs.declared.entry.ElementEntry.{ElementEntry}
-use Rattle.exi_gram.specs.declared.entry.TypeEntry.{TypeEntry}
 use Rattle.exi_gram.specs.Naming.{name_place, named_in}
 use Rattle.exi_gram.specs.Outlines.{Outline}
 use Rattle.exi_gram.specs.Terminals.{Rule, Rules, sd, ed, se}

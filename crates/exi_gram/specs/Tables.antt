@@ -1,6 +1,6 @@
 -- The codes of a state as they are kept: the productions in the order of their codes, how many have codes of one
 -- part, and for each second part where its productions begin and how many they are.
-use Rattle.std.specs.Prelude.{◌≡◌, ℕ, zero, suc, ◌+◌, ◌-◌, ◌<◌, ◌≤◌, ◌^◌, Bool, true, false, Option, None, Some, List, [], ◌∷◌, ◌++◌, length, map, take, drop, get_or, if◌then◌else◌}
+use Rattle.std.specs.Prelude.{◌≡◌, ℕ, ◌+◌, ◌-◌, ◌<◌, ◌≤◌, ◌^◌, Bool, true, false, List, [], ◌∷◌, ◌++◌, length, map, take, drop, get_or, if◌then◌else◌}
 use Rattle.exi_bits.specs.declared.align.Align.{Align}
 use Rattle.exi_bits.specs.Bits.{number}
 use Rattle.exi_bits.specs.Widths.{width_for}
@@ -104,20 +104,6 @@ abbrev pub ends_in_group : {X : Type 0} → List (Second X) → Bool
 ends_in_group [] = false
 ends_in_group (y ∷ []) = is_group y
 ends_in_group (y ∷ z ∷ zs) = ends_in_group (z ∷ zs)
-
--- ---- places
--- so many places from one on
-abbrev pub counting : ℕ → ℕ → List ℕ
-counting place zero = []
-counting place (suc n) = place ∷ counting (suc place) n
-
--- the places that a second part tells
-abbrev pub places_of : SecondPart → Second ℕ
-places_of s = if s.group then group (counting s.begin s.count) else single s.begin
-
--- the places in the place of the productions
-abbrev pub places_in : ℕ → List SecondPart → Productions ℕ
-places_in firsts seconds = record { firsts = counting 0 firsts; seconds = map places_of seconds }
 
 -- the code of the production at a place
 abbrev pub parts_at : {X : Type 0} → Productions X → ℕ → List ℕ

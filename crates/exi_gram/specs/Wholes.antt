@@ -1,7 +1,7 @@
 -- The grammars of a whole stream, Document and Fragment (EXI 1.0, sections 8.4.1, 8.4.2, 8.5.1 and 8.5.2), before the
 -- options take anything away. A schema gives them elements, each with the grammar that opens it; without one there are
 -- none, and what a fragment without a schema learns stands in front.
-use Rattle.std.specs.Prelude.{ℕ, Bool, false, Option, Some, None, List, [], ◌∷◌, ◌++◌, map}
+use Rattle.std.specs.Prelude.{ℕ, false, Some, None, List, [], ◌∷◌, ◌++◌, map}
 use Rattle.exi_names.specs.StartTables.{first_names}
 use Rattle.exi_names.specs.declared.names.QName.{QName}
 use Rattle.exi_gram.specs.Codes.{Productions, coded, group, single}

@@ -4,7 +4,6 @@ use Rattle.exi_bits.specs.Bits.{number}
 use Rattle.exi_bits.specs.Widths.{width_for}
 use Rattle.exi_items.specs.Fronts.{HoldsFront}
 use Rattle.exi_items.proofs.Pieces.{on_err, then_front}
-use Rattle.exi_gram.specs.Tables.{kept_bits}
 use Rattle.exi_gram.proofs.write.write_kept.Goals as goal
 
 none_yet : (old text new : List Bool) → new ≡ old → HoldsFront old text new

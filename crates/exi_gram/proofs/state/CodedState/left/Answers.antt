@@ -1,11 +1,9 @@
-use Rattle.std.proofs.Common.{◌≡◌, List, filter, length, take, sym, ap, ◌∙◌, subst, arith}
+use Rattle.std.proofs.Common.{List, filter, length, take, ap, ◌∙◌, arith}
 use Rattle.std.proofs.lemmas.List.{length-take}
 use Rattle.exi_gram.specs.declared.code.Coded.{Coded}
 use Rattle.exi_gram.specs.Books.{is_kept}
-use Rattle.exi_gram.specs.Codes.{Productions}
-use Rattle.exi_gram.specs.Naming.{Entry}
 use Rattle.exi_gram.specs.Tables.{items_of, with_firsts}
-use Rattle.exi_gram.proofs.Leaving.{left_all, left_part, left_starts, part_of, room_for_part}
+use Rattle.exi_gram.proofs.Leaving.{left_part, left_starts, part_of, room_for_part}
 use Rattle.exi_gram.proofs.TableLists.{follow_within}
 use Rattle.exi_gram.proofs.state.CodedState.left.Goals as goal
 

@@ -1,4 +1,3 @@
-use Rattle.std.proofs.Common.{refl}
 use Rattle.exi_gram.proofs.TableLists.{first_added}
 use Rattle.exi_gram.proofs.state.CodedState.push_first.Goals as goal
 

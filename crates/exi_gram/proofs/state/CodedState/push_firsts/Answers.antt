@@ -1,5 +1,4 @@
-use Rattle.std.proofs.Common.{◌≡◌, sym, ap, ◌∙◌}
-use Rattle.exi_gram.specs.Naming.{Entry}
+use Rattle.std.proofs.Common.{sym, ap, ◌∙◌}
 use Rattle.exi_gram.specs.Terminals.{Rule}
 use Rattle.exi_gram.proofs.Leaving.{firsts_here, firsts_room, kept_past}
 use Rattle.exi_gram.proofs.state.CodedState.push_firsts.Goals as goal

@@ -1,6 +1,5 @@
-use Rattle.std.proofs.Common.{◌≡◌, refl, sym, ap, ◌∙◌}
+use Rattle.std.proofs.Common.{refl, sym, ap, ◌∙◌}
 use Rattle.exi_gram.specs.Books.{is_kept}
-use Rattle.exi_gram.specs.Naming.{Entry}
 use Rattle.exi_gram.specs.Tables.{most_productions}
 use Rattle.exi_gram.specs.Terminals.{Rule}
 use Rattle.exi_gram.proofs.Leaving.{group_ends_here, group_goes_on_here, group_room, group_starts_here, group_stays}
