@@ -5,11 +5,11 @@ use Rattle.exi_builtin.specs.BuiltIn.{BuiltInRule, is_kept, written_rules}
 use Rattle.exi_builtin.specs.Learning.{Learning}
 use Rattle.exi_builtin.specs.declared.learnable.Room.{Room}
 use Rattle.exi_builtin.specs.declared.learnable.Room.TheVariants as room
-use Rattle.exi_gram.specs.Books.{HoldsStates, IsBook, state_at, state_of}
+use Rattle.exi_gram.specs.Books.{HoldsStates, IsBook, is_kept as is_entry_kept, placed_in, state_at, state_of}
 use Rattle.exi_gram.specs.Codes.{HasMembers, IsClosedUp, Productions, Second, group, kept_seconds, mapped, mapped_second, single}
-use Rattle.exi_gram.specs.Naming.{Entry, entry_of}
+use Rattle.exi_gram.specs.Naming.{Entry}
 use Rattle.exi_gram.specs.Tables.{no_productions}
-use Rattle.exi_gram.specs.Terminals.{Rule, is_left}
+use Rattle.exi_gram.specs.Terminals.{Rule}
 use Rattle.exi_gram.specs.Wholes.{document}
 use Rattle.exi_gram.specs.declared.options.Options.{Options}
 use Rattle.exi_gram.proofs.CodeLaws.{pruned_closed}
@@ -39,7 +39,7 @@ none_closed : IsClosedUp {X = Entry} no_productions
 none_closed = All-nil HasMembers
 
 state_closed : (o : Options) (names : Names) (p : Productions Rule) → IsClosedUp (state_of o names p)
-state_closed o names p = mapped_members (entry_of names) (kept_seconds (λ (r : Rule). is_left o r.on) p.seconds) (pruned_closed (λ (r : Rule). is_left o r.on) p)
+state_closed o names p = pruned_closed (is_entry_kept o) (placed_in names p)
 
 left_closed : (o : Options) (names : Names) (ps : List (Productions Rule)) (i : ℕ) → IsClosedUp (get_or (map (state_of o names) ps) i no_productions)
 left_closed o names [] i = none_closed

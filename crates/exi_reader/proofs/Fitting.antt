@@ -14,7 +14,7 @@ use Rattle.exi_builtin.specs.declared.element_grammar.ElementGrammar.{ElementGra
 use Rattle.exi_builtin.specs.Learning.{Learning, behind_learned, productions, rule_in, rules}
 use Rattle.exi_builtin.proofs.Rules.{rules_are}
 use Rattle.exi_gram.specs.declared.options.Options.{Options}
-use Rattle.exi_gram.specs.Books.{HoldsStates, IsBook, state_of}
+use Rattle.exi_gram.specs.Books.{HoldsStates, IsBook, state_of, is_kept as is_entry_kept, placed_in}
 use Rattle.exi_gram.specs.Codes.{Productions, Second, code_at, first_told, first_values, group, kept_second, kept_seconds, mapped, mapped_second, member_at, part_at, pruned, second_at, second_told, single, told}
 use Rattle.exi_gram.specs.Naming.{Entry, entry_of}
 use Rattle.exi_gram.specs.Switches.{align_of}
@@ -253,8 +253,8 @@ end_written = record {
 left_fits : (o : Options) (names : Names) (number : ℕ) (p : Productions gram.Rule) → Each (OfDocument number) p → Each (InDocument number) (mapped book_rule (state_of o names p))
 left_fits o names number p e =
     each_mapped (InDocument number) book_rule (state_of o names p)
-    (each_mapped (λ x. InDocument number (book_rule x)) (entry_of names) (pruned (λ (r : gram.Rule). gram.is_left o r.on) p)
-    (each_pruned (OfDocument number) (λ (r : gram.Rule). gram.is_left o r.on) p e))
+    (each_pruned (λ x. InDocument number (book_rule x)) (is_entry_kept o) (placed_in names p)
+    (each_mapped (λ x. InDocument number (book_rule x)) (entry_of names) p e))
 
 abbrev kept_state : List (List (Productions Entry)) → ℕ → Productions Entry
 kept_state states number = get_or (get_or states 0 []) number no_productions
@@ -329,8 +329,8 @@ end_plain = record { firsts = All-from_recursion OfPlain document_end.firsts (re
 left_plain : (o : Options) (names : Names) (p : Productions gram.Rule) → Each OfPlain p → Each IsPlain (mapped book_rule (state_of o names p))
 left_plain o names p e =
     each_mapped IsPlain book_rule (state_of o names p)
-    (each_mapped (λ x. IsPlain (book_rule x)) (entry_of names) (pruned (λ (r : gram.Rule). gram.is_left o r.on) p)
-    (each_pruned OfPlain (λ (r : gram.Rule). gram.is_left o r.on) p e))
+    (each_pruned (λ x. IsPlain (book_rule x)) (is_entry_kept o) (placed_in names p)
+    (each_mapped (λ x. IsPlain (book_rule x)) (entry_of names) p e))
 
 none_plain : Each IsPlain (mapped book_rule no_productions)
 none_plain = record { firsts = All-nil IsPlain; seconds = All-nil (EachOf IsPlain) }
