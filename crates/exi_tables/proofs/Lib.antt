@@ -8,3 +8,8 @@ pub mod SomeText
 pub mod Counts
 pub mod Given
 pub mod Longer
+pub mod ByHash
+pub mod SpotSets
+pub mod Found
+pub mod Completes
+pub mod Looked

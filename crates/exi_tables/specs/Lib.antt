@@ -2,3 +2,4 @@ pub mod Values
 pub mod Partitions
 pub mod Growth
 pub mod Kept
+pub mod Spots

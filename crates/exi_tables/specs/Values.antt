@@ -47,6 +47,9 @@ stands_under name place l = same_name name l.name && (l.local == place)
 abbrev pub text_under : NameId → List Live → ℕ → Option (List ℕ)
 text_under name live place = option_map (λ l. l.text) (find (stands_under name place) live)
 
+abbrev pub is_value : NameId → List ℕ → Live → Bool
+is_value name text l = same_name name l.name && bytes_eq l.text text
+
 abbrev pub or_less : ℕ → Option ℕ → ℕ
 or_less place None = place
 or_less place (Some other) = min place other
@@ -55,7 +58,7 @@ or_less place (Some other) = min place other
 abbrev pub least_under : NameId → List ℕ → List Live → Option ℕ
 least_under name text [] = None
 least_under name text (l ∷ more) =
-    if same_name name l.name && bytes_eq l.text text then Some (or_less l.local (least_under name text more)) else least_under name text more
+    if is_value name text l then Some (or_less l.local (least_under name text more)) else least_under name text more
 
 -- ---- what a missed value adds
 abbrev pub is_short : Option ℕ → ℕ → Bool

@@ -1,15 +1,67 @@
+//! The string tables of EXI 1.0 (section 7.3).
+//!
+//! A text that stands in a stream for the first time is spelled by its characters, and gets a place
+//! in a partition; later it is told by that place. On the wire, `w(n)` being the bits of a number
+//! below `n` and `count` the places of the partition:
+//!
+//! ```text
+//! URI         w(count + 1) bits   0: a miss, a literal follows   k: place k - 1
+//! local name  Unsigned Integer    0: a hit, place in w(count) bits
+//!                                 L: a miss of L - 1 characters
+//! prefix      w(count) bits       the place, where it is the prefix of a name
+//!             w(count + 1) bits   in a namespace declaration: 0: a miss, a literal follows   k: place k - 1
+//! value       Unsigned Integer    0: a hit in the name's own partition, place in w(count) bits
+//!                                 1: a hit in the global partition, place in w(count) bits
+//!                                 L: a miss of L - 2 characters
+//! ```
+//!
+//! A text that is spelled out again gets a second place, which raises the counts alone: a look-up by text
+//! gives the least place, and a name goes on as that.
+//!
+//! # Bounds
+//!
+//! Values of more characters than valueMaxLength are not added, and of those that are, as many are live as
+//! valuePartitionCapacity says. With a capacity of 2, and x, y and z added under one name:
+//!
+//! ```text
+//! global place   0   1          the next value takes the place 1
+//! value          z   y
+//! own place      0   1   2
+//! value          -   y   z      x was pushed out; its place still counts
+//! ```
+//!
+//! # Implementations
+//!
+//! [`Tables`] is what readers and writers need: each partition's count, its texts by place, the
+//! least place of a text, and growth at a miss. [`ListTables`] keeps plain lists, which a look-up by text,
+//! and one under a name, walks. [`HashTables`] takes a step or two for each look-up. Both keep a text no
+//! longer than it is live, and no look-up takes memory.
 #![tactic(auto)]
 
+mod hash_texts;
+mod hash_values;
 pub mod laws;
 mod list_texts;
 mod list_values;
 mod live;
+mod name_counts;
 mod partitioned;
+mod spots;
 mod tables;
+#[cfg(test)]
+mod tests;
 mod texts;
 mod value_store;
 
+use hash_texts::HashTexts;
+use hash_values::HashValues;
+use list_texts::ListTexts;
+use list_values::ListValues;
+use partitioned::Partitioned;
 pub use tables::{Tables, is_name};
 
 /// String tables as plain lists.
-pub type ListTables = partitioned::Partitioned<list_texts::ListTexts, list_values::ListValues>;
+pub type ListTables = Partitioned<ListTexts, ListValues>;
+
+/// String tables by hash: look-ups by text and by place take a step or two, however many texts there are.
+pub type HashTables = Partitioned<HashTexts, HashValues>;

@@ -1,11 +1,8 @@
-ghost use Rattle.std.specs.Prelude.{◌≡◌, ◌+◌, ◌<◌, ◌-◌, ◌^◌, ◌≤◌, length, position, find, ◌&&◌, OnOk, OnErr};
-ghost use Rattle.std.specs.Option.{ForSome, option_copied, option_map};
-ghost use Rattle.std.specs.Str.{bytes_eq};
-ghost use Rattle.exi_names.specs.NameMaps.{same_name};
-ghost use Rattle.exi_tables.specs.Values.{given_to, least_under, name_place, one_more, stands_under};
+ghost use Rattle.std.specs.Prelude.{◌≡◌, ◌<◌, ◌-◌, ◌^◌, find, OnOk, OnErr};
+ghost use Rattle.exi_tables.specs.Values.{given_to, name_place, one_more, stands_under};
 
 use crate::list_texts::narrowed;
-use crate::live::{Bounds, Given, Live, or_less, put};
+use crate::live::{Bounds, Given, Live, least_under, least_value, put};
 use crate::value_store::ValueStore;
 use exi_names::{NameId, Txt};
 use std::alloc::{AllocError, Global};
@@ -97,34 +94,6 @@ impl ValueStore for ListValues {
         self.next = self.bounds.after(self.next);
         Ok(())
     }
-}
-
-/// The least place of a value among all.
-fn least_value(live: &[Live], text: &Txt) -> Option<usize>
-    ensures { result ≡ position (λ l. bytes_eq l.text text.now) live.now }
-{
-    live.iter().position(|value| value.text.same(text))
-}
-
-/// The least place under a name of a value with this text.
-fn least_under(live: &[Live], name: NameId, text: &Txt) -> Option<u32>
-    ensures { result ≡ least_under name text.now live.now }
-{
-    let mut least = None;
-    for value in live {
-        if !is_value(value, name, text) {
-            continue;
-        }
-        least = Some(or_less(value.local, least));
-    }
-    least
-}
-
-/// Whether a value has this name and text.
-fn is_value(value: &Live, name: NameId, text: &Txt) -> bool
-    ensures { result ≡ same_name name value.now.name && bytes_eq value.now.text text.now }
-{
-    value.name == name && value.text.same(text)
 }
 
 /// Where a name stands.

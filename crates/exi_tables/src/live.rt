@@ -1,5 +1,15 @@
-ghost use Rattle.std.specs.Prelude.{◌≡◌, ◌<◌, ◌≤◌, ◌-◌, ◌^◌, IfSome, length, nat_lt, vec_capacity, vec_len};
-ghost use Rattle.exi_tables.specs.Values.{has_room, is_added, is_short, or_less, place_after, put_at};
+ghost use Rattle.std.specs.Prelude.{◌≡◌, ◌<◌, ◌≤◌, ◌-◌, ◌^◌, IfSome, length, nat_lt, position, vec_capacity, vec_len};
+ghost use Rattle.std.specs.Str.{bytes_eq};
+ghost use Rattle.exi_tables.specs.Values.{
+  has_room,
+  is_added,
+  is_short,
+  is_value,
+  least_under,
+  or_less,
+  place_after,
+  put_at,
+};
 
 use exi_names::{NameId, Txt};
 
@@ -104,4 +114,32 @@ pub fn or_less(place: u32, other: Option<u32>) -> u32
         Some(other) => place.min(other),
         None => place,
     }
+}
+
+/// The least place of a value among all.
+pub fn least_value(live: &[Live], text: &Txt) -> Option<usize>
+    ensures { result ≡ position (λ l. bytes_eq l.text text.now) live.now }
+{
+    live.iter().position(|value| value.text.same(text))
+}
+
+/// The least place under a name of a value with this text.
+pub fn least_under(live: &[Live], name: NameId, text: &Txt) -> Option<u32>
+    ensures { result ≡ least_under name text.now live.now }
+{
+    let mut least = None;
+    for value in live {
+        if !is_value(value, name, text) {
+            continue;
+        }
+        least = Some(or_less(value.local, least));
+    }
+    least
+}
+
+/// Whether a value has this name and text.
+pub fn is_value(value: &Live, name: NameId, text: &Txt) -> bool
+    ensures { result ≡ is_value name text.now value.now }
+{
+    value.name == name && value.text.same(text)
 }

@@ -1,5 +1,5 @@
 use Rattle.exi_tables.proofs.Counts.{least_here, least_past}
-use Rattle.exi_tables.proofs.list_values.least_under.Goals as goal
+use Rattle.exi_tables.proofs.live.least_under.Goals as goal
 
 pub loop-value-preserved : goal.loop-value-preserved
 loop-value-preserved c =
