@@ -5,7 +5,7 @@ use Rattle.std.proofs.lemmas.Nat.{shr_below}
 use Rattle.std.proofs.lemmas.Bool.{ltb-false, le-ltb, cases_lt}
 use Rattle.exi_bits.specs.declared.align.Align.{Align}
 use Rattle.exi_bits.specs.declared.align.Align.TheVariants as align
-use Rattle.exi_bits.specs.Bits.{Spot, IsAligned, IsBytes, Front, rest, left, moved, bits, number_bits, value_of, octets, le_bytes, le_value, number, taken, number_at}
+use Rattle.exi_bits.specs.Bits.{Spot, IsAligned, IsBytes, Front, rest, left, moved, bits, number_bits, value_of, octets, le_bytes, le_value, number, octets_of, taken, number_at}
 use Rattle.exi_bits.proofs.BitLaws.{length-bits, length-number_bits, value_of-number_bits, bits-take, bits-drop, part_fits, pow_up, le_value_below}
 use Rattle.exi_bits.proofs.Spelled.{guard_some, length-rest, number_takes, number_again}
 
@@ -39,22 +39,18 @@ le_bytes-le_value (b ∷ bs) fits =
     rw (low, high, le_bytes-le_value bs (λ i. fits (suc i))) refl
 
 -- ---- bytes are told by their bits
-unfoldable bytes_of : ℕ → List Bool → List ℕ
-bytes_of zero text = []
-bytes_of (suc n) text = value_of (take 8 text) ∷ bytes_of n (drop 8 text)
-
-bytes_of-bits : (bs : List ℕ) → IsBytes bs → bytes_of (length bs) (bits bs) ≡ bs
-unfolding bits bytes_of
-bytes_of-bits [] fits = refl
-bytes_of-bits (b ∷ bs) fits =
+pub octets_of-bits : (bs : List ℕ) → IsBytes bs → octets_of (length bs) (bits bs) ≡ bs
+unfolding bits octets_of
+octets_of-bits [] fits = refl
+octets_of-bits (b ∷ bs) fits =
     let one : take 8 (number_bits 8 b ++ bits bs) ≡ number_bits 8 b = take_at (number_bits 8 b) (bits bs) 8 (length-number_bits 8 b) in
     let two : drop 8 (number_bits 8 b ++ bits bs) ≡ bits bs = drop_at (number_bits 8 b) (bits bs) 8 (length-number_bits 8 b) in
-    rw (one, two, value_of-number_bits 8 b (fits 0), bytes_of-bits bs (λ i. fits (suc i))) refl
+    rw (one, two, value_of-number_bits 8 b (fits 0), octets_of-bits bs (λ i. fits (suc i))) refl
 
 pub same_bytes : (a b : List ℕ) → IsBytes a → IsBytes b → bits a ≡ bits b → a ≡ b
 same_bytes a b fa fb e =
     let len : length a ≡ length b = omega (arith, length-bits a, length-bits b, ap length e) in
-    sym (bytes_of-bits a fa) ∙ rw (e, len) (bytes_of-bits b fb)
+    sym (octets_of-bits a fa) ∙ rw (e, len) (octets_of-bits b fb)
 
 -- ---- reading
 bits-drop_any : (n : ℕ) (bs : List ℕ) → drop (8 * n) (bits bs) ≡ bits (drop n bs)

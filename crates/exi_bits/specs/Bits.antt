@@ -23,6 +23,11 @@ value_of [] = 0
 value_of (true ∷ bs) = 2 ^ length bs + value_of bs
 value_of (false ∷ bs) = value_of bs
 
+-- so many octets that bits spell
+unfoldable pub octets_of : ℕ → List Bool → List ℕ
+octets_of zero text = []
+octets_of (suc n) text = value_of (take 8 text) ∷ octets_of n (drop 8 text)
+
 -- bytes, and the bit at which reading goes on
 pub record Spot : Type 0 where
   pub bytes : List ℕ

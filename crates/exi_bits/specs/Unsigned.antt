@@ -95,6 +95,10 @@ at_spot s (Err k) = Err (record { kind = k; bit = s.place })
 unfoldable pub narrow_groups_at : Spot → Result (ℕ × Spot) Kind
 narrow_groups_at s = groups_at 19 s >>= narrow
 
+-- the same behind a first octet that goes on
+unfoldable pub behind_first : ℕ → Spot → Result (ℕ × Spot) Kind
+behind_first first s = groups_at 18 s >>= λ more. narrow (first - 128 + 128 * more.0, more.1)
+
 -- an Unsigned Integer and what is after it, or the fault at its first bit
 unfoldable pub unsigned_at : Spot → Result (ℕ × Spot) Fault
 unsigned_at s = at_spot s (narrow_groups_at s)

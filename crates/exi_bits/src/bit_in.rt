@@ -1,12 +1,14 @@
-ghost use Rattle.std.specs.Prelude.{◌≡◌, ◌+◌, ◌*◌, ◌-◌, ◌%◌, ◌^◌, ◌<◌, ◌≤◌, length, IfSome, IfOk, MatchOption};
+ghost use Rattle.std.specs.Prelude.{◌≡◌, ◌+◌, ◌*◌, ◌-◌, ◌%◌, ◌^◌, ◌<◌, ◌≤◌, length, IfSome, IfOk, OnErr, MatchOption};
 ghost use Rattle.exi_bits.specs.Bits.{Spot, left, moved, at_bit, at_next_byte, taken, IsAligned, Takes, number_at};
-ghost use Rattle.exi_bits.specs.Unsigned.{narrow_groups_at, unsigned_at, field_at, below_at, Reads, ReadsSome};
+ghost use Rattle.exi_bits.specs.Repeat.{octets_at};
+ghost use Rattle.exi_bits.specs.Unsigned.{behind_first, unsigned_at, field_at, below_at, Reads, ReadsSome, Stops};
 ghost use Rattle.exi_bits.specs.declared.align.Align.TheVariants as align;
 
 use crate::align::Align;
-use crate::fault::{Fault, Kind};
+use crate::fault::{Fault, Kind, Stop};
 use crate::widths::bits_for;
-use crate::words::{bits_at, bytes_at, narrow_at, with_group};
+use crate::words::{bits_at, bytes_at, narrow_at, octets_from, with_group};
+use std::alloc::Global;
 use std::marker::Model;
 
 /// Bytes, and the bit at which reading goes on: its place, counted from 0 at the first byte's most
@@ -127,14 +129,17 @@ impl<'a> BitIn<'a> {
         Some(value)
     }
 
-    /// Takes the octets of an Unsigned Integer. The place is anything after an `Err`.
-    fn groups(&mut self) -> Result<u128, Kind>
-        ensures read { ReadsSome (λ x. x) result self.new (narrow_groups_at self.old) }
+    /// Takes the octets of an Unsigned Integer behind a first one that goes on. The place is anything
+    /// after an `Err`.
+    fn groups(&mut self, first: u64) -> Result<u128, Kind>
+        requires goes_on { 128 ≤ first }
+        requires octet { first < 256 }
+        ensures read { ReadsSome (λ x. x) result self.new (behind_first first self.old) }
         ensures bytes { self.new.bytes ≡ self.old.bytes }
         ensures phase { self.new.place % 8 ≡ self.old.place % 8 }
     {
-        let mut value: u128 = 0;
-        for group in 0..19u32 {
+        let mut value = u128::from(first - 128);
+        for group in 1..19u32 {
             let Some(octet) = self.octet() else {
                 return Err(Kind::Short);
             };
@@ -163,19 +168,48 @@ impl<'a> BitIn<'a> {
         ensures phase { self.new.place % 8 ≡ self.old.place % 8 }
     {
         let bit = self.at();
-        if let Some(octet) = self.octet() {
-            if octet < 128 {
-                return Ok(u128::from(octet));
-            }
-            self.go_to_bit(bit);
+        let Some(first) = self.octet() else {
+            return Err(Fault {
+                kind: Kind::Short,
+                bit,
+            });
+        };
+        if first < 128 {
+            return Ok(u128::from(first));
         }
-        match self.groups() {
+        match self.groups(first) {
             Ok(value) => Ok(value),
             Err(kind) => {
                 self.go_to_bit(bit);
                 Err(Fault { kind, bit })
             }
         }
+    }
+
+    /// Takes `count` octets, numbers of eight bits one after another, at any bit.
+    ///
+    /// # Errors
+    ///
+    /// The place is then as before.
+    ///
+    /// - `Short` at the octet at which the bits end; no memory is taken then, whatever the count.
+    /// - `Memory` where memory is refused.
+    pub fn octets(&mut self, alloc: Global, count: u128) -> Result<Vec<u8>, Stop>
+        ensures read { Stops (λ o. o.items) result self.new (octets_at count self.old) }
+        ensures place { OnErr result (self.new ≡ self.old) }
+        ensures bytes { self.new.bytes ≡ self.old.bytes }
+        ensures phase { self.new.place % 8 ≡ self.old.place % 8 }
+    {
+        let held = self.left() / 8;
+        if count > u128::from(held) {
+            return Err(Stop::Fault(Fault {
+                kind: Kind::Short,
+                bit: self.place + held * 8,
+            }));
+        }
+        let octets = octets_from(alloc, self.bytes, self.place, count as usize)?;
+        self.place += count as u64 * 8;
+        Ok(octets)
     }
 
     /// Takes an n-bit number, as [`BitIn::take`] does.

@@ -98,6 +98,18 @@ fn push_octet(bytes: &mut Vec<u8>, spare: u32, octet: u8)
     }
 }
 
+/// Octets behind bits that end in a part of a byte.
+fn push_octets(bytes: &mut Vec<u8>, spare: u32, octets: &[u8])
+    requires padded { IsPadded bytes.old.items spare }
+    requires room { vec_len bytes.old + length octets.now ≤ vec_capacity bytes.old }
+    ensures padded { IsPadded bytes.new.items spare }
+    ensures bits { written bytes.new.items spare ≡ written bytes.old.items spare ++ bits octets.now }
+{
+    for octet in octets {
+        push_octet(bytes, spare, *octet);
+    }
+}
+
 /// The octets of an Unsigned Integer behind the bits.
 fn push_groups(bytes: &mut Vec<u8>, spare: u32, value: u128)
     requires padded { IsPadded bytes.old.items spare }
@@ -200,6 +212,39 @@ impl BitOut {
         self.bytes.reserve(19)?;
         push_groups(&mut self.bytes, self.spare, value);
         Ok(())
+    }
+
+    /// Adds octets, eight bits each, at any bit.
+    ///
+    /// # Errors
+    ///
+    /// Where there is no memory. The bits are then as before.
+    pub fn octets(&mut self, octets: &[u8]) -> Result<(), AllocError>
+        ensures ok { OnOk result (self.new ≡ self.old ++ bits octets.now) }
+        ensures err { OnErr result (self.new ≡ self.old) }
+        ensures phase { length self.new % 8 ≡ length self.old % 8 }
+    {
+        if self.spare == 0 {
+            self.bytes.extend_from_slice(octets)?;
+            return Ok(());
+        }
+        self.bytes.reserve(octets.len())?;
+        push_octets(&mut self.bytes, self.spare, octets);
+        Ok(())
+    }
+
+    /// Adds the bits of another, which are whole bytes.
+    ///
+    /// # Errors
+    ///
+    /// Where there is no memory. The bits are then as before.
+    pub fn append(&mut self, other: &BitOut) -> Result<(), AllocError>
+        requires whole { length other.now % 8 ≡ 0 }
+        ensures ok { OnOk result (self.new ≡ self.old ++ other.now) }
+        ensures err { OnErr result (self.new ≡ self.old) }
+        ensures phase { length self.new % 8 ≡ length self.old % 8 }
+    {
+        self.octets(&other.bytes)
     }
 
     /// Adds 0 bits up to a whole byte. Takes no memory.
