@@ -1,5 +1,5 @@
 -- Words: eight bytes at a time.
-use Rattle.std.proofs.Common.{◌≡◌, ℕ, zero, suc, ◌+◌, ◌*◌, ◌-◌, ◌/◌, ◌%◌, ◌^◌, ◌<◌, ◌≤◌, Bool, List, [], ◌∷◌, ◌++◌, length, get_or, take, drop, refl, sym, ap, ◌∙◌, subst, append_assoc, inl, inr, arith, bit_and}
+use Rattle.std.proofs.Common.{◌≡◌, ℕ, zero, suc, ◌+◌, ◌*◌, ◌-◌, ◌/◌, ◌%◌, ◌^◌, ◌<◌, ◌≤◌, Bool, List, [], ◌∷◌, ◌++◌, length, get_or, take, drop, refl, sym, ap, ◌∙◌, subst, append_assoc, inl, inr, add-zero, arith, bit_and}
 use Rattle.std.proofs.lemmas.List.{length-append, length-take, length-drop, take-append-drop, take_at, drop_at, take-take, drop-take, drop-drop, drop_more, get_or-drop, get_or-take}
 use Rattle.std.proofs.lemmas.Nat.{pow-add, shr_high, mod_low, and_mask, be_bytes_8}
 use Rattle.std.specs.Int.{w64, from_be_bytes, to_be_bytes}
@@ -148,3 +148,7 @@ low_bytes xs n m le long fits =
 pub low_word : (bs : List ℕ) (first count : ℕ) → 1 ≤ count → count ≤ 8 → first + 8 ≤ length bs → ((i : ℕ) → get_or bs i 0 < 256) → bit_and (le_value (take 8 (drop first bs))) (18446744073709551615 / 2 ^ (64 - 8 * count)) ≡ le_value (take count (drop first bs))
 low_word bs first count some few le fits =
     rw (low_mask count some few, and_mask) (low_bytes (drop first bs) count 8 few (omega (arith, length-drop first bs)) (λ i. rw get_or-drop (fits (first + i))))
+
+pub one_byte_at : (bs : List ℕ) (first : ℕ) → first < length bs → get_or bs first 0 ≡ le_value (take 1 (drop first bs))
+unfolding le_value
+one_byte_at bs first lt = sym (add-zero (get_or bs first 0)) ∙ sym (ap (λ (t : List ℕ). le_value (take 1 t)) (drop_more bs first 0 lt))

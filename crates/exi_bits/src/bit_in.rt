@@ -61,6 +61,7 @@ impl<'a> BitIn<'a> {
     /// its width. A number of no bits is 0. Under `Bytes` the place has to be a whole byte.
     ///
     /// `None` exactly where fewer bits remain.
+    #[inline]
     #[tactic(auto, unfolding(crate::specs::Bits::number_at))]
     pub fn take(&mut self, width: u32, align: Align) -> Option<u64>
         requires narrow { width ≤ 64 }

@@ -1,3 +1,2 @@
-pub mod Octets
 pub mod Signs
 pub mod Binaries

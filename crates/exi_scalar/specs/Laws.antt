@@ -11,12 +11,12 @@ use Rattle.exi_scalar.specs.Spelled.{SpellsBinary, SpellsBoolean, SpellsDecimal,
 
 -- what is read is spelled so
 abbrev pub BinaryIsSpelled : Type 0
-BinaryIsSpelled = (hex : Bool) (a : Align) (v : Value) (c d : Charged) → IsBytes c.spot.bytes → IsAligned a c.spot → binary_at hex a c ≡ Ok (v, d) → (text : List Bool) × SpellsBinary hex v text × Front c.spot text d.spot
+BinaryIsSpelled = (hex : Bool) (a : Align) (v : Value) (c d : Charged) → IsBytes c.spot.bytes → IsAligned a c.spot → binary_at hex c ≡ Ok (v, d) → (text : List Bool) × SpellsBinary hex v text × Front c.spot text d.spot
 
 -- what is spelled so is read, whatever follows, where the meter takes so many octets
 abbrev pub BinaryIsRead : Type 0
 BinaryIsRead = (hex : Bool) (a : Align) (octets : List ℕ) (m : Metering) (text : List Bool) (c : Charged) (more : List Bool) → IsBytes c.spot.bytes → IsAligned a c.spot → text_charge (length octets) c.spot.place c.meter ≡ Ok m → SpellsBinary hex (binary hex octets) text → rest c.spot ≡ text ++ more
-    → binary_at hex a c ≡ Ok (binary hex octets, record { spot = moved c.spot (length text); meter = m })
+    → binary_at hex c ≡ Ok (binary hex octets, record { spot = moved c.spot (length text); meter = m })
 
 -- no spelling is a proper prefix of another, and each spells one value
 abbrev pub BinaryIsNoPrefix : Type 0

@@ -5,7 +5,7 @@ use Rattle.exi_bits.specs.declared.align.Align.{Align}
 use Rattle.exi_bits.specs.declared.fault.Fault.{Fault}
 use Rattle.exi_bits.specs.declared.fault.Kind.TheVariants as kind
 use Rattle.exi_bits.specs.Bits.{Spot, bits, number}
-use Rattle.exi_bits.specs.Repeat.{Reader, times}
+use Rattle.exi_bits.specs.Repeat.{Reader, octets_at}
 use Rattle.exi_bits.specs.Unsigned.{◌>>=◌, fault_at, field_at, below_at, shortest, unsigned_at}
 use Rattle.exi_items.specs.Charges.{Charged, text_charge, after_text}
 use Rattle.exi_meter.specs.Metering.{Metering}
@@ -141,11 +141,11 @@ IsFloat other = ⊥
 
 -- ---- Binary
 -- The octets behind their number, which is charged as text. TextLimit comes at the number.
-unfoldable pub binary_at : Bool → Align → Charged → Result (Value × Charged) Fault
-binary_at hex a c = do
+unfoldable pub binary_at : Bool → Charged → Result (Value × Charged) Fault
+binary_at hex c = do
   count ← unsigned_at c.spot
   meter ← text_charge count.0 c.spot.place c.meter
-  octets ← times (field_at 8 a) count.0 count.1
+  octets ← octets_at count.0 count.1
   Ok (binary hex octets.0, record { spot = octets.1; meter = meter })
 
 -- the meter after the number of octets that was read, or as it was

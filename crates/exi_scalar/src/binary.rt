@@ -1,7 +1,6 @@
-ghost use Rattle.std.specs.Prelude.{◌≡◌, ◌++◌, length, OnOk, OnErr, IfErr};
-ghost use Rattle.exi_bits.specs.Bits.{IsAligned, bits};
-ghost use Rattle.exi_bits.specs.Repeat.{times};
-ghost use Rattle.exi_bits.specs.Unsigned.{Stops, field_at, unsigned_at};
+ghost use Rattle.std.specs.Prelude.{◌≡◌, ◌%◌, ◌++◌, OnOk, OnErr, IfErr};
+ghost use Rattle.exi_bits.specs.Bits.{IsAligned};
+ghost use Rattle.exi_bits.specs.Unsigned.{unsigned_at};
 ghost use Rattle.exi_bits.specs.Written.{IsWholeBytes};
 ghost use Rattle.exi_items.specs.Charges.{Charges, meter_after};
 ghost use Rattle.exi_items.specs.Fronts.{HoldsFront};
@@ -14,50 +13,27 @@ use exi_meter::Meter;
 use exi_names::{Octets, Val};
 use std::alloc::{AllocError, Global};
 
-/// So many octets. After an `Err` the place is anything.
-fn read_octets(
-    alloc: Global,
-    input: &mut BitIn<'_>,
-    count: u128,
-    align: Align,
-) -> Result<Octets, Stop>
-    requires aligned { IsAligned align input.old }
-    ensures read { Stops (λ o. o) result input.new (times (field_at 8 align) count input.old) }
-    ensures bytes { input.new.bytes ≡ input.old.bytes }
-    ensures aligned { IsAligned align input.new }
-{
-    let mut octets = Octets::new(alloc);
-    for _ in 0..count {
-        let octet = input.number(8, align)?;
-        octets.push(octet as u8)?;
-    }
-    Ok(octets)
-}
-
 /// Reads a Binary. After an `Err` the place is anything.
 #[tactic(auto, unfolding(crate::specs::Scalars::binary_at))]
-fn binary(
-    alloc: Global,
-    input: &mut BitIn<'_>,
-    hex: bool,
-    align: Align,
-    meter: &mut Meter,
-) -> Result<Val, Stop>
-    requires aligned { IsAligned align input.old }
-    ensures read { Charges seen result input.new meter.new (binary_at hex align (record { spot = input.old; meter = meter.old })) }
+fn binary(alloc: Global, input: &mut BitIn<'_>, hex: bool, meter: &mut Meter) -> Result<Val, Stop>
+    ensures read { Charges seen result input.new meter.new (binary_at hex (record { spot = input.old; meter = meter.old })) }
     ensures meter { meter.new ≡ after_count meter.old (unsigned_at input.old) }
     ensures bytes { input.new.bytes ≡ input.old.bytes }
-    ensures aligned { IsAligned align input.new }
+    ensures phase { input.new.place % 8 ≡ input.old.place % 8 }
 {
     let bit = input.at();
     let count = input.unsigned()?;
     charge_text(meter, count, bit)?;
-    let octets = read_octets(alloc, input, count, align)?;
-    Ok(Val::Bin { hex, octets })
+    let octets = input.octets(alloc, count)?;
+    Ok(Val::Bin {
+        hex,
+        octets: Octets::from_vec(octets),
+    })
 }
 
-/// Reads a Binary (W3C EXI, section 7.1.1): the number of its octets as an Unsigned Integer, which is
-/// charged to the meter, and the octets. Under [`Align::Bytes`] the place has to be a whole byte.
+/// Reads a Binary (EXI 1.0, section 7.1.1): the number of its octets as an Unsigned Integer, which is
+/// charged to the meter, and the octets, which are the same in both alignments. Under [`Align::Bytes`]
+/// the place has to be a whole byte.
 ///
 /// # Errors
 ///
@@ -75,7 +51,7 @@ pub fn read_binary(
     meter: &mut Meter,
 ) -> Result<Val, Stop>
     requires aligned { IsAligned align input.old }
-    ensures read { Charges seen result input.new meter.new (binary_at hex align (record { spot = input.old; meter = meter.old })) }
+    ensures read { Charges seen result input.new meter.new (binary_at hex (record { spot = input.old; meter = meter.old })) }
     ensures place { OnErr result (input.new ≡ input.old) }
     ensures meter { IfErr result (λ stop. meter.new ≡ meter_after stop meter.old (after_count meter.old (unsigned_at input.old))) }
     ensures bytes { input.new.bytes ≡ input.old.bytes }
@@ -83,7 +59,7 @@ pub fn read_binary(
 {
     let start = input.at();
     let before = *meter;
-    match binary(alloc, input, hex, align, meter) {
+    match binary(alloc, input, hex, meter) {
         Ok(value) => Ok(value),
         Err(stop) => {
             input.go_to_bit(start);
@@ -93,19 +69,6 @@ pub fn read_binary(
             Err(stop)
         }
     }
-}
-
-/// Adds the octets, eight bits each.
-fn put_octets(out: &mut BitOut, octets: &[u8], align: Align) -> Result<(), AllocError>
-    requires aligned { IsWholeBytes align out.old }
-    ensures ok { OnOk result (out.new ≡ out.old ++ bits octets.now) }
-    ensures err { OnErr result (HoldsFront out.old (bits octets.now) out.new) }
-    ensures aligned { IsWholeBytes align out.new }
-{
-    for octet in octets {
-        out.put(u64::from(*octet), 8, align)?;
-    }
-    Ok(())
 }
 
 /// Writes a Binary, as [`read_binary`] reads it, with the shortest Unsigned Integer. The value has to be
@@ -125,7 +88,7 @@ pub fn write_binary(out: &mut BitOut, value: &Val, align: Align) -> Result<(), A
         Val::Bin { hex: _, octets } => {
             let octets = octets.as_slice();
             out.unsigned(octets.len() as u128)?;
-            put_octets(out, octets, align)
+            out.octets(octets)
         }
         _ => unreachable!(),
     }
