@@ -7,6 +7,7 @@ use Rattle.std.proofs.lemmas.Option.{cond_some}
 use Rattle.std.specs.Prelude.{decimal, option_map, not, ℤ, pos, neg_ℤ, IfSome, unsigned_abs}
 use Rattle.exi_digits.specs.Digits.{has_any, is_digit, padded}
 use Rattle.exi_digits.proofs.Decimals.{digit_of}
+use Rattle.exi_digits.proofs.Pushing.{padded_two}
 use Rattle.exi_calendar.specs.Parts.{IsIn, colon, hyphen, letter_z, no_mark, one_mark, plus}
 use Rattle.exi_calendar.specs.Forms.{SpellsZone, field_text, offset_text}
 use Rattle.exi_calendar.specs.Forms.SpellsZone.{absent, utc, east, west}
@@ -47,20 +48,6 @@ past_back (m ∷ marks) (c ∷ text) rest e =
     rw (same, past_back marks text rest g.1) refl
 
 -- ---- two digits
-pub padded_two : (n : ℕ) → n < 100 → padded 2 n ≡ (48 + n / 10) ∷ (48 + n % 10) ∷ []
-padded_two n low =
-    elim (cases_lt n 10) [
-      | inl small ↦
-          let d = decimal_digit n small in
-          let q : n / 10 ≡ 0 = omega arith in
-          let r : n % 10 ≡ n = omega arith in
-          rw (d, q, r) refl
-      | inr large ↦
-          let d : decimal n ≡ decimal (n / 10) ++ ((48 + n % 10) ∷ []) = decimal_step n large (omega arith) in
-          let e : decimal (n / 10) ≡ (48 + n / 10) ∷ [] = decimal_digit (n / 10) (omega arith) in
-          rw (d, e) refl
-    ]
-
 pub digit_bounds : (c : ℕ) → is_digit c ≡ true → (48 ≤ c) × (c ≤ 57)
 digit_bounds c e = let p = and_parts (leb 48 c) (leb c 57) e in (leb-true 48 c p.0, leb-true c 57 p.1)
 

@@ -59,7 +59,7 @@ value_front m text ranges spells =
 joined : (t u v w x y z : List ℕ) (a b c d e f g h : List ℕ) → t ≡ a ++ u → u ≡ b ++ v → v ≡ c ++ w → w ≡ d ++ x → x ≡ e ++ y → y ≡ f ++ z → z ≡ g ++ h → t ≡ (a ++ b ++ c) ++ (d ++ e ++ f) ++ g ++ h
 joined t u v w x y z a b c d e f g h et eu ev ew ex ey ez = rw (et, eu, ev, ew, ex, ey, ez) (sym (regroup a b c d e f g h))
 
-bind_then : {A B P : Type 0} → (o : Option A) (f : A → Option B) (y : B) → (o >>= f) ≡ some y → ((x : A) → o ≡ some x → f x ≡ some y → P) → P
+pub bind_then : {A B P : Type 0} → (o : Option A) (f : A → Option B) (y : B) → (o >>= f) ≡ some y → ((x : A) → o ≡ some x → f x ≡ some y → P) → P
 bind_then None f y e then = absurd cc
 bind_then (Some x) f y e then = then x refl e
 

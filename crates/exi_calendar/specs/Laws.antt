@@ -38,3 +38,11 @@ ValueIsOne = (k : MomentKind) (text : List ℕ) (m n : Moment) → IsValueOf k t
 -- a date or a time of the kind with all its fields in their ranges is what the datatype has
 abbrev pub RangesAreTheForm : Type 0
 RangesAreTheForm = (k : MomentKind) (m : Moment) → ((m.kind ≡ k) × IsInRanges m) ↔ IsOf (datatype.moment k) (value.moment m)
+
+-- a text has a value under one kind alone: so a canonical text has it under the kind of the value that it was made of,
+-- and no other
+abbrev pub KindIsOne : Type 0
+KindIsOne = (k j : MomentKind) (text : List ℕ) (m n : Moment) → moment_value k text ≡ Some m → moment_value j text ≡ Some n → k ≡ j
+
+abbrev pub CanonicalTextHasItsKind : Type 0
+CanonicalTextHasItsKind = (k : MomentKind) (m n : Moment) → IsInRanges m → moment_value k (moment_text m) ≡ Some n → k ≡ m.kind

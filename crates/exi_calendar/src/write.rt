@@ -6,7 +6,7 @@ ghost use Rattle.exi_digits.specs.Pushed.{HoldsFront};
 ghost use Rattle.exi_calendar.specs.Forms.{all_visible, date_text, field_text, fraction_text, moment_text, offset_text, time_text, year_text, zone_text};
 
 use crate::layout::{day_marks, has_year, hour_marks, minute_marks, month_marks};
-use exi_digits::push_padded;
+use exi_digits::{push_padded, push_two};
 use exi_names::Moment;
 use std::alloc::AllocError;
 
@@ -25,7 +25,7 @@ fn push_year(out: &mut String, counts: bool, year: i64) -> Result<(), AllocError
     if year < 0 {
         out.push('-')?;
     }
-    push_padded(out, 4, u128::from(year.unsigned_abs()))
+    push_padded(out, 4, year.unsigned_abs())
 }
 
 /// The marks of a field and its two digits, where the kind has it.
@@ -45,7 +45,7 @@ fn push_field(out: &mut String, marks: Option<&str>, field: u8) -> Result<(), Al
         return Ok(());
     };
     out.push_str(marks)?;
-    push_padded(out, 2, u128::from(field))
+    push_two(out, u16::from(field))
 }
 
 /// Year, month and day.
@@ -98,9 +98,9 @@ fn push_offset(out: &mut String, minutes: u16) -> Result<(), AllocError>
         (HoldsFront (string_bytes out.old) (offset_text minutes) (string_bytes out.new)) }
     ensures visible { OnOk result (IsTrue (all_visible (offset_text minutes))) }
 {
-    push_padded(out, 2, u128::from(minutes / 60))?;
+    push_two(out, minutes / 60)?;
     out.push(':')?;
-    push_padded(out, 2, u128::from(minutes % 60))
+    push_two(out, minutes % 60)
 }
 
 /// The zone, where there is one.

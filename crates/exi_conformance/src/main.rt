@@ -10,6 +10,7 @@
 //! chars SET ALIGN COUNT SKIP HEX    text HEX BIT, or fault KIND BIT
 //! wchars SET ALIGN SKIP TEXT    HEX BITS
 //! value DATATYPE TEXT           VALUE, or none
+//! place DATATYPE TEXT           the place of the value in an enumeration, or none
 //! write DATATYPE ALIGN SKIP TEXT    HEX BITS, or none
 //! ```
 //!
@@ -37,7 +38,7 @@ fn answer(alloc: Global, line: &str) -> Result<Option<String>, AllocError> {
     match fields.as_slice() {
         ["uint" | "nbit" | "read" | "chars", ..] => reads::answer(alloc, fields.as_slice()),
         ["wuint" | "wbit" | "wchars", ..] => writes::answer(alloc, fields.as_slice()),
-        ["value" | "write", ..] => texts::answer(alloc, fields.as_slice()),
+        ["value" | "place" | "write", ..] => texts::answer(alloc, fields.as_slice()),
         _ => Ok(None),
     }
 }

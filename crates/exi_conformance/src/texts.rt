@@ -19,6 +19,7 @@ use std::alloc::{AllocError, Global};
 pub fn answer(alloc: Global, fields: &[&str]) -> Result<Option<String>, AllocError> {
     match fields {
         ["value", kind, text] => value(alloc, kind, text),
+        ["place", kind, text] => place(alloc, kind, text),
         ["write", kind, align, skip, text] => write(alloc, kind, align, skip, text),
         _ => Ok(None),
     }
@@ -32,6 +33,23 @@ fn value(alloc: Global, kind: &str, text: &str) -> Result<Option<String>, AllocE
     match value_of(alloc, &kind, &text)? {
         Some(found) => show::value(alloc, &found),
         None => Ok(Some(String::from_str(alloc, "none")?)),
+    }
+}
+
+/// `place DATATYPE TEXT`, of an enumeration
+fn place(alloc: Global, kind: &str, text: &str) -> Result<Option<String>, AllocError> {
+    let (Some(kind), Some(text)) = (datatype(alloc, kind)?, text_of(alloc, text)?) else {
+        return Ok(None);
+    };
+    let Datatype::Choice { base: _, values } = &kind else {
+        return Ok(None);
+    };
+    let Some(found) = value_of(alloc, &kind, &text)? else {
+        return Ok(Some(String::from_str(alloc, "none")?));
+    };
+    match values.place_of(&found) {
+        Some(place) => Ok(Some(format!(in alloc; "{place}")?)),
+        None => Ok(None),
     }
 }
 

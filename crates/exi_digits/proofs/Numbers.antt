@@ -1,10 +1,10 @@
 -- Laws of the numbers that digits spell.
-use Rattle.std.proofs.Common.{◌≡◌, ℕ, suc, ◌+◌, ◌*◌, ◌-◌, ◌^◌, ◌<◌, ◌≤◌, Bool, true, false, ◌&&◌, List, [], ◌∷◌, ◌++◌, length, get_or, drop, refl, sym, ap, ◌∙◌, arith, inl, inr, Some, None}
+use Rattle.std.proofs.Common.{◌≡◌, ℕ, suc, ◌+◌, ◌*◌, ◌-◌, ◌^◌, ◌<◌, ◌≤◌, Bool, true, false, ◌&&◌, List, [], ◌∷◌, ◌++◌, length, get_or, drop, refl, sym, ap, ◌∙◌, subst, arith, inl, inr, leb, Option, Some, None}
 use Rattle.std.specs.Prelude.{reverse}
 use Rattle.std.proofs.lemmas.List.{length-append, reverse-append, drop_more, drop_all}
 use Rattle.std.proofs.lemmas.Nat.{pow-add}
-use Rattle.std.proofs.Math.Nat.{pow-suc, mul_comm, mul-le-mul_right, one-le-pow}
-use Rattle.std.proofs.lemmas.Bool.{cases_Bool, cases_lt, lt-ltb, le-ltb}
+use Rattle.std.proofs.Math.Nat.{pow-suc, mul_comm, mul-le-mul_right, one-le-pow, pow-le-pow_right}
+use Rattle.std.proofs.lemmas.Bool.{and_parts, cases_Bool, cases_lt, leb-true, lt-ltb, le-ltb}
 use Rattle.exi_digits.specs.Digits.{is_digit, all_digits, number_of, kept, number_behind, digit_behind, number_in, back_in}
 
 -- ---- 10 to a power
@@ -160,3 +160,86 @@ back_stop b x xs ys parts e = ap (λ (t : List ℕ). number_behind b (reverse t)
 pub back_end : (b : ℕ) (xs : List ℕ) → b < 2 ^ 128 → length xs ≡ 0 → number_behind b (reverse xs) ≡ Some b
 back_end b [] low e = behind_nil b low
 back_end b (x ∷ xs) low e = absurd (omega (arith, e))
+
+-- ---- a word of digits
+number_low : (xs : List ℕ) → all_digits xs ≡ true → number_of xs < 10 ^ length xs
+number_low [] all = omega arith
+number_low (c ∷ cs) all =
+    let p = and_parts (is_digit c) (all_digits cs) all in
+    let d = and_parts (leb 48 c) (leb c 57) p.0 in
+    let high : c ≤ 57 = leb-true c 57 d.1 in
+    let low = number_low cs p.1 in
+    let most : (c - 48) * 10 ^ length cs ≤ 9 * 10 ^ length cs = mul-le-mul_right (10 ^ length cs) (omega arith) in
+    let up = ten_up (length cs) in
+    omega (arith, low, most, up)
+
+next_below : (i b c n : ℕ) → b < 10 ^ i → digit_behind b c ≡ Some n → n < 10 ^ suc i
+next_below i b c n low e =
+    let p = digit_behind_is b c n e in
+    let d = and_parts (leb 48 c) (leb c 57) p.0 in
+    let high : c ≤ 57 = leb-true c 57 d.1 in
+    let up = ten_up i in
+    let same = p.1 in
+    omega (arith, up, same)
+
+pub next_low : (i k b c n : ℕ) → suc i ≡ k → b < 10 ^ i → digit_behind b c ≡ Some n → n < 10 ^ k
+next_low i k b c n next low e = subst (λ (j : ℕ). n < 10 ^ j) next (next_below i b c n low e)
+
+pub low_enough : (i b : ℕ) → b < 10 ^ i → i ≤ 18 → b < 10 ^ 18
+low_enough i b low few = let up : 10 ^ i ≤ 10 ^ 18 = pow-le-pow_right (omega arith) few in omega (arith, up)
+
+pub low_word : (i b : ℕ) → b < 10 ^ i → i ≤ 19 → b < 2 ^ 128
+low_word i b low few = let up : 10 ^ i ≤ 10 ^ 19 = pow-le-pow_right (omega arith) few in omega (arith, up)
+
+parted : (b x p q m : ℕ) → b * (p * q) + (x * q + m) ≡ (b * p + x) * q + m
+parted b x p q m = omega arith
+
+number_parted : (b : ℕ) (xs ys : List ℕ) → b * 10 ^ length (xs ++ ys) + number_of (xs ++ ys) ≡ (b * 10 ^ length xs + number_of xs) * 10 ^ length ys + number_of ys
+number_parted b xs ys =
+    rw (length-append xs ys, pow-add 10 (length xs) (length ys), number_of-append xs ys) (parted b (number_of xs) (10 ^ length xs) (10 ^ length ys) (number_of ys))
+
+-- the number of a word goes on as what it makes behind the number before
+pub word_some : (b w n : ℕ) (xs ys : List ℕ) → number_behind 0 xs ≡ Some w → kept (b * 10 ^ length xs + w) ≡ Some n → number_behind b (xs ++ ys) ≡ number_behind n ys
+word_some b w n xs ys word joined = elim (cases_Bool (all_digits xs)) [
+  | inr some ↦ let k = behind_no_digits 0 xs some in absurd (cc)
+  | inl all ↦
+      let number : number_of xs ≡ w = (kept_is (number_of xs) w (sym (behind_zero xs all) ∙ word)).0 in
+      let same : b * 10 ^ length xs + number_of xs ≡ n = ap (λ (x : ℕ). b * 10 ^ length xs + x) number ∙ (kept_is (b * 10 ^ length xs + w) n joined).0 in
+      elim (cases_Bool (all_digits ys)) [
+        | inl more ↦ rw (all_digits-append xs ys, all, more) (ap kept (number_parted b xs ys ∙ ap (λ (x : ℕ). x * 10 ^ length ys + number_of ys) same))
+        | inr none ↦ rw (all_digits-append xs ys, all, none) refl
+      ]
+]
+
+pub word_over : (b w : ℕ) (xs ys : List ℕ) → number_behind 0 xs ≡ Some w → kept (b * 10 ^ length xs + w) ≡ None → number_behind b (xs ++ ys) ≡ None
+word_over b w xs ys word joined = elim (cases_Bool (all_digits xs)) [
+  | inr some ↦ let k = behind_no_digits 0 xs some in absurd (cc)
+  | inl all ↦
+      let number : number_of xs ≡ w = (kept_is (number_of xs) w (sym (behind_zero xs all) ∙ word)).0 in
+      let high : 2 ^ 128 ≤ b * 10 ^ length xs + number_of xs = rw number (kept_not (b * 10 ^ length xs + w) joined) in
+      let more = grows (b * 10 ^ length xs + number_of xs) (10 ^ length ys) (number_of ys) (ten_pos (length ys)) in
+      let whole : 2 ^ 128 ≤ b * 10 ^ length (xs ++ ys) + number_of (xs ++ ys) = rw (number_parted b xs ys) (omega (arith, more, high)) in
+      elim (cases_Bool (all_digits ys)) [
+        | inl digits ↦ rw (all_digits-append xs ys, all, digits) (kept_none (b * 10 ^ length (xs ++ ys) + number_of (xs ++ ys)) whole)
+        | inr none ↦ rw (all_digits-append xs ys, all, none) refl
+      ]
+]
+
+-- a word always has its number, if all are digits
+pub word_none : (b : ℕ) (xs ys : List ℕ) → length xs ≤ 19 → number_behind 0 xs ≡ None → number_behind b (xs ++ ys) ≡ None
+word_none b xs ys few word = elim (cases_Bool (all_digits xs)) [
+  | inr some ↦ rw (all_digits-append xs ys, some) refl
+  | inl all ↦
+      let low = number_low xs all in
+      let up : 10 ^ length xs ≤ 10 ^ 19 = pow-le-pow_right (omega arith) few in
+      let k : kept (number_of xs) ≡ Some (number_of xs) = kept_some (number_of xs) (omega (arith, low, up)) in
+      let z = behind_zero xs all in
+      absurd (cc)
+]
+
+pub kept_low : (n m : ℕ) → kept n ≡ Some m → m < 2 ^ 128
+kept_low n m e = let p = kept_is n m e in let same = p.0 in let low = p.1 in omega (arith, same, low)
+
+-- the same of a word at the back, where the digits are read backwards
+pub back_parts : (xs ys all : List ℕ) → all ≡ xs ++ ys → reverse all ≡ reverse ys ++ reverse xs
+back_parts xs ys all parts = ap (λ (t : List ℕ). reverse t) parts ∙ reverse-append xs ys

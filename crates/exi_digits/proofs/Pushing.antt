@@ -1,9 +1,11 @@
 -- A text that is added piece by piece.
-use Rattle.std.proofs.Common.{◌≡◌, ℕ, suc, ◌+◌, ◌-◌, ◌<◌, ◌≤◌, List, [], ◌∷◌, ◌++◌, length, get_or, replicate, refl, sym, ap, ◌∙◌, subst, append_assoc, arith, inl, inr, Result, Ok, Err}
-use Rattle.std.specs.Prelude.{reverse, IsAscii, encode_utf8, is_ok, OnOk, OnErr, if◌then◌else◌}
+use Rattle.std.proofs.Common.{◌≡◌, ℕ, suc, ◌+◌, ◌-◌, ◌/◌, ◌%◌, ◌<◌, ◌≤◌, List, [], ◌∷◌, ◌++◌, length, get_or, replicate, refl, sym, ap, ◌∙◌, subst, append_assoc, arith, inl, inr, Result, Ok, Err}
+use Rattle.std.specs.Prelude.{decimal, reverse, IsAscii, encode_utf8, is_ok, OnOk, OnErr, if◌then◌else◌}
 use Rattle.std.proofs.lemmas.List.{append-nil, reverse-append, get_or_at, get_or-reverse, get_or_past, length-reverse}
 use Rattle.std.proofs.lemmas.Bool.{cases_lt}
 use Rattle.std.proofs.lemmas.Str.Ascii.{encode_ascii}
+use Rattle.std.proofs.lemmas.Fmt.{decimal_digit, decimal_step}
+use Rattle.exi_digits.specs.Digits.{padded}
 use Rattle.exi_digits.specs.Pushed.{HoldsFront}
 
 -- of the text all but what is left was added
@@ -64,3 +66,25 @@ last_err (Err x) old text piece new newer p e = pushing_front old text piece new
 
 pub encode_zero : encode_utf8 48 ≡ 48 ∷ []
 encode_zero = encode_ascii 48 (omega arith)
+
+-- ---- two digits
+pub padded_two : (n : ℕ) → n < 100 → padded 2 n ≡ (48 + n / 10) ∷ (48 + n % 10) ∷ []
+padded_two n low = elim (cases_lt n 10) [
+  | inl small ↦
+      let d = decimal_digit n small in
+      let q : n / 10 ≡ 0 = omega arith in
+      let r : n % 10 ≡ n = omega arith in
+      rw (d, q, r) refl
+  | inr large ↦
+      let d : decimal n ≡ decimal (n / 10) ++ ((48 + n % 10) ∷ []) = decimal_step n large (omega arith) in
+      let e : decimal (n / 10) ≡ (48 + n / 10) ∷ [] = decimal_digit (n / 10) (omega arith) in
+      rw (d, e) refl
+]
+
+-- the first digit was added
+pub first_of_two : (old new : List ℕ) (n c : ℕ) → n < 100 → c ≡ 48 + n / 10 → new ≡ old ++ encode_utf8 c → Pushing old (padded 2 n) (encode_utf8 (48 + n % 10)) new
+first_of_two old new n c low char e =
+    let a : encode_utf8 c ≡ (48 + n / 10) ∷ [] = ap encode_utf8 char ∙ encode_ascii (48 + n / 10) (omega arith) in
+    let b : encode_utf8 (48 + n % 10) ≡ (48 + n % 10) ∷ [] = encode_ascii (48 + n % 10) (omega arith) in
+    let start : Pushing old (padded 2 n) ((48 + n / 10) ∷ (48 + n % 10) ∷ []) old = subst (λ (t : List ℕ). Pushing old (padded 2 n) t old) (padded_two n low) (pushing_none old (padded 2 n)) in
+    rw b (pushing_more old (padded 2 n) ((48 + n % 10) ∷ []) old new ((48 + n / 10) ∷ []) start (e ∙ ap (λ (t : List ℕ). old ++ t) a))

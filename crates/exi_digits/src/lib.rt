@@ -8,7 +8,8 @@
 //! .0530      the digits backwards are 0350: the number 350
 //! ```
 //!
-//! A text is read as bytes: each digit is one. What is read is bounded by 128 bits, and is read in one pass.
+//! A text is read as bytes: each digit is one. What is read is bounded by 128 bits, and is read in one pass, up to 19
+//! digits at a time in a word of 64 bits.
 #![tactic(auto)]
 
 mod read;
@@ -19,4 +20,4 @@ mod write;
 
 pub use read::{back, number, number_behind};
 pub use split::{split_at_either, split_at_mark};
-pub use write::{push_fraction, push_number, push_padded};
+pub use write::{push_fraction, push_number, push_padded, push_two};

@@ -23,7 +23,7 @@ pub fn push_number(out: &mut String, number: u128) -> Result<(), AllocError>
 /// # Errors
 ///
 /// `AllocError` where memory is refused; the text then has a front of what was to be added, perhaps none.
-pub fn push_padded(out: &mut String, width: usize, number: u128) -> Result<(), AllocError>
+pub fn push_padded(out: &mut String, width: usize, number: u64) -> Result<(), AllocError>
     ensures ok { OnOk result (string_bytes out.new ≡ string_bytes out.old ++ padded width number) }
     ensures err { OnErr result (HoldsFront (string_bytes out.old) (padded width number) (string_bytes out.new)) }
 {
@@ -33,6 +33,22 @@ pub fn push_padded(out: &mut String, width: usize, number: u128) -> Result<(), A
         out.push('0')?;
     }
     out.push_str(digits)
+}
+
+/// Puts two digits at the end, with a zero in front where the number has one; a number of more digits has all.
+///
+/// # Errors
+///
+/// `AllocError` where memory is refused; the text then has a front of what was to be added, perhaps none.
+pub fn push_two(out: &mut String, number: u16) -> Result<(), AllocError>
+    ensures ok { OnOk result (string_bytes out.new ≡ string_bytes out.old ++ padded 2 number) }
+    ensures err { OnErr result (HoldsFront (string_bytes out.old) (padded 2 number) (string_bytes out.new)) }
+{
+    if number >= 100 {
+        return push_padded(out, 2, u64::from(number));
+    }
+    out.push(char::from(b'0' + (number / 10) as u8))?;
+    out.push(char::from(b'0' + (number % 10) as u8))
 }
 
 /// Puts the digits of a fraction at the end, of which `back` is the number when they are read backwards: no

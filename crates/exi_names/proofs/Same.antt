@@ -91,7 +91,7 @@ kind_back form.GMonthDay = refl
 kind_back form.GDay = refl
 kind_back form.Time = refl
 
-kind_is : (a b : MomentKind) → (place_of_kind a == place_of_kind b) ≡ true → a ≡ b
+pub kind_is : (a b : MomentKind) → (place_of_kind a == place_of_kind b) ≡ true → a ≡ b
 kind_is a b h = sym (kind_back a) ∙ ap kind_at (eqb-true (place_of_kind a) (place_of_kind b) h) ∙ kind_back b
 
 moment_parts : (a b : Moment) → a.kind ≡ b.kind → a.year ≡ b.year → a.month ≡ b.month → a.day ≡ b.day → a.hour ≡ b.hour → a.minute ≡ b.minute → a.second ≡ b.second → a.fraction ≡ b.fraction → a.zone ≡ b.zone → a ≡ b
