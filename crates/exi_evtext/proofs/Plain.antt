@@ -14,7 +14,8 @@ use Rattle.exi_digits.proofs.Splitting.{digits_pass_none, none_passes, none_pass
 use Rattle.exi_numerals.specs.declared.decimal.Decimal.{Decimal}
 use Rattle.exi_numerals.specs.Integers.{integer_text, sign_text}
 use Rattle.exi_numerals.specs.Decimals.{decimal_text}
-use Rattle.exi_numerals.specs.Floats.{is_mantissa, special_text}
+use Rattle.exi_names.specs.Forms.{is_mantissa}
+use Rattle.exi_numerals.specs.Floats.{special_text}
 use Rattle.exi_calendar.specs.Parts.{IsFraction, IsIn, IsInRanges, IsYear, layout}
 use Rattle.exi_calendar.specs.Forms.{date_text, field_text, fraction_text, moment_text, offset_text, time_text, year_text, zone_text}
 use Rattle.exi_lexical.specs.Binaries.{base64_sign, base64_text, hex_sign, hex_text}

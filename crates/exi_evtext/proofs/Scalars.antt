@@ -12,9 +12,10 @@ use Rattle.exi_digits.specs.Digits.{all_digits, fraction_of, has_any, is_digit}
 use Rattle.exi_digits.specs.Splits.{before, behind, is_mark}
 use Rattle.exi_digits.proofs.Decimals.{all_digits-decimal, all_digits-fraction_of, back_of-fraction_of, decimal_any, has_any-decimal, number_in-decimal, number_of-decimal}
 use Rattle.exi_digits.proofs.Splitting.{before_mark, behind_mark, digits_pass_none}
-use Rattle.exi_numerals.specs.Integers.{behind_sign, has_minus, in_range, integer_in, integer_text, integer_value, is_integer, sign_text}
+use Rattle.exi_names.specs.Forms.{is_exponent, is_integer, is_mantissa, is_special}
+use Rattle.exi_numerals.specs.Integers.{behind_sign, has_minus, in_range, integer_in, integer_text, integer_value, sign_text}
 use Rattle.exi_numerals.specs.Decimals.{decimal_text, decimal_value, fraction_digits, whole_digits}
-use Rattle.exi_numerals.specs.Floats.{float_text, float_value, is_exponent, is_mantissa, is_special}
+use Rattle.exi_numerals.specs.Floats.{float_text, float_value}
 use Rattle.exi_numerals.proofs.Parts.{in_range_some}
 use Rattle.exi_numerals.proofs.Kept.{integer_near, number_is_float, number_kept, unsigned_near}
 use Rattle.exi_lexical.specs.Binaries.{base64_text, hex_text}

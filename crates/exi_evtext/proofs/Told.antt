@@ -11,7 +11,8 @@ use Rattle.exi_names.specs.declared.moment.MomentKind.TheVariants as form
 use Rattle.exi_numerals.specs.declared.float.Float.{Float}
 use Rattle.exi_numerals.specs.Integers.{behind_sign, has_minus, integer_in, integer_of, integer_value, is_integer_text}
 use Rattle.exi_numerals.specs.Decimals.{decimal_of, decimal_value, is_decimal_text, is_narrow}
-use Rattle.exi_numerals.specs.Floats.{float_value, is_exponent, is_mantissa, is_special, no_number}
+use Rattle.exi_names.specs.Forms.{is_exponent, is_mantissa, is_special, no_number}
+use Rattle.exi_numerals.specs.Floats.{float_value}
 use Rattle.exi_numerals.proofs.Parts.{in_range_is}
 use Rattle.exi_numerals.proofs.Kept.{number_ranges}
 use Rattle.exi_digits.specs.Digits.{number_of as number_of_digits}

@@ -11,7 +11,8 @@ use Rattle.exi_names.specs.Events as event
 use Rattle.exi_names.specs.Events.{Happening}
 use Rattle.exi_digits.specs.Digits.{number_in}
 use Rattle.exi_digits.specs.Splits.{before, behind, is_mark}
-use Rattle.exi_numerals.specs.Integers.{integer_in, is_integer, is_unsigned}
+use Rattle.exi_names.specs.Forms.{is_integer, is_unsigned}
+use Rattle.exi_numerals.specs.Integers.{integer_in}
 use Rattle.exi_numerals.specs.Decimals.{decimal_value}
 use Rattle.exi_numerals.specs.Floats.{float_value}
 use Rattle.exi_calendar.specs.Reading.{◌>>=◌, moment_value, past}

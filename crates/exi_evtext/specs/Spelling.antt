@@ -9,7 +9,7 @@ use Rattle.exi_names.specs.Seen as shape
 use Rattle.exi_names.specs.Events as event
 use Rattle.exi_names.specs.Events.{Happening}
 use Rattle.exi_digits.specs.Splits.{before, behind, is_mark}
-use Rattle.exi_numerals.specs.Floats.{is_exponent, is_mantissa, is_special}
+use Rattle.exi_names.specs.Forms.{is_exponent, is_mantissa, is_special}
 use Rattle.exi_calendar.specs.Parts.{IsInRanges}
 use Rattle.exi_evtext.specs.Lines.{count, words}
 use Rattle.exi_evtext.specs.Reading.{is_spelled}
