@@ -15,3 +15,9 @@ mod Standing
 mod Steps
 mod Withins
 mod Worked
+mod InStep
+mod Shifts
+mod Splicing
+mod FirstTurns
+mod RootTexts
+mod SpliceRuns

@@ -1,17 +1,26 @@
 -- What becomes of a reader that stands at a self-contained fragment, where that fragment was read apart (EXI 1.0,
 -- section 8.4.3).
-use Rattle.std.specs.Prelude.{ℕ, ◌+◌, ◌&&◌, Bool, true, false, List, [], ◌∷◌, length, Option, Some, None, if◌then◌else◌}
+use Rattle.std.specs.Prelude.{◌≡◌, ℕ, ◌+◌, ◌*◌, ◌≤◌, ◌&&◌, Bool, true, false, List, [], ◌∷◌, length, Option, Some, None, if◌then◌else◌}
 use Rattle.exi_bits.specs.declared.fault.Fault.{Fault}
 use Rattle.exi_bits.specs.declared.fault.Kind.{Kind}
 use Rattle.exi_bits.specs.declared.fault.Kind.TheVariants as kind
 use Rattle.exi_bits.specs.declared.fault.Part.{Part}
-use Rattle.exi_meter.specs.Metering.{Metering, tally_fits, with_tally, with_text}
+use Rattle.exi_builtin.specs.Learning.{nothing_learned}
+use Rattle.exi_gram.specs.Books.{IsBook}
+use Rattle.exi_gram.specs.Switches.{prefixes}
+use Rattle.exi_bits.specs.Bits.{IsBytes}
+use Rattle.exi_meter.specs.Metering.{Bounds, Metering, tally_fits, with_tally, with_text}
 use Rattle.exi_meter.specs.declared.tally.Tally.{Tally}
 use Rattle.exi_names.specs.declared.names.QName.{QName}
+use Rattle.exi_names.specs.Events.{Happening}
+use Rattle.exi_names.specs.StartTables.{IsStart}
 use Rattle.exi_reader.specs.Changes.{resumed, same_texts}
-use Rattle.exi_reader.specs.Configurations.{Body, Config}
+use Rattle.exi_reader.specs.Configurations.{Body, Config, Setting, first_tables}
+use Rattle.exi_reader.specs.Runs.{IsRun, IsSequence, Job, Leads, events_of, is_end}
 use Rattle.exi_reader.specs.declared.end.End.{End}
 use Rattle.exi_reader.specs.declared.end.End.TheVariants as end
+use Rattle.exi_reader.specs.declared.frames.Outer.TheVariants as outer
+use Rattle.exi_reader.specs.declared.start.Start.TheVariants as start
 
 abbrev pub tally_of : End → Tally
 tally_of (end.Done bit tally root) = tally
@@ -73,3 +82,31 @@ with_root (b ∷ bs) c e (Some name) = if same_texts b.name name then on_behind 
 -- a configuration at the start of a fragment, and the outcome of the fragment read apart
 abbrev pub spliced : Config → End → Spliced
 spliced c e = with_root c.aside c e (root_of e)
+
+-- ---- the law of it
+-- directly behind SC: the fragment begins at this byte, in an element that is open in the body that was put aside
+pub record AtFragment (g : Setting) (byte : ℕ) (c : Config) : Type 0 where
+  pub place : c.place ≡ 8 * byte
+  pub tables : c.tables ≡ first_tables g
+  pub elements : c.elements ≡ []
+  pub outer_is : c.outer ≡ outer.AloneStart
+  pub learned : c.learned ≡ nothing_learned
+  pub after_start : c.after_start ≡ false
+  pub body : Body
+  pub bodies : List Body
+  pub aside : c.aside ≡ body ∷ bodies
+  pub going : is_end body.outer ≡ false
+  -- where elements may be self-contained, no prefixes are kept
+  pub no_prefixes : prefixes g.options ≡ false
+  -- the deepest level counts the open elements
+  pub deepest : c.meter.level ≤ c.meter.used.deepest
+
+-- turns lead on to the configuration, or to the end; with the fragment's events, or with none
+abbrev pub GoesAs : Setting → List ℕ → Config → List Happening → Spliced → Type 0
+GoesAs g bytes c es (on next) = (turns : List (Option Happening)) × Leads g bytes c turns next × (events_of turns ≡ es)
+GoesAs g bytes c es (ended e) = (turns : List (Option Happening)) × IsRun g bytes c turns e × (events_of turns ≡ es)
+GoesAs g bytes c es (wrong_root e) = (turns : List (Option Happening)) × IsRun g bytes c turns e × (events_of turns ≡ [])
+
+-- the outcome of the fragment, read by itself under any limits, may be taken where it fits: sequential processing goes on so
+abbrev pub SplicesAreRuns : Type 0
+SplicesAreRuns = (j : Job) (byte : ℕ) (c : Config) (limits : Bounds) (es : List Happening) (e : End) (count : ℕ) → IsBytes j.bytes → IsBook j.setting → IsStart j.setting.schema.names → AtFragment j.setting byte c → IsSequence j (start.Fragment byte) limits es e count → fits c e ≡ true → GoesAs j.setting j.bytes c es (spliced c e)

@@ -4,6 +4,7 @@
 ghost use Rattle.exi_reader.specs.Laws.{AFaultEnds, ARunIsThere, ASequenceIsThere, EndIs, EndsAtEd, FewTurns, IsFrontOfRun, LimitsAreKept, NeverBack, OneRun, OneSequence, OneStepOrOneFault};
 ghost use Rattle.exi_reader.specs.Metered.{OneIsMetered};
 ghost use Rattle.exi_reader.specs.Spelled.{OneAtMost, OneIsSpelled, SpelledIsOne};
+ghost use Rattle.exi_reader.specs.Splices.{SplicesAreRuns};
 ghost use Rattle.exi_reader.specs.Sound.{CodesFit, FirstIsSound, ReachedAreSound, StepsKeepSound};
 
 /// A configuration that has not ended has exactly one step or exactly one fault.
@@ -108,4 +109,11 @@ pub fn limits_are_kept()
 /// One event charges a list of dues, whatever the meter is, and goes on without the meter.
 pub fn one_is_metered()
     ensures law { OneIsMetered }
+{}
+
+/// Where a fragment was read by itself, under any limits, and what it charged fits, a reader that stands
+/// at it goes on as the splice says: behind the fragment, with the fragment's fault, or with that of
+/// another root.
+pub fn splices_are_runs()
+    ensures law { SplicesAreRuns }
 {}
