@@ -2,6 +2,7 @@
 //! ensures are the laws.
 
 ghost use Rattle.exi_items.specs.Laws.{NoneIsPrefix, ReadIsSpelled, SpelledIsRead};
+ghost use Rattle.exi_scalar.specs.Asked.{BinaryIsAsked, BooleanIsAsked, DecimalIsAsked, FloatIsAsked, IntegerIsAsked};
 ghost use Rattle.exi_scalar.specs.Laws.{BinaryIsNoPrefix, BinaryIsRead, BinaryIsSpelled, BooleanIsWritten, DecimalIsWritten, FloatIsWritten, BinaryIsWritten, IntegerIsWritten};
 ghost use Rattle.exi_scalar.specs.Scalars.{boolean_at, decimal_at, float_at, integer_at};
 ghost use Rattle.exi_scalar.specs.Spelled.{SpellsBoolean, SpellsDecimal, SpellsFloat, SpellsInteger};
@@ -41,4 +42,13 @@ pub fn written_is_spelled()
     ensures decimal { DecimalIsWritten }
     ensures float { FloatIsWritten }
     ensures binary { BinaryIsWritten }
+{}
+
+/// What the writers ask of a value is that its datatype has it, as one definition says it for all datatypes.
+pub fn form_is_asked()
+    ensures boolean { BooleanIsAsked }
+    ensures integer { IntegerIsAsked }
+    ensures decimal { DecimalIsAsked }
+    ensures float { FloatIsAsked }
+    ensures binary { BinaryIsAsked }
 {}
