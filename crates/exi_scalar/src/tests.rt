@@ -7,11 +7,12 @@ use std::test::*;
 #[test]
 fn integers_are_written_and_read_back(rt: HostRuntime) -> Result<(), Fail> {
     let value = Whole::new(false, 300);
+    let bytes = [0x56, 0x01, 0x00];
     let mut out = BitOut::new(rt.alloc());
     write_integer(&mut out, value, Align::Bits)?;
-    assert_eq!(rt; out.bytes(), [0x56, 0x01, 0x00].as_slice());
+    assert_eq!(rt; out.bytes(), bytes.as_slice());
     assert_eq!(rt;
-        read_integer(&mut BitIn::new(out.bytes()), Align::Bits),
+        read_integer(&mut BitIn::new(&bytes), Align::Bits),
         Ok(value)
     );
     Ok(())
@@ -36,8 +37,9 @@ fn booleans_decimals_and_floats_are_written_and_read_back(rt: HostRuntime) -> Re
     write_boolean(&mut out, &yes, true, Align::Bytes)?;
     write_decimal(&mut out, &decimal, Align::Bytes)?;
     write_float(&mut out, &float, Align::Bytes)?;
-    assert_eq!(rt; out.bytes(), [3, 1, 12, 50, 0, 15, 0, 2].as_slice());
-    let mut input = BitIn::new(out.bytes());
+    let bytes = [3, 1, 12, 50, 0, 15, 0, 2];
+    assert_eq!(rt; out.bytes(), bytes.as_slice());
+    let mut input = BitIn::new(&bytes);
     let read = read_boolean(&mut input, true, Align::Bytes);
     assert!(rt;
         matches!(
@@ -77,9 +79,10 @@ fn binaries_are_written_and_read_back(rt: HostRuntime) -> Result<(), Fail> {
     let octets = Octets::of(rt.alloc(), &[0x00, 0xFF])?;
     let mut out = BitOut::new(rt.alloc());
     write_binary(&mut out, &Val::Bin { hex: true, octets }, Align::Bits)?;
-    assert_eq!(rt; out.bytes(), [0x02, 0x00, 0xFF].as_slice());
+    let bytes = [0x02, 0x00, 0xFF];
+    assert_eq!(rt; out.bytes(), bytes.as_slice());
     let mut meter = Meter::new(Limits::of_stream());
-    let mut input = BitIn::new(out.bytes());
+    let mut input = BitIn::new(&bytes);
     let read = read_binary(rt.alloc(), &mut input, true, Align::Bits, &mut meter);
     let same = match &read {
         Ok(Val::Bin { hex: true, octets }) => octets.as_slice() == [0x00, 0xFF].as_slice(),
