@@ -35,7 +35,14 @@ fn each_datatype_gives_a_value(rt: HostRuntime) -> Result<(), Fail> {
     assert!(rt; is_written(alloc, &Datatype::Moment(MomentKind::GDay), "---07", "---07")?);
     assert!(rt; is_written(alloc, &Datatype::Text, " a ", " a ")?);
     let letters = Alphabet::of(Txt::of(alloc, "ab")?);
-    assert!(rt; is_written(alloc, &letters.map_or(Datatype::Text, Datatype::Chars), "b", "b")?);
+    assert!(rt;
+        is_written(
+            alloc,
+            &letters.map_or(Datatype::Text, Datatype::Chars),
+            "b",
+            "b"
+        )?
+    );
     let list = Datatype::List(Box::new(alloc, Datatype::Integer)?);
     assert!(rt; is_written(alloc, &list, "1\n 2", "1 2")?);
     let mut values = ValList::new(alloc);
