@@ -6,6 +6,8 @@ pub mod CodeSets
 pub mod CodeTells
 pub mod Leaving
 pub mod PartLaws
+pub mod Puts
+pub mod Reading
 pub mod StateSets
 pub mod TableLists
 pub mod Tabled

@@ -47,7 +47,7 @@ unfolding chosen_at
 tells zero a place s = refl
 tells (suc n) a place s = refl
 
-stands_leaf : (cells : List Cell) (low n place : ℕ) (cs : List (Coded ℕ)) → CellStands cells low n (cell.Leaf place) cs → cs ≡ record { parts = []; item = place } ∷ []
+pub stands_leaf : (cells : List Cell) (low n place : ℕ) (cs : List (Coded ℕ)) → CellStands cells low n (cell.Leaf place) cs → cs ≡ record { parts = []; item = place } ∷ []
 stands_leaf cells low zero place cs h = h
 stands_leaf cells low (suc n) place cs h = h
 

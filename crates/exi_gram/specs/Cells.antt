@@ -1,5 +1,5 @@
 -- Codes as cells: how a compiled table keeps them.
-use Rattle.std.specs.Prelude.{◌≡◌, ℕ, zero, suc, ◌+◌, ◌-◌, ◌^◌, ◌<◌, ◌≤◌, ◌⊎◌, Bool, true, false, Option, Some, None, List, [], ◌∷◌, ◌++◌, All, length, map, get_or}
+use Rattle.std.specs.Prelude.{◌≡◌, ℕ, zero, suc, ◌+◌, ◌-◌, ◌^◌, ◌<◌, ◌≤◌, ◌⊎◌, Bool, true, false, Option, Some, None, List, [], ◌∷◌, ◌++◌, All, drop, length, map, get_or, slice_get}
 use Rattle.exi_bits.specs.declared.align.Align.{Align}
 use Rattle.exi_bits.specs.Bits.{Spot}
 use Rattle.exi_gram.specs.declared.cell.Branch.{Branch}
@@ -8,7 +8,7 @@ use Rattle.exi_gram.specs.declared.cell.Cell.TheVariants as cell
 use Rattle.exi_gram.specs.declared.front.Front.{Front}
 use Rattle.exi_gram.specs.declared.front.Front.TheVariants as front
 use Rattle.exi_gram.specs.declared.code.Code.{Code}
-use Rattle.exi_gram.specs.Codes.{Coded, values_of}
+use Rattle.exi_gram.specs.Codes.{Coded, code_bits, values_of}
 use Rattle.exi_gram.specs.CodeTrees.{behind, chosen_at, counted, ended, parts_in, place_read}
 use Rattle.exi_gram.specs.Tables.{parts_of}
 
@@ -88,3 +88,17 @@ pub record Walked (a : Align) (cells : List Cell) (codes : List (List ℕ)) (at 
   pub stands : CellStands cells 0 (3 - count) at left
   pub reads : place_read a codes first ≡ chosen_at (3 - count) a left now
   pub below : All (λ c. c.item < length codes) left
+
+-- So many parts of a code were written. What they leave goes on at a row, or the code has ended; it is among the codes
+-- that go on so, and what was added is the front of the code's bits.
+pub record Writing (a : Align) (cells : List Cell) (codes : List (List ℕ)) (parts : List ℕ) (row : Branch) (count : ℕ) (before now : List Bool) : Type 0 where
+  pub left : List (Coded ℕ)
+  pub at : Cell
+  pub stands : CellStands cells 0 (3 - count) at left
+  pub goes_on : (at ≡ cell.Branch row) ⊎ (drop count parts ≡ [])
+  pub place : ℕ
+  pub index : ℕ
+  pub among : slice_get left index ≡ Some (record { parts = drop count parts; item = place })
+  pub written : List Bool
+  pub so_far : now ≡ before ++ written
+  pub whole : code_bits a codes parts ≡ written ++ code_bits a (parts_in left) (drop count parts)

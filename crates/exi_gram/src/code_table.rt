@@ -1,6 +1,7 @@
-ghost use Rattle.std.specs.Prelude.{◌≡◌, ◌+◌, ◌<◌, ◌≤◌, ◌^◌, ◌++◌, IfOk, OnOk, OnErr, get_or, length, map};
-ghost use Rattle.exi_bits.specs.Bits.{IsAligned};
+ghost use Rattle.std.specs.Prelude.{◌≡◌, ◌+◌, ◌<◌, ◌≤◌, ◌^◌, ◌++◌, [], IfOk, OnOk, OnErr, get_or, length, map, slice_get};
+ghost use Rattle.exi_bits.specs.Bits.{IsAligned, number};
 ghost use Rattle.exi_bits.specs.Unsigned.{Reads, ReadsSome};
+ghost use Rattle.exi_bits.specs.Widths.{width_for};
 ghost use Rattle.exi_bits.specs.Written.{IsWholeBytes};
 ghost use Rattle.exi_items.specs.Fronts.{HoldsFront};
 ghost use Rattle.exi_gram.specs.Codes.{code_bits};
@@ -12,11 +13,11 @@ use crate::code::{Code, Coded};
 use crate::front::Front;
 use crate::part::read_part;
 use crate::rows::add_rows;
-use exi_bits::{Align, BitIn, BitOut, Fault, Kind};
+use exi_bits::{Align, BitIn, BitOut, Fault, Kind, bits_for};
 use exi_steps::Steps;
 use std::alloc::{AllocError, Global};
-use std::marker::Model;
-use std::sync::ledger::Ledger;
+use std::marker::{Brand, Model};
+use std::sync::ledger::{Blank, Ledger};
 
 /// The codes of a state, compiled: a code is read and written with one look for each of its parts
 /// (EXI 1.0, section 6.2).
@@ -107,6 +108,40 @@ impl CodeTable {
         }
     }
 
+    /// Reads a code as [`CodeTable::find`] does, for a caller that counts no steps.
+    ///
+    /// # Errors
+    ///
+    /// As those of [`CodeTable::find`]. The place in the input is then unchanged.
+    pub fn read(&self, input: &mut BitIn<'_>, align: Align) -> Result<u32, Fault>
+        requires aligned { IsAligned align input.old }
+        ensures read { Reads (λ x. x) result input.old input.new (place_read align self.now input.old) }
+        ensures below { IfOk result (λ place. place < length self.now) }
+        ensures bytes { input.new.bytes ≡ input.old.bytes }
+        ensures aligned { IsAligned align input.new }
+    {
+        self.read_from::<Brand>(input, align, Blank::new(1))
+    }
+
+    /// Reads a code, with a counter of its own.
+    fn read_from<L: Ledger>(
+        &self,
+        input: &mut BitIn<'_>,
+        align: Align,
+        blank: Blank,
+    ) -> Result<u32, Fault>
+        requires aligned { IsAligned align input.old }
+        requires name { blank.name ≡ L.name }
+        requires parts { (blank.parts ≡ L.parts) × (blank.parts ≡ 1) }
+        ensures read { Reads (λ x. x) result input.old input.new (place_read align self.now input.old) }
+        ensures below { IfOk result (λ place. place < length self.now) }
+        ensures bytes { input.new.bytes ≡ input.old.bytes }
+        ensures aligned { IsAligned align input.new }
+    {
+        let mut steps = Steps::<L>::of(blank);
+        self.find(input, align, &mut steps)
+    }
+
     /// Reads a code. After an `Err` the place in the input is anything.
     fn walk<L: Ledger>(
         &self,
@@ -135,4 +170,53 @@ impl CodeTable {
             bit: input.at(),
         })
     }
+
+    /// Writes the code at a place, which has to exist, as [`CodeTable::find`] reads it.
+    ///
+    /// # Errors
+    ///
+    /// `AllocError` where memory is refused. The bits then end with a front of the code, maybe none of it.
+    pub fn write(&self, out: &mut BitOut, place: u32, align: Align) -> Result<(), AllocError>
+        requires there { place < length self.now }
+        requires aligned { IsWholeBytes align out.old }
+        ensures ok { OnOk result (out.new ≡ out.old ++ code_bits align self.now (get_or self.now place [])) }
+        ensures err { OnErr result (HoldsFront out.old (code_bits align self.now (get_or self.now place [])) out.new) }
+        ensures aligned { IsWholeBytes align out.new }
+    {
+        let code = self.codes[place as usize];
+        let mut row = self.root;
+        for index in 0..3u32 {
+            if let Some(part) = part_of(code, index) {
+                put_part(out, part, row.count, align)?;
+                match self.cells[row.begin as usize + part as usize] {
+                    Cell::Leaf(_) => {}
+                    Cell::Branch(next) => row = next,
+                }
+            }
+        }
+        Ok(())
+    }
+}
+
+/// A part of a code, by its place, where the code has so many.
+fn part_of(code: Code, index: u32) -> Option<u32>
+    ensures { result ≡ slice_get (parts_of code) index }
+{
+    match (code, index) {
+        (Code::One(part) | Code::Two(part, _) | Code::Three(part, _, _), 0) => Some(part),
+        (Code::Two(_, part) | Code::Three(_, part, _), 1) => Some(part),
+        (Code::Three(_, _, part), 2) => Some(part),
+        _ => None,
+    }
+}
+
+/// Writes a part that has so many values.
+fn put_part(out: &mut BitOut, part: u32, count: u32, align: Align) -> Result<(), AllocError>
+    requires below { part < count }
+    requires aligned { IsWholeBytes align out.old }
+    ensures ok { OnOk result (out.new ≡ out.old ++ number (width_for count) align part) }
+    ensures err { OnErr result (out.new ≡ out.old) }
+    ensures aligned { IsWholeBytes align out.new }
+{
+    out.put(u64::from(part), bits_for(u64::from(count)), align)
 }

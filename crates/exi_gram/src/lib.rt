@@ -37,6 +37,8 @@ mod rows;
 mod schema;
 mod second;
 mod state;
+#[cfg(test)]
+mod table_tests;
 mod terminal;
 #[cfg(test)]
 mod tests;

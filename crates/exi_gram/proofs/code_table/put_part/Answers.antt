@@ -1,0 +1,6 @@
+use Rattle.std.proofs.Common.{◌≡◌, arith}
+use Rattle.exi_gram.proofs.CodeItems.{below_width}
+use Rattle.exi_gram.proofs.code_table.put_part.Goals as goal
+
+pub put-requires-clause-fits : goal.put-requires-clause-fits
+put-requires-clause-fits c = rw (c.bits_for.ensures.width, c.from.ensures, c.from-2.ensures) (below_width _ _ c.requires.below)
