@@ -5,3 +5,5 @@ pub mod Naming
 pub mod LearningLaws
 mod Worked
 pub mod Rules
+pub mod Least
+pub mod Readers

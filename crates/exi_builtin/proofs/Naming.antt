@@ -49,7 +49,7 @@ both : (a b : Bool) → (a && b) ≡ true → (a ≡ true) × (b ≡ true)
 both true b h = (refl, h)
 both false b h = absurd (cc)
 
-same_is : (a b : NameId) → same_name a b ≡ true → a ≡ b
+pub same_is : (a b : NameId) → same_name a b ≡ true → a ≡ b
 same_is a b h =
     let parts = both (nat_eq a.uri b.uri) (nat_eq a.local b.local) h in
     let uri : a.uri ≡ b.uri = eqb-true a.uri b.uri parts.0 in

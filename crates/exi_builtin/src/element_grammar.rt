@@ -6,7 +6,7 @@ use exi_names::NameId;
 use std::alloc::Global;
 
 /// The grammar of the elements of a name: what its two states learned (EXI 1.0, section 8.4.3).
-#[derive(Debug, Drop)]
+#[derive(Drop)]
 pub struct ElementGrammar {
     pub name: NameId,
     pub start_tag: LearnedList,

@@ -6,6 +6,7 @@ ghost use Rattle.exi_gram.specs.declared.options.Options.{Options};
 ghost use Rattle.exi_names.specs.declared.names.NameId.{NameId};
 ghost use Rattle.exi_builtin.specs.declared.learnable.Learned.{Learned};
 ghost use Rattle.exi_builtin.specs.declared.learnable.Room.{Room};
+ghost use Rattle.exi_builtin.specs.LeastCodes.{ItIsSame, ReadsAreTwo, TwoAreRead};
 ghost use Rattle.exi_builtin.specs.Learning.{
   IsRoom,
   Learning,
@@ -75,6 +76,14 @@ pub fn keeps_grammars()
 /// productions, in their places; so what is read by productions is read by rules.
 pub fn rules_are_productions()
     ensures { RulesAreProductions }
+{}
+
+/// Law: what reads an event is one of the two productions of its kind, so whoever asks for the codes of
+/// these has left none out; and a production is looked for as itself.
+pub fn reads_are_two()
+    ensures reads { ReadsAreTwo }
+    ensures read { TwoAreRead }
+    ensures same { ItIsSame }
 {}
 
 /// Law: under no options is a group of the productions of a state left empty.

@@ -22,9 +22,11 @@
 
 mod code_list;
 mod element_grammar;
+mod event_kind;
 pub mod laws;
 mod learnable;
 mod learned_list;
+mod least_code;
 mod overlay;
 mod reading;
 #[cfg(test)]
@@ -33,5 +35,6 @@ mod uses;
 mod written;
 
 pub use code_list::CodeList;
+pub use event_kind::EventKind;
 pub use learnable::{Learnable, Learned, Room};
 pub use overlay::Overlay;

@@ -3,7 +3,11 @@ ghost use Rattle.exi_bits.specs.Bits.{IsAligned};
 ghost use Rattle.exi_bits.specs.Unsigned.{Reads};
 ghost use Rattle.exi_gram.specs.Codes.{code_at, coded};
 ghost use Rattle.exi_gram.specs.Switches.{align_of};
+ghost use Rattle.std.specs.Option.{option_map};
+ghost use Rattle.exi_gram.specs.Tables.{parts_of};
 ghost use Rattle.exi_builtin.specs.CodeParts.{coded_of};
+ghost use Rattle.exi_builtin.specs.LeastCodes.{first_code, is_it};
+ghost use Rattle.exi_builtin.specs.Marks.{IsLearned};
 ghost use Rattle.exi_builtin.specs.Learning.{
   IsRoom,
   after_use,
@@ -22,10 +26,11 @@ use crate::code_list::{CodeList, codes_behind};
 use crate::element_grammar::ElementGrammar;
 use crate::learnable::{Learnable, Learned, Room};
 use crate::learned_list::LearnedList;
+use crate::least_code::least_code;
 use crate::reading::read_behind;
 use crate::uses::{added_by, stands_written};
 use exi_bits::{BitIn, Fault};
-use exi_gram::Options;
+use exi_gram::{Code, Options};
 use exi_names::{NameId, NameMap};
 use std::alloc::{AllocError, Global};
 use std::marker::Model;
@@ -185,6 +190,17 @@ impl Overlay {
         }
     }
 
+    /// The code of a production in a state (EXI 1.0, section 6.2), the least where it was learned more than
+    /// once, and none where the state does not have it. The number of the state has to be one that
+    /// [`Overlay::grammar`] gave. What was learned is not walked, and no memory is taken.
+    pub fn code_of(&self, room: Room, production: Learnable, options: &Options) -> Option<Code>
+        requires { IsRoom self.now room }
+        ensures { option_map parts_of result
+            ≡ first_code (is_it production) (coded (productions options.now self.now room)) }
+    {
+        least_code(self.learned_list(room), room, production, options)
+    }
+
     /// Learns from a use in a state, and tells whether a production was added: false where the use is of CH,
     /// EE or AT(xsi:type) and the state has a production of one part for it. The number of the state has to
     /// be one that [`Overlay::grammar`] gave, and fewer than 2^31 productions may have been learned there.
@@ -210,6 +226,7 @@ impl Overlay {
     fn add(&mut self, room: Room, production: Learnable) -> Result<(), AllocError>
         requires room { IsRoom self.old room }
         requires few { length (learned_in self.old room) < 2 ^ 31 }
+        requires learned { IsLearned production }
         ensures ok { OnOk result (self.new ≡ in_front self.old room production) }
         ensures err { OnErr result (self.new ≡ self.old) }
     {

@@ -15,7 +15,7 @@ use exi_bits::{BitIn, Fault};
 use exi_gram::{Options, read_part};
 
 /// How many of the productions the options leave.
-fn kept_count(options: &Options, list: &[Learnable]) -> u32
+pub fn kept_count(options: &Options, list: &[Learnable]) -> u32
     requires { length list.now ≤ 8 }
     ensures count { result ≡ length (filter (is_kept options.now) list.now) }
     ensures few { result ≤ 8 }

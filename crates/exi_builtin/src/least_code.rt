@@ -1,0 +1,88 @@
+ghost use Rattle.std.specs.Prelude.{◌≡◌, ◌≤◌, filter, length};
+ghost use Rattle.std.specs.Option.{option_map};
+ghost use Rattle.exi_gram.specs.Codes.{coded};
+ghost use Rattle.exi_gram.specs.Tables.{parts_of};
+ghost use Rattle.exi_names.specs.NameMaps.{same_name};
+ghost use Rattle.exi_builtin.specs.BuiltIn.{is_kept, left_of, written};
+ghost use Rattle.exi_builtin.specs.LeastCodes.{first_code, first_place, is_it};
+ghost use Rattle.exi_builtin.specs.Learning.{behind_learned};
+
+use crate::code_list::Front;
+use crate::learnable::{Learnable, Room};
+use crate::learned_list::LearnedList;
+use crate::reading::kept_count;
+use crate::written::{as_written, is_kept};
+use exi_gram::{Code, Options};
+use exi_names::NameId;
+
+/// Whether two names have the same places.
+fn same_name(a: NameId, b: NameId) -> bool
+    ensures { result ≡ same_name a b }
+{
+    a.uri == b.uri && a.local == b.local
+}
+
+/// Whether a production is this one.
+fn is_it(production: Learnable, other: Learnable) -> bool
+    ensures { result ≡ is_it production other }
+{
+    match (production, other) {
+        (Learnable::Known(name, attribute), Learnable::Known(known, a)) => {
+            same_name(known, name) && a == attribute
+        }
+        (Learnable::Ch(one_part), Learnable::Ch(o)) => o == one_part,
+        (Learnable::Ee(one_part), Learnable::Ee(o)) => o == one_part,
+        (Learnable::SeAny, Learnable::SeAny)
+        | (Learnable::AtAny, Learnable::AtAny)
+        | (Learnable::Ed, Learnable::Ed)
+        | (Learnable::Ns, Learnable::Ns)
+        | (Learnable::Sc, Learnable::Sc)
+        | (Learnable::Er, Learnable::Er)
+        | (Learnable::Cm, Learnable::Cm)
+        | (Learnable::Pi, Learnable::Pi) => true,
+        _ => false,
+    }
+}
+
+/// The place of a production among those that the options leave.
+fn kept_place(options: &Options, list: &[Learnable], production: Learnable) -> Option<u32>
+    requires few { length list.now ≤ 8 }
+    ensures { result ≡ first_place (is_it production) (filter (is_kept options.now) list.now) }
+{
+    let mut place = 0;
+    for other in list {
+        if is_kept(options, *other) {
+            if is_it(production, *other) {
+                return Some(place);
+            }
+            place += 1;
+        }
+    }
+    None
+}
+
+/// The least code of a production in a state that learned these.
+pub fn least_code(
+    learned: &LearnedList,
+    room: Room,
+    production: Learnable,
+    options: &Options,
+) -> Option<Code>
+    ensures { option_map parts_of result ≡ first_code (is_it production)
+        (coded (behind_learned learned.now (left_of options.now (written room)))) }
+{
+    let written = as_written(room);
+    if let Some(first) = learned.code_of(production) {
+        return Some(Front::Empty.code(first));
+    }
+    if let Some(place) = kept_place(options, written.firsts, production) {
+        return Some(Front::Empty.code(learned.len() + place));
+    }
+    let first = learned.len() + kept_count(options, written.firsts);
+    if let Some(second) = kept_place(options, written.singles, production) {
+        return Some(Front::First(first).code(second));
+    }
+    let second = kept_count(options, written.singles);
+    let third = kept_place(options, written.members, production)?;
+    Some(Front::Second(first, second).code(third))
+}
