@@ -7,7 +7,6 @@ pub mod CodeTells
 pub mod Leaving
 pub mod PartLaws
 pub mod Puts
-pub mod Reading
 pub mod StateSets
 pub mod TableLists
 pub mod Tabled

@@ -16,4 +16,4 @@ closed (suc (suc (suc zero))) d less = tt
 closed (suc (suc (suc (suc i)))) d less = absurd (omega (arith, less))
 
 pub of-requires-clause-codes : goal.of-requires-clause-codes
-of-requires-clause-codes g c = subst IsCodeSet (sym c.four_codes.ensures) (state_set four closed)
+of-requires-clause-codes g c = subst IsCodeSet (sym c.four_codes-codes.ensures) (state_set four closed)
