@@ -10,7 +10,7 @@ use Rattle.exi_calendar.specs.Parts.{IsFraction, IsInRanges, layout}
 use Rattle.exi_calendar.specs.Forms.{Spells, SpellsFraction, SpellsZone, field_text, fraction_text, moment_text, year_text, zone_text}
 use Rattle.exi_calendar.specs.Forms.SpellsZone.{absent, utc, east, west}
 use Rattle.exi_calendar.specs.Reading.{◌>>=◌, field_at, fraction_at, moment_value, year_at, zone_of}
-use Rattle.exi_calendar.specs.Laws.{CanonicalTextHasItsValue, IsValueOf, ValueComesBack, ValueIsByForm, ValueIsOne}
+use Rattle.exi_calendar.specs.Laws.{IsValueOf, ReadIsSpelled, SpelledIsRead, ValueComesBack, ValueIsOne, WrittenIsRead}
 use Rattle.exi_calendar.proofs.Fields.{field_back, field_front, some, some_is, zone_back, zone_front}
 use Rattle.exi_calendar.proofs.Years.{ends, year_back, year_front}
 use Rattle.exi_calendar.proofs.Fractions.{fraction_back, fraction_front}
@@ -84,7 +84,7 @@ fields_back k text year month day hour minute second fraction zone ey emo ed eh 
       spells = record { fraction = f.0; zone = fraction.1; fraction_is = f.2; zone_is = z.0; text_is = parts };
     }
 
-value_back : (k : MomentKind) (text : List ℕ) (m : Moment) → moment_value k text ≡ some m → IsValueOf k text m
+pub value_back : ReadIsSpelled
 unfolding moment_value
 value_back k text m e =
     bind_then (year_at (layout k).year text) _ m e (λ year ey e1.
@@ -97,8 +97,8 @@ value_back k text m e =
     bind_then (zone_of fraction.1) _ m e7 (λ zone ez e8.
     subst (IsValueOf k text) (some_is (of_fields k year.0 month.0 day.0 hour.0 minute.0 second.0 fraction.0 zone) m e8) (fields_back k text year month day hour minute second fraction zone ey emo ed eh emi es ef ez)))))))))
 
-pub value_by_form : ValueIsByForm
-value_by_form k text m = (value_back k text m, λ v. subst (λ (kind : MomentKind). moment_value kind text ≡ some m) v.kind_is (value_front m text v.ranges v.spells))
+pub value_spelled : SpelledIsRead
+value_spelled k text m v = subst (λ (kind : MomentKind). moment_value kind text ≡ some m) v.kind_is (value_front m text v.ranges v.spells)
 
 -- ---- the canonical text
 fraction_spelled : (marks : Option (List ℕ)) (fraction : Option ℕ) → IsFraction marks fraction → SpellsFraction fraction (fraction_text fraction)
@@ -124,7 +124,7 @@ canonical_spells m ranges = record {
   text_is = refl;
 }
 
-pub canonical_value : CanonicalTextHasItsValue
+pub canonical_value : WrittenIsRead
 canonical_value m ranges = value_front m (moment_text m) ranges (canonical_spells m ranges)
 
 pub value_again : ValueComesBack
@@ -133,4 +133,4 @@ value_again k text m e =
     subst (λ (kind : MomentKind). moment_value kind (moment_text m) ≡ some m) v.kind_is (canonical_value m v.ranges)
 
 pub one_value : ValueIsOne
-one_value k text m n v w = some_is m n (sym ((value_by_form k text m).1 v) ∙ (value_by_form k text n).1 w)
+one_value k text m n v w = some_is m n (sym (value_spelled k text m v) ∙ value_spelled k text n w)

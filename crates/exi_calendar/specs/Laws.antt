@@ -15,13 +15,17 @@ pub record IsValueOf (k : MomentKind) (text : List ℕ) (m : Moment) : Type 0 wh
   pub ranges : IsInRanges m
   pub spells : Spells m text
 
--- a text has a value exactly where it is one of the texts of the value
-abbrev pub ValueIsByForm : Type 0
-ValueIsByForm = (k : MomentKind) (text : List ℕ) (m : Moment) → (moment_value k text ≡ Some m) ↔ IsValueOf k text m
+-- what is read is spelled so
+abbrev pub ReadIsSpelled : Type 0
+ReadIsSpelled = (k : MomentKind) (text : List ℕ) (m : Moment) → moment_value k text ≡ Some m → IsValueOf k text m
 
--- the canonical text has the value that it was made of
-abbrev pub CanonicalTextHasItsValue : Type 0
-CanonicalTextHasItsValue = (m : Moment) → IsInRanges m → moment_value m.kind (moment_text m) ≡ Some m
+-- what is spelled so is read
+abbrev pub SpelledIsRead : Type 0
+SpelledIsRead = (k : MomentKind) (text : List ℕ) (m : Moment) → IsValueOf k text m → moment_value k text ≡ Some m
+
+-- what is written is read: the canonical text has the value that it was made of
+abbrev pub WrittenIsRead : Type 0
+WrittenIsRead = (m : Moment) → IsInRanges m → moment_value m.kind (moment_text m) ≡ Some m
 
 -- so every value that a text has comes back from its canonical text
 abbrev pub ValueComesBack : Type 0

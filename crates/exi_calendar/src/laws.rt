@@ -1,12 +1,17 @@
 //! What holds between the texts of a date or a time and its value. Each law is a function that does
 //! nothing: what it ensures is the law.
 
-ghost use Rattle.exi_calendar.specs.Laws.{CanonicalTextHasItsKind, CanonicalTextHasItsValue, CanonicalTextIsVisible, KindIsOne, RangesAreTheForm, ValueComesBack, ValueIsByForm, ValueIsOne};
+ghost use Rattle.exi_calendar.specs.Laws.{CanonicalTextHasItsKind, CanonicalTextIsVisible, KindIsOne, RangesAreTheForm, ReadIsSpelled, SpelledIsRead, ValueComesBack, ValueIsOne, WrittenIsRead};
 
-/// A text has a value exactly where it is one of the texts of that value: its fields one after
-/// another, as the form of the kind writes them, each in its range.
-pub fn value_is_by_form()
-    ensures { ValueIsByForm }
+/// What is read is spelled so: a text that has a value is one of the texts of that value, its fields one after another as
+/// the form of the kind writes them, each in its range.
+pub fn read_is_spelled()
+    ensures { ReadIsSpelled }
+{}
+
+/// What is spelled so is read.
+pub fn spelled_is_read()
+    ensures { SpelledIsRead }
 {}
 
 /// No text is one of the texts of two dates or times of a kind.
@@ -14,9 +19,9 @@ pub fn value_is_one()
     ensures { ValueIsOne }
 {}
 
-/// The canonical text of a date or a time in its ranges has that date or time as its value.
-pub fn canonical_text_has_its_value()
-    ensures { CanonicalTextHasItsValue }
+/// What is written is read: the canonical text of a date or a time in its ranges has it as its value.
+pub fn written_is_read()
+    ensures { WrittenIsRead }
 {}
 
 /// Every value that a text has comes back from its canonical text.

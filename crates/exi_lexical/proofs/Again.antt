@@ -21,7 +21,7 @@ use Rattle.exi_numerals.specs.Laws.{IntegerIsRead}
 use Rattle.exi_numerals.proofs.Kept.{decimal_again, decimal_kept, decimal_read, float_again, float_kept, float_read, integer_again, integer_near, integer_ranged, small_again, unsigned_near}
 use Rattle.exi_calendar.specs.Forms.{moment_text}
 use Rattle.exi_calendar.proofs.Ranges.{ranges_are}
-use Rattle.exi_calendar.proofs.Whole.{canonical_value, value_again as moment_again, value_by_form}
+use Rattle.exi_calendar.proofs.Whole.{canonical_value, value_again as moment_again, value_back}
 use Rattle.exi_calendar.specs.Reading.{moment_value}
 use Rattle.exi_lexical.proofs.Visible.{graphic_decimals, graphic_float, graphic_integer, graphic_moment, long_decimals, long_float, long_integer, no_moment}
 use Rattle.exi_lexical.specs.Binaries.{base64_octets, base64_text, hex_digit, hex_octets, hex_text, octet_before}
@@ -224,7 +224,7 @@ moments_kept kind t v e =
       graphic = graphic_moment f.part;
       long = λ _. some_characters kind f.part (moment_text f.part) back;
       named = refl;
-      of = let w = (value_by_form kind t f.part).0 f.there in (ranges_are kind f.part).0 (w.kind_is, w.ranges);
+      of = let w = value_back kind t f.part f.there in (ranges_are kind f.part).0 (w.kind_is, w.ranges);
     }
 
 -- ---- each form

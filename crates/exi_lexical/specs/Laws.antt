@@ -9,8 +9,8 @@ use Rattle.exi_lexical.specs.Binaries.{base64_octets, base64_text, hex_octets, h
 use Rattle.exi_lexical.specs.Values.{canonical, value}
 
 -- the canonical text of a value that a text has, has that value
-abbrev pub CanonicalTextHasItsValue : Type 0
-CanonicalTextHasItsValue = (r : Representation) (t : List ℕ) (v : Value) → value r t ≡ Some v → value r (canonical v) ≡ Some v
+abbrev pub ValueComesBack : Type 0
+ValueComesBack = (r : Representation) (t : List ℕ) (v : Value) → value r t ≡ Some v → value r (canonical v) ≡ Some v
 
 -- a value that a text has, has a canonical text
 abbrev pub ValueHasItsText : Type 0

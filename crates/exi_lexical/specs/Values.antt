@@ -64,7 +64,11 @@ form_value (form.binary hex) t = binary_value hex t
 form_value form.decimal t = option_map of_decimal (decimal_value t)
 form_value form.float t = option_map of_float (float_value t)
 form_value (form.moment kind) t = option_map moment (moment_value kind t)
-form_value other t = None
+form_value (list item) t = None
+form_value (choice base values) t = None
+form_value form.text t = None
+form_value (chars alphabet) t = None
+form_value (form.name prefixes) t = None
 
 -- each of these forms has ASCII characters alone
 unfoldable pub scalar_value : Representation → List ℕ → Option Value
@@ -99,7 +103,14 @@ value (chars alphabet) t = Some (shape.text t)
 value (form.name prefixes) t = None
 value (list item) t = list_value (λ w. value item w) t
 value (choice base values) t = chosen values (value base (trimmed t))
-value scalar t = scalar_value scalar (trimmed t)
+value (small least count) t = scalar_value (small least count) (trimmed t)
+value unsigned t = scalar_value unsigned (trimmed t)
+value form.integer t = scalar_value form.integer (trimmed t)
+value (form.boolean pattern) t = scalar_value (form.boolean pattern) (trimmed t)
+value (form.binary hex) t = scalar_value (form.binary hex) (trimmed t)
+value form.decimal t = scalar_value form.decimal (trimmed t)
+value form.float t = scalar_value form.float (trimmed t)
+value (form.moment kind) t = scalar_value (form.moment kind) (trimmed t)
 
 -- ---- the canonical text of a value; a name has none
 abbrev mutual

@@ -1,7 +1,7 @@
 //! The laws between the texts of values and the values. Each law is a function that does nothing: what it ensures
 //! are the laws.
 
-ghost use Rattle.exi_lexical.specs.Laws.{Base64IsByForm, CanonicalTextHasItsValue, HexIsRead, ValueHasItsText, ValueIsOfForm, WrittenIsRead};
+ghost use Rattle.exi_lexical.specs.Laws.{Base64IsByForm, HexIsRead, ValueComesBack, ValueHasItsText, ValueIsOfForm, WrittenIsRead};
 
 /// The value of a text is one that the datatype has, and has a text itself.
 pub fn read_is_of_the_form()
@@ -17,7 +17,7 @@ pub fn written_is_read()
 
 /// The canonical text of a value that a text has, has that value, under every datatype.
 pub fn value_comes_back()
-    ensures { CanonicalTextHasItsValue }
+    ensures { ValueComesBack }
 {}
 
 /// Octets and their digits.

@@ -1,5 +1,5 @@
 use Rattle.exi_calendar.proofs.Whole.{canonical_value}
-use Rattle.exi_calendar.proofs.laws.canonical_text_has_its_value.Goals as goal
+use Rattle.exi_calendar.proofs.laws.written_is_read.Goals as goal
 
 pub returns : goal.returns
 returns c = canonical_value
