@@ -54,11 +54,11 @@ more_owned live given own more index name local place key c key_is_own local_is 
   listed = c.listed;
 }
 
-one_or_none : (b : Bool) (n : ℕ) → n ≤ n + cond b 1 0
+pub one_or_none : (b : Bool) (n : ℕ) → n ≤ n + cond b 1 0
 one_or_none true n = omega arith
 one_or_none false n = omega arith
 
-same_itself : (a : NameId) → same_name a a ≡ true
+pub same_itself : (a : NameId) → same_name a a ≡ true
 same_itself a = rw (eq-eqb a.uri a.uri refl, eq-eqb a.local a.local refl) refl
 
 -- a value more, in place of the one that stood there

@@ -13,3 +13,5 @@ pub mod SpotSets
 pub mod Found
 pub mod Completes
 pub mod Looked
+pub mod Sound
+pub mod Rows

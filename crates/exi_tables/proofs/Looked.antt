@@ -32,7 +32,7 @@ both true b h = (refl, h)
 both false b h = absurd cc
 
 -- the place under the name is that of the value
-stood : (name : NameId) (place : ℕ) (l : Live) → stands_under name place l ≡ true → (name ≡ l.name) × (place ≡ l.local)
+pub stood : (name : NameId) (place : ℕ) (l : Live) → stands_under name place l ≡ true → (name ≡ l.name) × (place ≡ l.local)
 stood name place l e =
     let parts = both (same_name name l.name) (nat_eq l.local place) e in
     (same_is name l.name parts.0, sym (eqb-true l.local place parts.1))
