@@ -14,7 +14,8 @@ use Rattle.exi_bits.specs.Unsigned.{◌>>=◌, at_spot, fault_at, field_at, need
 use Rattle.exi_bits.proofs.BitLaws.{length-bits, pow_up}
 use Rattle.exi_bits.proofs.InBytes.{length-number, number_read, number_spelled}
 use Rattle.exi_bits.proofs.UnsignedLaws.{unsigned_read, unsigned_spelled}
-use Rattle.exi_moment.specs.Spelling.{Both, SpellsNumber, SpellsOptional, SpellsUnsigned, Where}
+use Rattle.exi_items.specs.Spellings.{SpellsUnsigned, Then}
+use Rattle.exi_moment.specs.Spelling.{SpellsNumber, SpellsOptional, Where}
 use Rattle.exi_moment.specs.Reading.{in_range, optional, where_it_counts}
 
 -- ---- results
@@ -83,10 +84,10 @@ pub record Told (a : Align) (P : List Bool → Type 0) (s t : Spot) : Type 0 whe
   pub fits : IsBytes t.bytes
   pub aligned : IsAligned a t
 
-pub told_both : (a : Align) (P Q : List Bool → Type 0) (s t u : Spot) → Told a P s t → Told a Q t u → Told a (Both P Q) s u
+pub told_both : (a : Align) (P Q : List Bool → Type 0) (s t u : Spot) → Told a P s t → Told a Q t u → Told a (Then P Q) s u
 told_both a P Q s t u p q = record {
   text = p.text ++ q.text;
-  spells = record { front = p.text; back = q.text; first = p.spells; second = q.spells; parts = refl };
+  spells = record { first = p.text; second = q.text; parts = refl; front = p.spells; behind = q.spells };
   front = front_append s t u p.text q.text p.front q.front;
   fits = q.fits;
   aligned = q.aligned;
@@ -107,7 +108,7 @@ pub unsigned_told : (v : ℕ) (a : Align) (s t : Spot) → IsBytes s.bytes → I
 unsigned_told v a s t fits whole e =
     let u = unsigned_spelled v s t e in record {
       text = bits u.0;
-      spells = record { octets = u.0; spells = u.1; text_is = refl };
+      spells = record { octets = u.0; unsigned = u.1; bits = refl };
       front = u.2;
       fits = same_fits s t u.2.bytes fits;
       aligned = octets_keep a (length u.0) s t whole (u.2.place ∙ ap (λ (x : ℕ). s.place + x) (length-bits u.0));
@@ -176,10 +177,10 @@ field_again n v a s text more fits whole lt is e =
 
 pub unsigned_again : (v : ℕ) (a : Align) (s : Spot) (text more : List Bool) → IsBytes s.bytes → IsAligned a s → SpellsUnsigned v text → rest s ≡ text ++ more → Again ℕ a (unsigned_at s) v s text more
 unsigned_again v a s text more fits whole u e =
-    let same : rest s ≡ bits u.octets ++ more = e ∙ ap (λ (x : List Bool). x ++ more) u.text_is in
-    let l = landed s text more (8 * length u.octets) (ap length u.text_is ∙ length-bits u.octets) e in record {
+    let same : rest s ≡ bits u.octets ++ more = e ∙ ap (λ (x : List Bool). x ++ more) u.bits in
+    let l = landed s text more (8 * length u.octets) (ap length u.bits ∙ length-bits u.octets) e in record {
       next = moved s (8 * length u.octets);
-      reads = unsigned_read v u.octets s more u.spells same;
+      reads = unsigned_read v u.octets s more u.unsigned same;
       front = l.0;
       behind = l.1;
       fits = fits;
@@ -220,11 +221,11 @@ optional_again a read P None again s text more fits whole is e =
       aligned = f.aligned;
     }
 optional_again a read P (Some x) again s text more fits whole is e =
-    let f = told_again 1 a s is.front (is.back ++ more) fits whole (omega arith) is.first (split s is.front is.back text more is.parts e) in
-    let g = again f.next is.back more f.fits f.aligned is.second f.behind in record {
+    let f = told_again 1 a s is.first (is.second ++ more) fits whole (omega arith) is.front (split s is.first is.second text more is.parts e) in
+    let g = again f.next is.second more f.fits f.aligned is.behind f.behind in record {
       next = g.next;
       reads = rw (f.reads, g.reads) refl;
-      front = joined s f.next g.next is.front is.back text is.parts f.front g.front;
+      front = joined s f.next g.next is.first is.second text is.parts f.front g.front;
       behind = g.behind;
       fits = g.fits;
       aligned = g.aligned;

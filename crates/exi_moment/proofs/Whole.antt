@@ -15,7 +15,8 @@ use Rattle.exi_names.specs.declared.moment.Moment.{Moment}
 use Rattle.exi_names.specs.declared.moment.MomentKind.{MomentKind}
 use Rattle.exi_names.specs.declared.moment.MomentKind.TheVariants as form
 use Rattle.exi_names.specs.Moments.{IsMoment, fields, has_month_day, is_month_day, is_time, is_year}
-use Rattle.exi_moment.specs.Spelling.{Both, Spells, SpellsFraction, SpellsInteger, SpellsNumber, SpellsUnsigned, SpellsZone, Where, fraction_text, integer_text, month_day_number, spelling, text_where, time_number, year_offset, zone_number, zone_text}
+use Rattle.exi_items.specs.Spellings.{SpellsUnsigned, Then}
+use Rattle.exi_moment.specs.Spelling.{Spells, SpellsFraction, SpellsInteger, SpellsNumber, SpellsZone, Where, fraction_text, integer_text, month_day_number, spelling, text_where, time_number, year_offset, zone_number, zone_text}
 use Rattle.exi_moment.specs.Reading.{fraction_at, in_range, moment_at, month_day_at, month_day_of, offset_at, signed, time_at, time_of, where_it_counts, year_at, year_of, zone_at, zone_of}
 use Rattle.exi_moment.specs.Laws.{ReadMoment}
 use Rattle.exi_moment.proofs.BothWays.{few_after, few_before, month_day_again, month_day_told, time_again, time_told, year_again, year_told, zone_again, zone_told}
@@ -40,7 +41,7 @@ year_in sign size = cond (ltb size.0 (2 ^ 127)) (in_range sign.1 size.1 (year_of
 abbrev year_behind : ℕ × Spot → Result (ℤ × Spot) Fault
 year_behind sign = unsigned_at sign.1 >>= λ size. year_in sign size
 
-as_integer : (a : Align) (v n : ℕ) (s t : Spot) → v < 2 → Told a (Both (SpellsNumber a 1 v) (SpellsUnsigned n)) s t → Told a (SpellsInteger a (signed (v == 1) n)) s t
+as_integer : (a : Align) (v n : ℕ) (s t : Spot) → v < 2 → Told a (Then (SpellsNumber a 1 v) (SpellsUnsigned n)) s t → Told a (SpellsInteger a (signed (v == 1) n)) s t
 as_integer a zero n s t lt told = told
 as_integer a (suc zero) n s t lt told = told
 as_integer a (suc (suc v)) n s t lt told = absurd (omega arith)
@@ -139,8 +140,8 @@ after_date k a y d = where_it_counts (fields k).time (0, 0, 0) (time_at a) d.1 >
 abbrev after_year : MomentKind → Align → ℤ × Spot → Result (Moment × Spot) Fault
 after_year k a y = where_it_counts (has_month_day k) (0, 0) (month_day_at k a) y.1 >>= after_date k a y.0
 
-five_told : (a : Align) (P Q R S T : List Bool → Type 0) (s t u v w x : Spot) → Told a P s t → Told a Q t u → Told a R u v → Told a S v w → Told a T w x → Told a (Both P (Both Q (Both R (Both S T)))) s x
-five_told a P Q R S T s t u v w x p q r y z = told_both a P (Both Q (Both R (Both S T))) s t x p (told_both a Q (Both R (Both S T)) t u x q (told_both a R (Both S T) u v x r (told_both a S T v w x y z)))
+five_told : (a : Align) (P Q R S T : List Bool → Type 0) (s t u v w x : Spot) → Told a P s t → Told a Q t u → Told a R u v → Told a S v w → Told a T w x → Told a (Then P (Then Q (Then R (Then S T)))) s x
+five_told a P Q R S T s t u v w x p q r y z = told_both a P (Then Q (Then R (Then S T))) s t x p (told_both a Q (Then R (Then S T)) t u x q (told_both a R (Then S T) u v x r (told_both a S T v w x y z)))
 
 same_moment : (k : MomentKind) (a : Align) (s : Spot) (p q : Moment × Spot) → p ≡ q → ReadMoment k a s p.1 p.0 → ReadMoment k a s q.1 q.0
 same_moment k a s p q e r = subst (λ (x : Moment × Spot). ReadMoment k a s x.1 x.0) e r
@@ -175,14 +176,14 @@ moment_told k a m s t fits whole e =
     })
 
 -- ---- what is spelled is read
-year_step : (a : Align) (y : ℤ) (v n : ℕ) → v < 2 → n < 2 ^ 127 → year_of (v == 1) n ≡ some y → (s : Spot) (text more : List Bool) → IsBytes s.bytes → IsAligned a s → Both (SpellsNumber a 1 v) (SpellsUnsigned n) text → rest s ≡ text ++ more → Again ℤ a (year_at a s) y s text more
+year_step : (a : Align) (y : ℤ) (v n : ℕ) → v < 2 → n < 2 ^ 127 → year_of (v == 1) n ≡ some y → (s : Spot) (text more : List Bool) → IsBytes s.bytes → IsAligned a s → Then (SpellsNumber a 1 v) (SpellsUnsigned n) text → rest s ≡ text ++ more → Again ℤ a (year_at a s) y s text more
 unfolding year_at
 year_step a y v n lt few is s text more fits whole both e =
-    let f = told_again v a s both.front (both.back ++ more) fits whole lt both.first (split s both.front both.back text more both.parts e) in
-    let g = unsigned_again n a f.next both.back more f.fits f.aligned both.second f.behind in record {
+    let f = told_again v a s both.first (both.second ++ more) fits whole lt both.front (split s both.first both.second text more both.parts e) in
+    let g = unsigned_again n a f.next both.second more f.fits f.aligned both.behind f.behind in record {
       next = g.next;
       reads = rw (f.reads, g.reads, lt-ltb n (2 ^ 127) few, is) refl;
-      front = joined s f.next g.next both.front both.back text both.parts f.front g.front;
+      front = joined s f.next g.next both.first both.second text both.parts f.front g.front;
       behind = g.behind;
       fits = g.fits;
       aligned = g.aligned;
@@ -286,18 +287,18 @@ spot_is t s n b p = ap₂ spot_of b p
 pub moment_again : (m : Moment) (a : Align) (s : Spot) (text more : List Bool) → IsMoment m → IsTrue (is_year m.year) → IsBytes s.bytes → IsAligned a s → Spells a m text → rest s ≡ text ++ more → moment_at m.kind a s ≡ given (m, moved s (length text))
 unfolding moment_at
 moment_again m a s text more ranges narrow fits whole y e =
-    let d = y.second in
-    let t = d.second in
-    let f = t.second in
-    let one = where_again a (fields m.kind).year (pos 0) (year_at a) (SpellsYear a) m.year (λ h. year_reread a m.year narrow) ranges.year s y.front (y.back ++ more) fits whole y.first (split s y.front y.back text more y.parts e) in
-    let two = where_again a (has_month_day m.kind) (0, 0) (month_day_at m.kind a) (SpellsDate a) (m.month, m.day) (λ h. date_reread m.kind a m.month m.day ranges.month_day) (date_none m.kind m.month m.day ranges.month_day) one.next d.front (d.back ++ more) one.fits one.aligned d.first (split one.next d.front d.back y.back more d.parts one.behind) in
-    let three = where_again a (fields m.kind).time (0, 0, 0) (time_at a) (SpellsTime a) (m.hour, m.minute, m.second) (λ h. time_reread a m.hour m.minute m.second (time_there (fields m.kind).time m.hour m.minute m.second ranges.time h)) (time_none (fields m.kind).time m.hour m.minute m.second ranges.time) two.next t.front (t.back ++ more) two.fits two.aligned t.first (split two.next t.front t.back d.back more t.parts two.behind) in
-    let four = where_again a (fields m.kind).time None (fraction_at a) (SpellsFraction a) m.fraction (λ h. fraction_reread a m.fraction) ranges.fraction three.next f.front (f.back ++ more) three.fits three.aligned f.first (split three.next f.front f.back t.back more f.parts three.behind) in
-    let five = zone_reread a m.zone ranges.zone four.next f.back more four.fits four.aligned f.second four.behind in
-    let last = joined three.next four.next five.next f.front f.back t.back f.parts four.front five.front in
-    let timed = joined two.next three.next five.next t.front t.back d.back t.parts three.front last in
-    let dated = joined one.next two.next five.next d.front d.back y.back d.parts two.front timed in
-    let all = joined s one.next five.next y.front y.back text y.parts one.front dated in
+    let d = y.behind in
+    let t = d.behind in
+    let f = t.behind in
+    let one = where_again a (fields m.kind).year (pos 0) (year_at a) (SpellsYear a) m.year (λ h. year_reread a m.year narrow) ranges.year s y.first (y.second ++ more) fits whole y.front (split s y.first y.second text more y.parts e) in
+    let two = where_again a (has_month_day m.kind) (0, 0) (month_day_at m.kind a) (SpellsDate a) (m.month, m.day) (λ h. date_reread m.kind a m.month m.day ranges.month_day) (date_none m.kind m.month m.day ranges.month_day) one.next d.first (d.second ++ more) one.fits one.aligned d.front (split one.next d.first d.second y.second more d.parts one.behind) in
+    let three = where_again a (fields m.kind).time (0, 0, 0) (time_at a) (SpellsTime a) (m.hour, m.minute, m.second) (λ h. time_reread a m.hour m.minute m.second (time_there (fields m.kind).time m.hour m.minute m.second ranges.time h)) (time_none (fields m.kind).time m.hour m.minute m.second ranges.time) two.next t.first (t.second ++ more) two.fits two.aligned t.front (split two.next t.first t.second d.second more t.parts two.behind) in
+    let four = where_again a (fields m.kind).time None (fraction_at a) (SpellsFraction a) m.fraction (λ h. fraction_reread a m.fraction) ranges.fraction three.next f.first (f.second ++ more) three.fits three.aligned f.front (split three.next f.first f.second t.second more f.parts three.behind) in
+    let five = zone_reread a m.zone ranges.zone four.next f.second more four.fits four.aligned f.behind four.behind in
+    let last = joined three.next four.next five.next f.first f.second t.second f.parts four.front five.front in
+    let timed = joined two.next three.next five.next t.first t.second d.second t.parts three.front last in
+    let dated = joined one.next two.next five.next d.first d.second y.second d.parts two.front timed in
+    let all = joined s one.next five.next y.first y.second text y.parts one.front dated in
     let there : five.next ≡ moved s (length text) = spot_is five.next s (length text) all.bytes all.place in
     rw (one.reads, two.reads, three.reads, four.reads, five.reads, there) refl
 
@@ -360,8 +361,8 @@ moment_no_prefix m other a text prefix more ranges narrow ranges' narrow' kind s
     )
 
 -- ---- what is written is a spelling
-both_text : (P Q : List Bool → Type 0) (p q : List Bool) → P p → Q q → Both P Q (p ++ q)
-both_text P Q p q x y = record { front = p; back = q; first = x; second = y; parts = refl }
+both_text : (P Q : List Bool → Type 0) (p q : List Bool) → P p → Q q → Then P Q (p ++ q)
+both_text P Q p q x y = record { first = p; second = q; parts = refl; front = x; behind = y }
 
 where_text : (b : Bool) (P : List Bool → Type 0) (text : List Bool) → P text → Where b P (text_where b text)
 where_text true P text h = h
@@ -372,7 +373,7 @@ where_both true p q = refl
 where_both false p q = refl
 
 unsigned_written : (n : ℕ) → n < 2 ^ 128 → SpellsUnsigned n (bits (shortest n))
-unsigned_written n lt = record { octets = shortest n; spells = shortest_spelled n lt; text_is = refl }
+unsigned_written n lt = record { octets = shortest n; unsigned = shortest_spelled n lt; bits = refl }
 
 integer_written : (a : Align) (y z : ℤ) → IsTrue (is_year y) → y -ℤ pos 2000 ≡ z → SpellsInteger a z (integer_text a z)
 integer_written a y (pos n) h e = both_text (SpellsNumber a 1 0) (SpellsUnsigned n) (number 1 a 0) (bits (shortest n)) refl (unsigned_written n (let few = few_after y n h e in omega arith))
@@ -386,8 +387,8 @@ zone_written : (a : Align) (z : Option ℤ) → SpellsZone a z (zone_text a z)
 zone_written a None = refl
 zone_written a (Some z) = both_text (SpellsNumber a 1 1) (SpellsOffset a z) (number 1 a 1) (number 11 a (zone_number z)) refl refl
 
-five_texts : (P Q R S T : List Bool → Type 0) (p q r s t : List Bool) → P p → Q q → R r → S s → T t → Both P (Both Q (Both R (Both S T))) (p ++ (q ++ (r ++ (s ++ t))))
-five_texts P Q R S T p q r s t u v w x y = both_text P (Both Q (Both R (Both S T))) p (q ++ (r ++ (s ++ t))) u (both_text Q (Both R (Both S T)) q (r ++ (s ++ t)) v (both_text R (Both S T) r (s ++ t) w (both_text S T s t x y)))
+five_texts : (P Q R S T : List Bool → Type 0) (p q r s t : List Bool) → P p → Q q → R r → S s → T t → Then P (Then Q (Then R (Then S T))) (p ++ (q ++ (r ++ (s ++ t))))
+five_texts P Q R S T p q r s t u v w x y = both_text P (Then Q (Then R (Then S T))) p (q ++ (r ++ (s ++ t))) u (both_text Q (Then R (Then S T)) q (r ++ (s ++ t)) v (both_text R (Then S T) r (s ++ t) w (both_text S T s t x y)))
 
 grouped : (y d c t f z : List Bool) → c ≡ t ++ f → y ++ (d ++ (t ++ (f ++ z))) ≡ y ++ d ++ c ++ z
 grouped y d c t f z e =

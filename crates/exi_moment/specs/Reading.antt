@@ -1,4 +1,4 @@
--- How a date or a time is read: item by item, or the fault at the first bit of the item that shows it (W3C EXI, section 7.1.8).
+-- How a date or a time is read: item by item, or the fault at the first bit of the item that shows it (EXI 1.0, section 7.1.8).
 use Rattle.std.specs.Prelude.{Option, Some, None, option_map, Result, Ok, ℕ, ◌+◌, ◌-◌, ◌*◌, ◌/◌, ◌%◌, ◌^◌, ◌==◌, ◌&&◌, nat_lt, nat_le, if◌then◌else◌, Bool, true, false, ℤ, pos, negsuc, ◌+ℤ◌, neg_ℤ}
 use Rattle.exi_bits.specs.declared.align.Align.{Align}
 use Rattle.exi_bits.specs.declared.fault.Fault.{Fault}

@@ -1,8 +1,9 @@
--- The bits of a date or a time (W3C EXI, section 7.1.8): year, month and day, time, fraction, zone, as far as the kind has them.
+-- The bits of a date or a time (EXI 1.0, section 7.1.8): year, month and day, time, fraction, zone, as far as the kind has them.
 use Rattle.std.specs.Prelude.{◌≡◌, Option, Some, None, ℕ, suc, ◌+◌, ◌-◌, ◌*◌, ◌/◌, ◌%◌, Bool, true, false, List, [], ◌++◌, ℤ, pos, negsuc, ◌-ℤ◌}
 use Rattle.exi_bits.specs.declared.align.Align.{Align}
 use Rattle.exi_bits.specs.Bits.{bits, number}
-use Rattle.exi_bits.specs.Unsigned.{IsUnsigned, shortest}
+use Rattle.exi_bits.specs.Unsigned.{shortest}
+use Rattle.exi_items.specs.Spellings.{SpellsUnsigned, Then}
 use Rattle.exi_names.specs.declared.moment.Moment.{Moment}
 use Rattle.exi_names.specs.Moments.{fields, has_month_day}
 
@@ -27,14 +28,6 @@ abbrev pub year_offset : Moment → ℤ
 year_offset m = m.year -ℤ pos 2000
 
 -- ---- all spellings: an Unsigned Integer may have more octets than it needs
--- one text and another behind it
-pub record Both (P Q : List Bool → Type 0) (text : List Bool) : Type 0 where
-  pub front : List Bool
-  pub back : List Bool
-  pub first : P front
-  pub second : Q back
-  pub parts : text ≡ front ++ back
-
 -- nothing where it does not count
 abbrev pub Where : Bool → (List Bool → Type 0) → List Bool → Type 0
 Where true P text = P text
@@ -43,20 +36,15 @@ Where false P text = text ≡ []
 abbrev pub SpellsNumber : Align → ℕ → ℕ → List Bool → Type 0
 SpellsNumber a n v text = text ≡ number n a v
 
-pub record SpellsUnsigned (v : ℕ) (text : List Bool) : Type 0 where
-  pub octets : List ℕ
-  pub spells : IsUnsigned octets v
-  pub text_is : text ≡ bits octets
-
 -- the sign, and the magnitude, of which a negative number has one less
 abbrev pub SpellsInteger : Align → ℤ → List Bool → Type 0
-SpellsInteger a (pos n) = Both (SpellsNumber a 1 0) (SpellsUnsigned n)
-SpellsInteger a (negsuc n) = Both (SpellsNumber a 1 1) (SpellsUnsigned n)
+SpellsInteger a (pos n) = Then (SpellsNumber a 1 0) (SpellsUnsigned n)
+SpellsInteger a (negsuc n) = Then (SpellsNumber a 1 1) (SpellsUnsigned n)
 
 -- whether there is one, and it
 abbrev pub SpellsOptional : {X : Type 0} → Align → (X → List Bool → Type 0) → Option X → List Bool → Type 0
 SpellsOptional a P None = SpellsNumber a 1 0
-SpellsOptional a P (Some x) = Both (SpellsNumber a 1 1) (P x)
+SpellsOptional a P (Some x) = Then (SpellsNumber a 1 1) (P x)
 
 -- the number of its digits in reverse
 abbrev pub SpellsFraction : Align → Option ℕ → List Bool → Type 0
@@ -67,10 +55,10 @@ SpellsZone a zone = SpellsOptional a (λ z. SpellsNumber a 11 (zone_number z)) z
 
 abbrev pub Spells : Align → Moment → List Bool → Type 0
 Spells a m =
-    Both (Where (fields m.kind).year (SpellsInteger a (year_offset m)))
-    (Both (Where (has_month_day m.kind) (SpellsNumber a 9 (month_day_number m)))
-    (Both (Where (fields m.kind).time (SpellsNumber a 17 (time_number m)))
-    (Both (Where (fields m.kind).time (SpellsFraction a m.fraction))
+    Then (Where (fields m.kind).year (SpellsInteger a (year_offset m)))
+    (Then (Where (has_month_day m.kind) (SpellsNumber a 9 (month_day_number m)))
+    (Then (Where (fields m.kind).time (SpellsNumber a 17 (time_number m)))
+    (Then (Where (fields m.kind).time (SpellsFraction a m.fraction))
     (SpellsZone a m.zone))))
 
 -- ---- the spelling that is written, with the shortest Unsigned Integers
@@ -101,10 +89,3 @@ time_text a m = text_where (fields m.kind).time (number 17 a (time_number m) ++ 
 
 unfoldable pub spelling : Align → Moment → List Bool
 spelling a m = year_text a m ++ month_day_text a m ++ time_text a m ++ zone_text a m.zone
-
--- the bits that were added are the first of the text, and perhaps not all
-pub record AddsFront (text old new : List Bool) : Type 0 where
-  pub added : List Bool
-  pub missing : List Bool
-  pub parts : text ≡ added ++ missing
-  pub new_is : new ≡ old ++ added

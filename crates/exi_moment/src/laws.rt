@@ -4,17 +4,17 @@
 ghost use Rattle.exi_moment.specs.Laws.{MomentIsSpelled, MomentIsRead, MomentIsNoPrefix, WrittenIsSpelled, WrittenIsRead};
 
 /// What is read is spelled so, is of the kind that was asked for, and has its fields in their ranges.
-pub fn moment_is_spelled()
+pub fn read_is_spelled()
     ensures { MomentIsSpelled }
 {}
 
 /// What is spelled so is read, whatever follows.
-pub fn moment_is_read()
+pub fn spelled_is_read()
     ensures { MomentIsRead }
 {}
 
 /// No spelling is a proper prefix of another of its kind.
-pub fn moment_is_no_prefix()
+pub fn none_is_prefix()
     ensures { MomentIsNoPrefix }
 {}
 

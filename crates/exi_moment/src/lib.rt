@@ -1,4 +1,4 @@
-//! Dates and times of an EXI stream, read and written (W3C EXI, section 7.1.8).
+//! Dates and times of an EXI stream, read and written (EXI 1.0, section 7.1.8).
 //!
 //! A date or a time is a run of parts. Its kind says which there are; the zone ends each:
 //!

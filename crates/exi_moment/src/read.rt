@@ -188,7 +188,7 @@ fn moment_parts(input: &mut BitIn<'_>, kind: MomentKind, align: Align) -> Result
     })
 }
 
-/// Reads a date or a time of a kind (W3C EXI, section 7.1.8). Takes no memory.
+/// Reads a date or a time of a kind (EXI 1.0, section 7.1.8). Takes no memory.
 ///
 /// Day 31 is taken in any month, any minute in hour 24, and second 60; the zone is at most 14 hours
 /// either way. A field that the kind does not have is 0.

@@ -1,7 +1,8 @@
 ghost use Rattle.std.specs.Prelude.{◌≡◌, ◌++◌, ◌≤◌, IfSome, IsTrue, OnOk, OnErr, false, unsigned_abs, pos, None};
 ghost use Rattle.exi_bits.specs.Written.{IsWholeBytes};
 ghost use Rattle.exi_names.specs.Moments.{IsMoment};
-ghost use Rattle.exi_moment.specs.Spelling.{AddsFront, fraction_text, month_day_text, spelling, time_text, year_text, zone_text};
+ghost use Rattle.exi_items.specs.Fronts.{HoldsFront};
+ghost use Rattle.exi_moment.specs.Spelling.{fraction_text, month_day_text, spelling, time_text, year_text, zone_text};
 
 use crate::fields::{counts_month_day, counts_time, counts_year};
 use crate::numbers::{year_parts, zone_to_number};
@@ -13,7 +14,7 @@ use std::alloc::AllocError;
 fn write_year(out: &mut BitOut, value: &Moment, align: Align) -> Result<(), AllocError>
     requires aligned { IsWholeBytes align out.old }
     ensures ok { OnOk result (out.new ≡ out.old ++ year_text align value.now) }
-    ensures err { OnErr result (AddsFront (year_text align value.now) out.old out.new) }
+    ensures err { OnErr result (HoldsFront out.old (year_text align value.now) out.new) }
     ensures aligned { IsWholeBytes align out.new }
 {
     if !counts_year(value.kind) {
@@ -29,7 +30,7 @@ fn write_month_day(out: &mut BitOut, value: &Moment, align: Align) -> Result<(),
     requires ranges { IsMoment value.now }
     requires aligned { IsWholeBytes align out.old }
     ensures ok { OnOk result (out.new ≡ out.old ++ month_day_text align value.now) }
-    ensures err { OnErr result (AddsFront (month_day_text align value.now) out.old out.new) }
+    ensures err { OnErr result (HoldsFront out.old (month_day_text align value.now) out.new) }
     ensures aligned { IsWholeBytes align out.new }
 {
     if !counts_month_day(value.kind) {
@@ -42,7 +43,7 @@ fn write_month_day(out: &mut BitOut, value: &Moment, align: Align) -> Result<(),
 fn write_fraction(out: &mut BitOut, fraction: Option<u128>, align: Align) -> Result<(), AllocError>
     requires aligned { IsWholeBytes align out.old }
     ensures ok { OnOk result (out.new ≡ out.old ++ fraction_text align fraction) }
-    ensures err { OnErr result (AddsFront (fraction_text align fraction) out.old out.new) }
+    ensures err { OnErr result (HoldsFront out.old (fraction_text align fraction) out.new) }
     ensures aligned { IsWholeBytes align out.new }
 {
     let Some(digits) = fraction else {
@@ -57,7 +58,7 @@ fn write_time(out: &mut BitOut, value: &Moment, align: Align) -> Result<(), Allo
     requires ranges { IsMoment value.now }
     requires aligned { IsWholeBytes align out.old }
     ensures ok { OnOk result (out.new ≡ out.old ++ time_text align value.now) }
-    ensures err { OnErr result (AddsFront (time_text align value.now) out.old out.new) }
+    ensures err { OnErr result (HoldsFront out.old (time_text align value.now) out.new) }
     ensures aligned { IsWholeBytes align out.new }
 {
     if !counts_time(value.kind) {
@@ -73,7 +74,7 @@ fn write_zone(out: &mut BitOut, zone: Option<i16>, align: Align) -> Result<(), A
     requires range { IfSome zone (λ z. unsigned_abs z ≤ 840) }
     requires aligned { IsWholeBytes align out.old }
     ensures ok { OnOk result (out.new ≡ out.old ++ zone_text align zone) }
-    ensures err { OnErr result (AddsFront (zone_text align zone) out.old out.new) }
+    ensures err { OnErr result (HoldsFront out.old (zone_text align zone) out.new) }
     ensures aligned { IsWholeBytes align out.new }
 {
     let Some(zone) = zone else {
@@ -83,7 +84,7 @@ fn write_zone(out: &mut BitOut, zone: Option<i16>, align: Align) -> Result<(), A
     out.put(zone_to_number(zone), 11, align)
 }
 
-/// Writes a date or a time (W3C EXI, section 7.1.8), as [`read_moment`] reads it, in as few bits as
+/// Writes a date or a time (EXI 1.0, section 7.1.8), as [`read_moment`] reads it, in as few bits as
 /// spell it.
 ///
 /// The fields have to be in their ranges, as [`is_moment`] tells.
@@ -99,7 +100,7 @@ pub fn write_moment(out: &mut BitOut, value: &Moment, align: Align) -> Result<()
     requires ranges { IsMoment value.now }
     requires aligned { IsWholeBytes align out.old }
     ensures ok { OnOk result (out.new ≡ out.old ++ spelling align value.now) }
-    ensures err { OnErr result (AddsFront (spelling align value.now) out.old out.new) }
+    ensures err { OnErr result (HoldsFront out.old (spelling align value.now) out.new) }
     ensures aligned { IsWholeBytes align out.new }
 {
     write_year(out, value, align)?;

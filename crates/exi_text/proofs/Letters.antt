@@ -15,10 +15,12 @@ use Rattle.exi_items.specs.Spellings.{Each, SpellsUnsigned, Then}
 use Rattle.exi_items.proofs.Items.{Item, Row, Taken, bind_ok, given, item_field, item_tested, item_then, item_times, item_unsigned, ok_is}
 use Rattle.exi_items.proofs.NoPrefix.{item_no_prefix}
 use Rattle.exi_meter.specs.Metering.{Metering}
+use Rattle.exi_names.specs.Alphabets.{place_of}
 use Rattle.exi_names.specs.Characters.{between, is_xml_char}
-use Rattle.exi_text.specs.Literals.{all_xml, char_at, char_bits, chars_at, chars_bits, code_at, in_set_at, place_of, placed_bits, width_in}
+use Rattle.exi_text.specs.Literals.{all_xml, char_at, char_bits, chars_at, chars_bits, code_at, in_set_at, placed_bits, width_in}
 use Rattle.exi_text.specs.Spelled.{CharsAreNoPrefix, CharsAreRead, CharsAreSpelled, IsEscaped, SpellsChar, SpellsCode}
-use Rattle.exi_text.proofs.Sets.{place_fits, place_is}
+use Rattle.exi_names.proofs.Places.{place_is}
+use Rattle.exi_text.proofs.Sets.{place_fits, xml_last}
 
 -- ---- a code point
 pub item_code : (a : Align) → Item {X = ℕ} a code_at SpellsCode
@@ -146,24 +148,8 @@ chars_no_prefix set a cs ds text other more same g h e =
     item_no_prefix a (times (char_at set a) (length cs)) (Row (SpellsChar set a) (length cs)) (item_row set a (length cs)) cs ds text other more (record { count = refl; each = g }) (record { count = sym same; each = h }) e
 
 -- ---- what is written
-either : (x y : Bool) (P : Type 0) → (x ≡ true → P) → (y ≡ true → P) → (x || y) ≡ true → P
-either true y P f g h = f refl
-either false y P f g h = g h
-
-at_most : (least most c : ℕ) → between least most c ≡ true → c ≤ most
-at_most least most c h = leb-true c most (and_parts (leb least c) (leb c most) h).1
-
-xml_below : (c : ℕ) → is_xml_char c ≡ true → c < 2 ^ 128
-unfolding is_xml_char
-xml_below c h = either _ _ (c < 2 ^ 128) (either _ _ (c < 2 ^ 128) (either _ _ (c < 2 ^ 128) (either _ _ (c < 2 ^ 128)
-    (λ e. let k = at_most 0x9 0xA c e in omega arith)
-    (λ e. let k = at_most 0xD 0xD c e in omega arith))
-    (λ e. let k = at_most 0x20 0xD7FF c e in omega arith))
-    (λ e. let k = at_most 0xE000 0xFFFD c e in omega arith))
-    (λ e. let k = at_most 0x1_0000 0x10_FFFF c e in omega arith) h
-
 code_written : (c : ℕ) → is_xml_char c ≡ true → SpellsCode c (bits (shortest c))
-code_written c h = (h, record { octets = shortest c; unsigned = shortest_spelled c (xml_below c h); bits = refl })
+code_written c h = (h, record { octets = shortest c; unsigned = shortest_spelled c ((let k = xml_last c h in omega arith)); bits = refl })
 
 placed_written : (set : List ℕ) (a : Align) (c : ℕ) (o : Option ℕ) → place_of c set ≡ o → is_xml_char c ≡ true → SpellsChar (Some set) a c (placed_bits set a c o)
 placed_written set a c None e h = inr (record { first = number (width_in set) a (length set); second = bits (shortest c); parts = refl; front = refl; behind = code_written c h })

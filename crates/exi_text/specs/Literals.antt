@@ -1,4 +1,4 @@
--- The characters of strings (W3C EXI, sections 7.1.10 and 7.1.10.1): each is an Unsigned Integer, its code
+-- The characters of strings (EXI 1.0, sections 7.1.10 and 7.1.10.1): each is an Unsigned Integer, its code
 -- point. Where a pattern leaves a set of N characters, each is a number of as many bits as tell N + 1 values
 -- apart: below N it is the place of the character in the sorted set, N says that the code point follows.
 -- A number above N, and a code point that is no character of XML, are faults.
@@ -11,7 +11,7 @@ use Rattle.exi_bits.specs.Repeat.{Reader, times}
 use Rattle.exi_bits.specs.Unsigned.{◌>>=◌, fault_at, field_at, shortest, unsigned_at}
 use Rattle.exi_bits.specs.Widths.{width_for}
 use Rattle.exi_items.specs.Charges.{Charged, text_charge}
-use Rattle.exi_names.specs.Alphabets.{is_alphabet}
+use Rattle.exi_names.specs.Alphabets.{place_of}
 use Rattle.exi_names.specs.Characters.{is_xml_char}
 
 -- how many bits the place in a set takes, or the escape
@@ -44,15 +44,6 @@ chars_at set a count c = do
   Ok (text.0, record { spot = text.1; meter = meter })
 
 -- ---- what is written
-abbrev pub one_more : Option ℕ → Option ℕ
-one_more None = None
-one_more (Some i) = Some (suc i)
-
--- the place of the character in the set, where it stands there
-abbrev pub place_of : ℕ → List ℕ → Option ℕ
-place_of c [] = None
-place_of c (x ∷ xs) = if c == x then Some 0 else one_more (place_of c xs)
-
 -- the place of a character, or the escape and its code point
 abbrev pub placed_bits : List ℕ → Align → ℕ → Option ℕ → List Bool
 placed_bits set a c (Some i) = number (width_in set) a i
@@ -67,11 +58,6 @@ char_bits (Some set) a c = placed_bits set a c (place_of c set)
 unfoldable pub chars_bits : Option (List ℕ) → Align → List ℕ → List Bool
 chars_bits set a [] = []
 chars_bits set a (c ∷ cs) = char_bits set a c ++ chars_bits set a cs
-
--- the set is sorted, where there is one
-abbrev pub IsSorted : Option (List ℕ) → Type 0
-IsSorted None = Unit {0}
-IsSorted (Some set) = is_alphabet set ≡ true
 
 -- each is an XML character
 abbrev pub all_xml : List ℕ → Bool

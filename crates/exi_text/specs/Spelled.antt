@@ -1,4 +1,4 @@
--- Which bits spell characters (W3C EXI, sections 7.1.10 and 7.1.10.1), and the laws between what is spelled
+-- Which bits spell characters (EXI 1.0, sections 7.1.10 and 7.1.10.1), and the laws between what is spelled
 -- and what is read. A character of a set has two kinds of spelling: its place, and the escape with its code
 -- point.
 use Rattle.std.specs.Prelude.{◌≡◌, ℕ, ◌<◌, ◌⊎◌, Bool, true, Option, Some, None, Ok, List, [], ◌++◌, length, get_or}

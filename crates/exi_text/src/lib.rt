@@ -1,4 +1,4 @@
-//! The characters of strings, read and written (W3C EXI, sections 7.1.10 and 7.1.10.1).
+//! The characters of strings, read and written (EXI 1.0, sections 7.1.10 and 7.1.10.1).
 //!
 //! A string is a length and its characters. What the length says is the caller's to read; here are the
 //! characters. Each is its code point, an Unsigned Integer:
@@ -19,8 +19,9 @@
 //!      +-------+-------+---------------+
 //! ```
 //!
-//! The characters of a text are decoded in one pass, straight into it. The set's characters are laid out
-//! once a call: a place is then one step to its character, and a character is found by binary search.
+//! The characters of a text are decoded in one pass, straight into it, with room for as many as the bits
+//! that are left can hold. A set's characters are decoded at most once a call, and not at all where they
+//! are ASCII alone: a place is one step to its character, and a character is found by binary search.
 #![tactic(auto)]
 
 pub mod laws;

@@ -5,8 +5,8 @@ ghost use Rattle.exi_bits.specs.Repeat.{times};
 ghost use Rattle.exi_items.specs.Charges.{Charges, after_text, meter_after};
 ghost use Rattle.exi_text.specs.Literals.{code_at, in_set_at, char_at, chars_at};
 
-use crate::set::letters_of;
-use exi_bits::{Align, BitIn, Fault, Kind, Stop, bits_for};
+use crate::set::Set;
+use exi_bits::{Align, BitIn, Fault, Kind, Stop};
 use exi_items::charge_text;
 use exi_meter::Meter;
 use exi_names::{Alphabet, Txt, xml_char};
@@ -40,19 +40,18 @@ fn code(input: &mut BitIn<'_>) -> Result<char, Fault>
 /// A character by its place in the set, or by its code point behind the escape. After an `Err` the place
 /// is anything.
 #[tactic(auto, unfolding(crate::specs::Literals::in_set_at))]
-fn in_set(input: &mut BitIn<'_>, letters: &[char], align: Align) -> Result<char, Fault>
+fn in_set(input: &mut BitIn<'_>, set: &Set<'_>, align: Align) -> Result<char, Fault>
     requires aligned { IsAligned align input.old }
-    ensures read { ReadsSome (λ x. x) result input.new (in_set_at letters.now align input.old) }
+    ensures read { ReadsSome (λ x. x) result input.new (in_set_at set.now align input.old) }
     ensures bytes { input.new.bytes ≡ input.old.bytes }
     ensures aligned { IsAligned align input.new }
 {
     let bit = input.at();
-    let count = letters.len() as u64;
-    let place = input.number(bits_for(count + 1), align)?;
-    if place < count {
-        return Ok(letters[place as usize]);
+    let place = input.number(set.width(), align)?;
+    if place < set.len() {
+        return Ok(set.at(place));
     }
-    if place == count {
+    if place == set.len() {
         return code(input);
     }
     Err(Fault {
@@ -62,16 +61,25 @@ fn in_set(input: &mut BitIn<'_>, letters: &[char], align: Align) -> Result<char,
 }
 
 /// A character, in a set or not. After an `Err` the place is anything.
-fn character(input: &mut BitIn<'_>, letters: Option<&[char]>, align: Align) -> Result<char, Fault>
+fn character(input: &mut BitIn<'_>, set: Option<&Set<'_>>, align: Align) -> Result<char, Fault>
     requires aligned { IsAligned align input.old }
-    ensures read { ReadsSome (λ x. x) result input.new (char_at (option_copied letters.entry) align input.old) }
+    ensures read { ReadsSome (λ x. x) result input.new (char_at (option_copied set.entry) align input.old) }
     ensures bytes { input.new.bytes ≡ input.old.bytes }
     ensures aligned { IsAligned align input.new }
 {
-    match letters {
+    match set {
         None => code(input),
-        Some(letters) => in_set(input, letters, align),
+        Some(set) => in_set(input, set, align),
     }
+}
+
+/// How many bytes so many characters take at least, as far as the bits that are left can hold them.
+fn room_for(input: &BitIn<'_>, count: u128, set: Option<&Set<'_>>) -> usize {
+    let width = match set {
+        Some(set) if set.width() > 0 => set.width(),
+        _ => 8,
+    };
+    u128::from(input.left() / u64::from(width)).min(count) as usize
 }
 
 /// So many characters. After an `Err` the place is anything.
@@ -79,17 +87,18 @@ fn characters(
     alloc: Global,
     input: &mut BitIn<'_>,
     count: u128,
-    letters: Option<&[char]>,
+    set: Option<&Set<'_>>,
     align: Align,
 ) -> Result<Txt, Stop>
     requires aligned { IsAligned align input.old }
-    ensures read { Stops (λ t. t) result input.new (times (char_at (option_copied letters.entry) align) count input.old) }
+    ensures read { Stops (λ t. t) result input.new (times (char_at (option_copied set.entry) align) count input.old) }
     ensures bytes { input.new.bytes ≡ input.old.bytes }
     ensures aligned { IsAligned align input.new }
 {
     let mut text = Txt::new(alloc);
+    text.reserve(room_for(input, count, set))?;
     for _ in 0..count {
-        let c = character(input, letters, align)?;
+        let c = character(input, set, align)?;
         text.push(c)?;
     }
     Ok(text)
@@ -112,17 +121,18 @@ fn charged_chars(
     ensures aligned { IsAligned align input.new }
 {
     charge_text(meter, count, input.at())?;
-    match set {
-        None => characters(alloc, input, count, None, align),
-        Some(set) => {
-            let letters = letters_of(alloc, set)?;
-            characters(alloc, input, count, Some(letters.as_slice()), align)
-        }
+    let Some(alphabet) = set else {
+        return characters(alloc, input, count, None, align);
+    };
+    if count == 0 {
+        return Ok(Txt::new(alloc));
     }
+    let set = Set::of(alloc, alphabet)?;
+    characters(alloc, input, count, Some(&set), align)
 }
 
 /// Reads the characters of a string whose length is `count`, with a set of characters or without
-/// (W3C EXI, sections 7.1.10 and 7.1.10.1). Their number is charged to the meter before the first.
+/// (EXI 1.0, sections 7.1.10 and 7.1.10.1). Their number is charged to the meter before the first.
 /// Under [`Align::Bytes`] the place has to be a whole byte.
 ///
 /// # Errors

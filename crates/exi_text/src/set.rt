@@ -1,25 +1,74 @@
-ghost use Rattle.std.specs.Prelude.{◌≡◌, true, IfOk};
+ghost use Rattle.std.specs.Prelude.{◌≡◌, ◌+◌, ◌<◌, ◌≤◌, length, get_or, IfOk};
 ghost use Rattle.std.specs.Str.{chars};
-ghost use Rattle.exi_names.specs.Alphabets.{is_alphabet};
-ghost use Rattle.exi_text.specs.Literals.{all_xml, place_of};
+ghost use Rattle.exi_names.specs.Alphabets.{place_of};
+ghost use Rattle.exi_text.specs.Literals.{all_xml, width_in};
 
-use exi_names::{Alphabet, Txt, is_xml};
+use exi_bits::bits_for;
+use exi_names::{Alphabet, Letters, Txt, is_xml};
 use std::alloc::{AllocError, Global};
+use std::marker::Model;
 
-/// The characters of the set, each at its place.
-pub fn letters_of(alloc: Global, set: &Alphabet) -> Result<Vec<char>, AllocError>
-    ensures letters { IfOk result (λ v. v.items ≡ set.now) }
-    ensures sorted { is_alphabet set.now ≡ true }
-{
-    set.text().as_str().chars().collect(alloc)
+/// The characters that a pattern leaves, by their places, and how many bits a place or the escape takes.
+/// Seen as the list of the characters.
+#[derive(Drop)]
+pub struct Set<'a> {
+    letters: Letters<'a>,
+    width: u32,
 }
 
-/// The place of a character, where it is one of these.
-pub fn place_in(letters: &[char], c: char) -> Option<usize>
-    requires sorted { is_alphabet letters.now ≡ true }
-    ensures place { result ≡ place_of c letters.now }
-{
-    letters.binary_search(&c).ok()
+impl<'a> Model for Set<'a> {
+    ghost use Rattle.std.specs.Prelude.{◌≡◌, ◌≤◌, List, ℕ};
+    ghost use Rattle.exi_text.specs.Literals.{width_in};
+
+    ghost Value = { List ℕ };
+
+    ghost view = { λ s. s.letters };
+
+    ghost invariant = { λ s. (s.width ≡ width_in s.letters) × (s.width ≤ 64) };
+}
+
+impl<'a> Set<'a> {
+    /// The characters of an alphabet, which is decoded where it is not of ASCII alone.
+    pub fn of(alloc: Global, alphabet: &'a Alphabet) -> Result<Set<'a>, AllocError>
+        ensures { IfOk result (λ s. s ≡ alphabet.now) }
+    {
+        let letters = alphabet.letters(alloc)?;
+        let width = bits_for(letters.len() as u64 + 1);
+        Ok(Set { letters, width })
+    }
+
+    /// How many bits a place or the escape takes.
+    pub fn width(&self) -> u32
+        ensures width { result ≡ width_in self.now }
+        ensures narrow { result ≤ 64 }
+    {
+        self.width
+    }
+
+    /// How many characters there are.
+    pub fn len(&self) -> u64
+        ensures { result ≡ length self.now }
+    {
+        self.letters.len() as u64
+    }
+
+    /// The character at a place.
+    pub fn at(&self, place: u64) -> char
+        requires { place < length self.now }
+        ensures { result ≡ get_or self.now place 0 }
+    {
+        self.letters.at(place as usize)
+    }
+
+    /// The place of a character, where it is one of these.
+    pub fn place_of(&self, c: char) -> Option<u64>
+        ensures { result ≡ place_of c self.now }
+    {
+        match self.letters.place_of(c) {
+            Some(place) => Some(place as u64),
+            None => None,
+        }
+    }
 }
 
 /// Whether each character of the text is an XML character, so that it has a spelling.

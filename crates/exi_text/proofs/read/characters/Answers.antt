@@ -7,22 +7,22 @@ use Rattle.exi_text.proofs.read.characters.Goals as goal
 
 pub loop-init : goal.loop-init
 loop-init c = record {
-  so_far = rw c.new-text.ensures (times_starts (char_at (option_copied c.args.letters) c.args.align) c.args.count c.args.input.now);
+  so_far = rw (c.reserve.ensures, c.new-text.ensures) (times_starts (char_at (option_copied c.args.set) c.args.align) c.args.count c.args.input.now);
   aligned = c.requires.aligned;
   bytes = refl;
 }
 
 pub returns-in_err-c-clause-read : goal.returns-in_err-c-clause-read
 returns-in_err-c-clause-read c =
-    let p = err_from_is_err_and c.from_residual.result c.from_residual.ensures.1 in
-    rw (p.1, p.2) (times_fails (char_at (option_copied c.args.letters) c.args.align) c.loop.text c.args.count c.loop.counter c.loop.input c.in_err-c.field-0.0 (times (char_at (option_copied c.args.letters) c.args.align) c.args.count c.args.input.now) c.loop-test.true c.in_err-c.ensures.read c.loop.invariant.so_far)
+    let p = err_from_is_err_and c.from_residual-in_err-c.result c.from_residual-in_err-c.ensures.1 in
+    rw (p.1, p.2) (times_fails (char_at (option_copied c.args.set) c.args.align) c.loop.text c.args.count c.loop.counter c.loop.input c.in_err-c.field-0.0 (times (char_at (option_copied c.args.set) c.args.align) c.args.count c.args.input.now) c.loop-test.true c.in_err-c.ensures.read c.loop.invariant.so_far)
 
 pub loop-preserved : goal.loop-preserved
 loop-preserved c = record {
-  so_far = rw c.in_ok-push.ensures.ok (times_goes_on (char_at (option_copied c.args.letters) c.args.align) c.loop.text c.args.count c.loop.counter c.loop.input c.character.new.input c.in_ok-c.c (times (char_at (option_copied c.args.letters) c.args.align) c.args.count c.args.input.now) c.loop-test.true c.in_ok-c.ensures.read c.loop.invariant.so_far);
+  so_far = rw c.in_ok-push.ensures.ok (times_goes_on (char_at (option_copied c.args.set) c.args.align) c.loop.text c.args.count c.loop.counter c.loop.input c.character.new.input c.in_ok-c.c (times (char_at (option_copied c.args.set) c.args.align) c.args.count c.args.input.now) c.loop-test.true c.in_ok-c.ensures.read c.loop.invariant.so_far);
   aligned = c.in_ok-c.ensures.aligned;
   bytes = c.in_ok-c.ensures.bytes ∙ c.loop.invariant.bytes;
 }
 
 pub returns-clause-read : goal.returns-clause-read
-returns-clause-read c = times_done (char_at (option_copied c.args.letters) c.args.align) c.loop.text c.args.count c.loop.counter c.loop.input (times (char_at (option_copied c.args.letters) c.args.align) c.args.count c.args.input.now) c.loop-test.false c.loop.invariant.so_far
+returns-clause-read c = times_done (char_at (option_copied c.args.set) c.args.align) c.loop.text c.args.count c.loop.counter c.loop.input (times (char_at (option_copied c.args.set) c.args.align) c.args.count c.args.input.now) c.loop-test.false c.loop.invariant.so_far

@@ -6,7 +6,7 @@ use Rattle.exi_text.proofs.read.characters.Given as goal
 
 abbrev pub invariant-loop : goal.invariant-loop
 invariant-loop l = record {
-  so_far : with_front l.text (times (char_at (option_copied l.letters) l.align) (l.count - l.counter) l.input) ≡ times (char_at (option_copied l.letters) l.align) l.count l.fn.input;
+  so_far : with_front l.text (times (char_at (option_copied l.set) l.align) (l.count - l.counter) l.input) ≡ times (char_at (option_copied l.set) l.align) l.count l.fn.input;
   aligned : IsAligned l.align l.input;
   bytes : l.input.bytes ≡ l.fn.input.bytes;
 }

@@ -9,7 +9,7 @@ use Rattle.exi_text.proofs.write.put_chars.Goals as goal
 pub loop-c-preserved : goal.loop-c-preserved
 loop-c-preserved c =
     let parts = c.in-Some.ensures.steps.0 in
-    let next = next_chars (option_copied c.args.letters) c.args.align _ _ c.in-Some.c (chars_past_char _ _ c.in-Some.c c.loop-c.invariant.utf8 parts) in
+    let next = next_chars (option_copied c.args.set) c.args.align _ _ c.in-Some.c (chars_past_char _ _ c.in-Some.c c.loop-c.invariant.utf8 parts) in
     record {
       utf8 = IsUtf8-past_char _ _ c.in-Some.c c.loop-c.invariant.utf8 parts;
       aligned = c.in_ok-put_char.ensures.aligned;
@@ -19,8 +19,8 @@ loop-c-preserved c =
 pub returns-in_err-put_char-clause-err : goal.returns-in_err-put_char-clause-err
 returns-in_err-put_char-clause-err c =
     let p = err_from_is_err_and c.from_residual.result c.from_residual.ensures.1 in
-    let next = next_chars (option_copied c.args.letters) c.args.align _ _ c.in-Some.c (chars_past_char _ _ c.in-Some.c c.loop-c.invariant.utf8 c.in-Some.ensures.steps.0) in
+    let next = next_chars (option_copied c.args.set) c.args.align _ _ c.in-Some.c (chars_past_char _ _ c.in-Some.c c.loop-c.invariant.utf8 c.in-Some.ensures.steps.0) in
     rw p.1 (goes_stops _ _ _ _ _ _ _ c.loop-c.invariant.so_far next c.in_err-put_char.ensures.err)
 
 pub returns-clause-ok : goal.returns-clause-ok
-returns-clause-ok c = goes_ends _ _ _ _ c.loop-c.invariant.so_far (no_chars (option_copied c.args.letters) c.args.align _ (chars_of_empty _ c.in-None.ensures.steps.0.0))
+returns-clause-ok c = goes_ends _ _ _ _ c.loop-c.invariant.so_far (no_chars (option_copied c.args.set) c.args.align _ (chars_of_empty _ c.in-None.ensures.steps.0.0))

@@ -9,5 +9,5 @@ abbrev pub invariant-loop-c : goal.invariant-loop-c
 invariant-loop-c l = record {
   utf8 : IsUtf8 (chars_rest l.c-iterator);
   aligned : IsWholeBytes l.align l.out;
-  so_far : Goes l.fn.out (chars_bits (option_copied l.letters) l.align (chars l.fn.text)) (chars_bits (option_copied l.letters) l.align (chars (chars_rest l.c-iterator))) l.out;
+  so_far : Goes l.fn.out (chars_bits (option_copied l.set) l.align (chars l.fn.text)) (chars_bits (option_copied l.set) l.align (chars (chars_rest l.c-iterator))) l.out;
 }

@@ -1,5 +1,0 @@
-use Rattle.exi_moment.proofs.Whole.{moment_no_prefix}
-use Rattle.exi_moment.proofs.laws.moment_is_no_prefix.Goals as goal
-
-pub returns : goal.returns
-returns c = moment_no_prefix

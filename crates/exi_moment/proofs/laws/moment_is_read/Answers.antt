@@ -1,5 +1,0 @@
-use Rattle.exi_moment.proofs.Whole.{moment_again}
-use Rattle.exi_moment.proofs.laws.moment_is_read.Goals as goal
-
-pub returns : goal.returns
-returns c = moment_again

@@ -1,5 +1,0 @@
-use Rattle.exi_moment.proofs.Whole.{moment_told}
-use Rattle.exi_moment.proofs.laws.moment_is_spelled.Goals as goal
-
-pub returns : goal.returns
-returns c = moment_told
