@@ -2,6 +2,7 @@ pub mod Books
 pub mod Codes
 pub mod Naming
 pub mod Laws
+pub mod Lends
 pub mod Outlines
 pub mod Schemas
 pub mod Switches

@@ -18,6 +18,9 @@ impl<T> Model for Items<T> {
 }
 
 impl<T> Items<T> {
+    ghost use Rattle.std.specs.Borrow.{sem};
+    ghost use Rattle.exi_gram.specs.Lends.{lends_slice};
+
     /// No items.
     pub fn new(alloc: Global) -> Items<T>
         ensures { result ≡ [] }
@@ -51,7 +54,8 @@ impl<T> Items<T> {
 
     /// The items, to change them.
     pub fn as_mut_slice(&mut self) -> &mut [T]
-        ensures now { result.now ≡ self.old }
+        ensures* writes_back { sem 𝓛 (lends_slice T.row self.entry result) }
+        ensures value { result.now ≡ self.old }
     {
         self.items.as_mut_slice()
     }

@@ -3,7 +3,7 @@ ghost use Rattle.exi_gram.specs.Tables.{size};
 
 use super::*;
 use bitflags::Flags;
-use exi_bits::{Align, BitIn, BitOut};
+use exi_bits::{Align, BitOut};
 use exi_names::{Datatype, QName, Txt};
 use std::alloc::{AllocError, Global};
 use std::test::*;
@@ -32,7 +32,8 @@ fn sample(alloc: Global) -> Result<CodedState, AllocError>
 
 #[test]
 fn codes_are_numbered(rt: HostRuntime) -> Result<(), Fail> {
-    let state = sample(rt.alloc())?;
+    let alloc = rt.alloc();
+    let state = sample(alloc)?;
     let want = [
         Code::One(0),
         Code::One(1),
@@ -45,6 +46,26 @@ fn codes_are_numbered(rt: HostRuntime) -> Result<(), Fail> {
     for (found, code) in coded.iter().zip(want) {
         assert_eq!(rt; found.code, code);
     }
+    let mut out = BitOut::new(alloc);
+    state.write(&mut out, 4, Align::Bits)?;
+    assert_eq!(rt; out.bytes(), &[0xB0]);
+    assert_eq!(rt; state.productions(alloc)?.as_slice().len(), 5);
+    let _table = state.table(alloc)?;
+    Ok(())
+}
+
+#[test]
+fn items_change(rt: HostRuntime) -> Result<(), Fail> {
+    let mut items = Items::new(rt.alloc());
+    items.push(3)?;
+    items.push(5)?;
+    for item in items.as_mut_slice() {
+        *item = 7;
+    }
+    let mut left = Items::new(rt.alloc());
+    left.push(4)?;
+    assert_eq!(rt; left.remove(0), 4);
+    assert_eq!(rt; left.as_slice().len(), 0);
     Ok(())
 }
 
