@@ -4,6 +4,7 @@ pub mod CodeLaws
 pub mod CodeLists
 pub mod CodeSets
 pub mod CodeTells
+pub mod Indexed
 pub mod Leaving
 pub mod PartLaws
 pub mod Puts

@@ -9,5 +9,6 @@ pub mod Switches
 pub mod Tables
 pub mod Terminals
 pub mod Wholes
+pub mod Candidates
 pub mod Cells
 pub mod CodeTrees

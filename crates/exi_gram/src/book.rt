@@ -4,18 +4,22 @@ ghost use Rattle.exi_bits.specs.Unsigned.{Reads};
 ghost use Rattle.exi_bits.specs.Written.{IsWholeBytes};
 ghost use Rattle.exi_items.specs.Fronts.{HoldsFront};
 ghost use Rattle.exi_gram.specs.Books.{IsBook, IsStateOf, state_at, tables_of};
-ghost use Rattle.exi_gram.specs.Codes.{code_at, code_bits};
+ghost use Rattle.exi_gram.specs.Candidates.{FindInAll, candidates};
+ghost use Rattle.exi_gram.specs.Codes.{code_at, code_bits, coded};
 ghost use Rattle.exi_gram.specs.CodeTrees.{place_read};
 ghost use Rattle.exi_gram.specs.Laws.{codes, placed};
 ghost use Rattle.exi_gram.specs.Switches.{align_of};
 ghost use Rattle.exi_gram.specs.Tables.{parts_at, size};
 
+use crate::class::Class;
 use crate::code_table::CodeTable;
+use crate::index::Index;
 use crate::items::Items;
 use crate::options::Options;
 use crate::schema::Schema;
 use crate::state::CodedState;
 use exi_bits::{BitIn, BitOut, Fault};
+use exi_names::NameId;
 use exi_steps::Steps;
 use std::alloc::AllocError;
 use std::marker::{Brand, Model};
@@ -29,6 +33,7 @@ pub struct Book {
     schema: Schema,
     states: Items<Items<CodedState>>,
     tables: Items<Items<CodeTable>>,
+    indexes: Items<Items<Index>>,
 }
 
 impl Model for Book {
@@ -44,23 +49,28 @@ impl Model for Book {
     ghost view = { λ b. record { options = b.options; schema = b.schema; states = b.states } };
 
     ghost use Rattle.exi_gram.specs.Books.{tables_of};
+    ghost use Rattle.exi_gram.specs.Candidates.{FindInAll};
     ghost use Rattle.std.specs.Prelude.{◌≡◌};
 
     ghost invariant = { λ b.
-        IsBook (record { options = b.options; schema = b.schema; states = b.states }) × (b.tables ≡ tables_of b.states) };
+        IsBook (record { options = b.options; schema = b.schema; states = b.states })
+        × (b.tables ≡ tables_of b.states)
+        × FindInAll b.indexes b.states };
 }
 
 impl Book {
     /// The book of these options and this schema. The states have to be those of the schema's grammars
-    /// under the options, with a table for each of them, and the options may not conflict.
+    /// under the options, with a table and an index for each of them, and the options may not conflict.
     pub fn of(
         options: Options,
         schema: Schema,
         states: Items<Items<CodedState>>,
         tables: Items<Items<CodeTable>>,
+        indexes: Items<Items<Index>>,
     ) -> Book
         requires book { IsBook (record { options = options; schema = schema; states = states }) }
         requires tables { tables ≡ tables_of states }
+        requires indexes { FindInAll indexes states }
         ensures { result ≡ record { options = options; schema = schema; states = states } }
     {
         Book {
@@ -68,6 +78,7 @@ impl Book {
             schema,
             states,
             tables,
+            indexes,
         }
     }
 
@@ -112,6 +123,18 @@ impl Book {
     {
         let tables = self.tables.as_slice()[grammar as usize].as_slice();
         &tables[state as usize]
+    }
+
+    /// The places of the productions of a class in a state of a grammar, which has to exist: those with
+    /// fewer parts in their codes first, and among these by their codes. So they are tried for an event.
+    /// A name is sought by its least places in the first string tables, a URI with the local place 0, and
+    /// what has no name with two zeros. It takes no memory and no walk over the codes.
+    pub fn candidates(&self, grammar: u32, state: u32, class: Class, name: NameId) -> &[u32]
+        requires exists { IsStateOf self.now grammar state }
+        ensures { result.now ≡ candidates class name (coded (state_at self.now grammar state)) }
+    {
+        let indexes = self.indexes.as_slice()[grammar as usize].as_slice();
+        indexes[state as usize].find(class, name)
     }
 }
 

@@ -1,3 +1,6 @@
+ghost use Rattle.std.specs.Prelude.{◌≡◌, length};
+ghost use Rattle.exi_gram.specs.Tables.{parts_of};
+
 use crate::grammar::Production;
 use crate::named::Named;
 
@@ -11,6 +14,19 @@ pub enum Code {
     Two(u32, u32),
     /// Three parts: the second tells a group.
     Three(u32, u32, u32),
+}
+
+impl Code {
+    /// How many parts it has.
+    pub fn parts(self) -> u32
+        ensures { result ≡ length (parts_of self) }
+    {
+        match self {
+            Code::One(_) => 1,
+            Code::Two(_, _) => 2,
+            Code::Three(_, _, _) => 3,
+        }
+    }
 }
 
 /// A production with its code, and with the places of what it names.

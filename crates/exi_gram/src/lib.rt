@@ -23,11 +23,13 @@
 
 mod book;
 mod cell;
+mod class;
 mod code;
 mod code_table;
 mod entry;
 mod front;
 mod grammar;
+mod index;
 mod items;
 pub mod laws;
 mod named;
@@ -46,10 +48,12 @@ mod wholes;
 mod write;
 
 pub use book::{Book, read_code, write_code};
+pub use class::Class;
 pub use code::{Code, Coded};
 pub use code_table::CodeTable;
 pub use entry::{ElementEntry, TypeEntry};
 pub use grammar::{Grammar, Production, Proto, Step};
+pub use index::Index;
 pub use items::Items;
 pub use named::Named;
 pub use options::{OptionFlags, Options, SchemaWord};

@@ -2,6 +2,7 @@ ghost use Rattle.std.specs.Prelude.{◌≡◌, ◌+◌, ◌<◌, ◌≤◌, ◌�
 ghost use Rattle.exi_bits.specs.Written.{IsWholeBytes};
 ghost use Rattle.exi_items.specs.Fronts.{HoldsFront};
 ghost use Rattle.exi_gram.specs.Books.{is_kept, left_of};
+ghost use Rattle.exi_gram.specs.Candidates.{Finds};
 ghost use Rattle.exi_gram.specs.Codes.{code_bits, coded, group, kept_second, single};
 ghost use Rattle.exi_gram.specs.Laws.{codes};
 ghost use Rattle.exi_gram.specs.Naming.{entry};
@@ -12,6 +13,7 @@ ghost use Rattle.exi_gram.specs.Wholes.{listed};
 use crate::code::{Code, Coded};
 use crate::code_table::CodeTable;
 use crate::grammar::Production;
+use crate::index::Index;
 use crate::items::Items;
 use crate::named::Named;
 use crate::options::Options;
@@ -297,6 +299,17 @@ impl CodedState {
         ensures { IfOk result (λ t. t ≡ codes self.now) }
     {
         CodeTable::of(alloc, &self.coded)
+    }
+
+    /// The index of its productions by what they read.
+    ///
+    /// # Errors
+    ///
+    /// `AllocError` where memory is refused.
+    pub fn index(&self, alloc: Global) -> Result<Index, AllocError>
+        ensures { IfOk result (λ i. Finds i self.now) }
+    {
+        Index::of(alloc, &self.coded)
     }
 
     /// Writes the code of the production at a place, which has to exist, as [`read_code`](crate::read_code) reads it.

@@ -1,0 +1,106 @@
+ghost use Rattle.std.specs.Prelude.{◌≡◌, ◌++◌, ◌∷◌, ◌&&◌, ◌≤◌, [], OnOk, IfOk, if◌then◌else◌, length, map};
+ghost use Rattle.exi_names.specs.NameMaps.{same_name};
+ghost use Rattle.exi_names.specs.declared.names.NameId.{NameId};
+ghost use Rattle.exi_gram.specs.Candidates.{candidates, found, same_class, sought_from};
+ghost use Rattle.exi_gram.specs.Tables.{coded_of, most_productions};
+ghost use Rattle.exi_gram.specs.declared.class.Class.{Class};
+
+use crate::class::{CLASSES, Class};
+use crate::code::Coded;
+use crate::items::Items;
+use exi_names::{NameId, NameMap};
+use std::alloc::{AllocError, Global};
+use std::marker::Model;
+
+/// The productions of a state by what they read: for each class and name their places in the order of the
+/// codes, those with fewer parts first. A look-up takes no memory and no walk over the codes.
+#[derive(Debug, Drop)]
+pub struct Index {
+    maps: Vec<NameMap<Items<u32>>>,
+}
+
+impl Model for Index {
+    ghost use Rattle.std.specs.Prelude.{◌≡◌, ℕ, List, Option, length};
+
+    ghost Value = { List (List (List (Option (List ℕ)))) };
+
+    ghost view = { λ i. i.maps.items };
+
+    ghost invariant = { λ i. length i.maps.items ≡ 21 };
+}
+
+impl Index {
+    /// No productions.
+    fn new(alloc: Global) -> Result<Index, AllocError>
+        ensures { IfOk result (λ i. (class : Class) (name : NameId) → found i class name ≡ []) }
+    {
+        let mut maps = Vec::with_capacity(alloc, CLASSES)?;
+        for _ in 0..CLASSES {
+            maps.push(NameMap::new(alloc))?;
+        }
+        Ok(Index { maps })
+    }
+
+    /// The places of the productions of a class and a name, by its least places. A URI is sought with the
+    /// local place 0, and what has no name with two zeros.
+    pub fn find(&self, class: Class, name: NameId) -> &[u32]
+        ensures { result.now ≡ found self.now class name }
+    {
+        match self.maps[class.number()].get(name) {
+            None => &[],
+            Some(places) => places.as_slice(),
+        }
+    }
+
+    /// Adds the place of a production behind those of its class and name.
+    fn add(
+        &mut self,
+        alloc: Global,
+        class: Class,
+        name: NameId,
+        place: u32,
+    ) -> Result<(), AllocError>
+        ensures { OnOk result ((c : Class) (n : NameId) →
+            found self.new c n
+            ≡ (if same_class c class && same_name n name then found self.old c n ++ place ∷ [] else found self.old c n)) }
+    {
+        let mut places = Items::new(alloc);
+        for place in self.find(class, name) {
+            places.push(*place)?;
+        }
+        places.push(place)?;
+        self.maps[class.number()].insert(alloc, name, places)
+    }
+
+    /// Adds the productions whose codes have so many parts.
+    fn add_all(&mut self, alloc: Global, coded: &[Coded], parts: u32) -> Result<(), AllocError>
+        requires few { length coded.now ≤ most_productions }
+        ensures { OnOk result ((c : Class) (n : NameId) →
+            found self.new c n ≡ found self.old c n ++ sought_from parts c n 0 (map coded_of coded.now)) }
+    {
+        for (place, coded) in coded.iter().enumerate() {
+            if coded.code.parts() == parts {
+                let class = coded.production.on.class();
+                self.add(alloc, class, coded.named.sought(), place as u32)?;
+            }
+        }
+        Ok(())
+    }
+
+    /// The index of these productions.
+    ///
+    /// # Errors
+    ///
+    /// `AllocError` where memory is refused.
+    pub fn of(alloc: Global, coded: &[Coded]) -> Result<Index, AllocError>
+        requires few { length coded.now ≤ most_productions }
+        ensures { IfOk result (λ i. (class : Class) (name : NameId) →
+            found i class name ≡ candidates class name (map coded_of coded.now)) }
+    {
+        let mut index = Index::new(alloc)?;
+        index.add_all(alloc, coded, 1)?;
+        index.add_all(alloc, coded, 2)?;
+        index.add_all(alloc, coded, 3)?;
+        Ok(index)
+    }
+}
