@@ -190,12 +190,12 @@ write_next a cells codes parts row next count part before now new w less e put f
 
     whole : code_bits a codes parts ≡ (w.written ++ number (width_for row.count) a part) ++ code_bits a (parts_in (behind (part ∷ []) w.left)) (drop (count + 1) parts)
     whole =
-      w.whole
-      ∙ ap (λ (ps : List ℕ). w.written ++ code_bits a (parts_in w.left) ps) (drop_some count part parts e)
-      ∙ ap (λ (bits : List Bool). w.written ++ bits) (bits_more a (parts_in w.left) part (drop (count + 1) parts))
-      ∙ ap (λ (k : ℕ). w.written ++ (number (width_for k) a part ++ code_bits a (going_on part (parts_in w.left)) (drop (count + 1) parts))) s.1
-      ∙ ap (λ (cs : List (List ℕ)). w.written ++ (number (width_for row.count) a part ++ code_bits a cs (drop (count + 1) parts))) (sym (parts_behind part w.left))
-      ∙ sym (append_assoc w.written (number (width_for row.count) a part) (code_bits a (parts_in (behind (part ∷ []) w.left)) (drop (count + 1) parts)))
+        w.whole
+        ∙ ap (λ (ps : List ℕ). w.written ++ code_bits a (parts_in w.left) ps) (drop_some count part parts e)
+        ∙ ap (λ (bits : List Bool). w.written ++ bits) (bits_more a (parts_in w.left) part (drop (count + 1) parts))
+        ∙ ap (λ (k : ℕ). w.written ++ (number (width_for k) a part ++ code_bits a (going_on part (parts_in w.left)) (drop (count + 1) parts))) s.1
+        ∙ ap (λ (cs : List (List ℕ)). w.written ++ (number (width_for row.count) a part ++ code_bits a cs (drop (count + 1) parts))) (sym (parts_behind part w.left))
+        ∙ sym (append_assoc w.written (number (width_for row.count) a part) (code_bits a (parts_in (behind (part ∷ []) w.left)) (drop (count + 1) parts)))
 
 -- the code has ended already
 pub write_over : (a : Align) (cells : List Cell) (codes : List (List ℕ)) (parts : List ℕ) (row : Branch) (count : ℕ) (before now : List Bool) → Writing a cells codes parts row count before now → slice_get parts count ≡ None → Writing a cells codes parts row (count + 1) before now
