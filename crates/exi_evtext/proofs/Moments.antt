@@ -13,7 +13,7 @@ use Rattle.exi_calendar.specs.Parts.{IsFraction, IsIn, IsInRanges, IsYear, layou
 use Rattle.exi_calendar.specs.Forms.{date_text, field_text, fraction_text, moment_text, offset_text, time_text, year_text, zone_text}
 use Rattle.exi_calendar.specs.Reading.{moment_value}
 use Rattle.exi_calendar.proofs.Fields.{map_some, some}
-use Rattle.exi_calendar.proofs.Whole.{canonical_value, value_by_form}
+use Rattle.exi_calendar.proofs.Whole.{canonical_value, value_back}
 use Rattle.exi_lexical.specs.Values.{canonical}
 use Rattle.exi_evtext.specs.Reading.{any_moment, moment_of, scalar_of}
 use Rattle.exi_evtext.proofs.Scalars.{same_bytes}
@@ -285,7 +285,7 @@ other_none k m r other =
     let p = if_back (moment_text m) (option_map shape.moment (moment_value k (moment_text m))) v e in
     let q = map_some (moment_value k (moment_text m)) shape.moment v p.0 in
     let n = q.0 in
-    let is = (value_by_form k (moment_text m) n).0 q.1 in
+    let is = value_back k (moment_text m) n q.1 in
     let text : moment_text n ≡ moment_text m = ap canonical q.2 ∙ p.1 in
     other (sym is.kind_is ∙ kind_same n m is.ranges r text))
 

@@ -18,7 +18,7 @@ use Rattle.exi_numerals.proofs.Kept.{number_ranges}
 use Rattle.exi_digits.specs.Digits.{number_of as number_of_digits}
 use Rattle.exi_calendar.specs.Reading.{moment_value}
 use Rattle.exi_calendar.proofs.Fields.{cond_some_of, map_some, some, some_is}
-use Rattle.exi_calendar.proofs.Whole.{value_by_form}
+use Rattle.exi_calendar.proofs.Whole.{value_back as moment_value_back}
 use Rattle.exi_lexical.specs.Binaries.{base64_octets, hex_octets}
 use Rattle.exi_lexical.specs.Values.{boolean_value, canonical, of_decimal, of_float}
 use Rattle.exi_lexical.proofs.Hexes.{hex_fits}
@@ -146,7 +146,7 @@ moment_back kind digits v e =
     let p = if_back digits (option_map shape.moment (moment_value kind digits)) v e in
     let q = map_some (moment_value kind digits) shape.moment v p.0 in
     let m = q.0 in
-    let is = (value_by_form kind digits m).0 q.1 in
+    let is = moment_value_back kind digits m q.1 in
     let text : canonical (shape.moment m) ≡ digits = ap canonical q.2 ∙ p.1 in
     rw (← q.2) (is.ranges, ap (λ (x : List ℕ). codes "mom " ++ between_quotes x) text)
 
