@@ -226,6 +226,6 @@ pub fn write_code(
         out.new) }
     ensures aligned { IsWholeBytes (align_of book.now.options) out.new }
 {
-    book.state(grammar, state)
-        .write(out, place, book.options().align())
+    let align = book.options().align();
+    book.table(grammar, state).write(out, place, align)
 }
