@@ -1,16 +1,16 @@
 -- What the changes of a configuration keep sound: going on, learning, the next state, an element opened and closed.
-use Rattle.std.proofs.Common.{◌≡◌, ◌≢◌, ◌⊎◌, ℕ, zero, suc, ◌+◌, ◌-◌, Bool, true, false, cond, List, [], ◌∷◌, length, Option, Some, None, inl, inr, refl, sym, ap, ◌∙◌, arith}
+use Rattle.std.proofs.Common.{◌≡◌, ◌≢◌, ℕ, zero, suc, ◌+◌, ◌-◌, Bool, true, false, cond, List, [], ◌∷◌, length, Option, Some, None, refl, ap, ◌∙◌, arith}
 use Rattle.std.specs.Prelude.{All}
-use Rattle.std.proofs.lemmas.List.Elements.{All-cons, All-head, All-nil, All-tail, All-weaker}
+use Rattle.std.proofs.lemmas.List.Elements.{All-cons, All-head, All-tail, All-weaker}
 use Rattle.exi_builtin.specs.declared.learnable.Learned.{Learned}
 use Rattle.exi_builtin.specs.declared.learnable.Room.{Room}
 use Rattle.exi_builtin.specs.declared.learnable.Room.TheVariants as room
-use Rattle.exi_builtin.specs.Learning.{Learning, added_by, after_use, grammar_number, with_grammar}
+use Rattle.exi_builtin.specs.Learning.{Learning, added_by, grammar_number, with_grammar}
 use Rattle.exi_names.specs.declared.names.NameId.{NameId}
 use Rattle.exi_tables.specs.Growth.{KeepsAll}
 use Rattle.exi_tables.specs.Partitions.{Partitions}
 use Rattle.exi_typed.proofs.Goings.{same_keeps}
-use Rattle.exi_reader.specs.Changes.{enclosing, has_level, is_alone, learned_in, moved_elements, moved_outer, moved_state, outer_behind, outer_room, room_at, room_in, state_room}
+use Rattle.exi_reader.specs.Changes.{enclosing, has_level, is_alone, learned_in, moved_elements, moved_state, outer_behind, room_in}
 use Rattle.exi_reader.specs.Sound.{IsLeastName, IsOuter, IsSoundBody, IsSoundElement, IsSoundLearning, IsStateOfName, IsWhereOpen, levels_in}
 use Rattle.exi_reader.specs.declared.frames.Element.{Element}
 use Rattle.exi_reader.specs.declared.frames.Outer.{Outer}

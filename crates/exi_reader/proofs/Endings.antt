@@ -1,7 +1,6 @@
 -- The last event of a body is ED.
 use Rattle.std.proofs.Common.{◌≡◌, ◌⊎◌, inl, inr, ℕ, zero, suc, Bool, true, false, cond, List, [], ◌∷◌, ◌++◌, Option, Some, None, Result, Ok, Err, refl, sym, ap, ◌∙◌, subst}
 use Rattle.exi_bits.specs.declared.fault.Fault.{Fault}
-use Rattle.exi_bits.specs.declared.fault.Kind.{Kind}
 use Rattle.exi_bits.specs.declared.fault.Kind.TheVariants as kind
 use Rattle.exi_gram.specs.Switches.{fragment}
 use Rattle.exi_meter.specs.Metering.{Bounds}
@@ -9,15 +8,15 @@ use Rattle.exi_meter.specs.declared.tally.Tally.{Tally}
 use Rattle.exi_names.specs.Events.{Happening}
 use Rattle.exi_names.specs.Events as happening
 use Rattle.exi_names.specs.declared.names.QName.{QName}
-use Rattle.exi_typed.specs.Courses.{Course, Failure}
+use Rattle.exi_typed.specs.Courses.{Failure}
 use Rattle.exi_typed.proofs.CourseItems.{told}
 use Rattle.exi_reader.specs.Changes.{is_alone, outer_behind, resumed}
 use Rattle.exi_reader.specs.Configurations.{Body, Config, Setting, body_outer, reached}
 use Rattle.exi_reader.specs.Laws.{EndIs, EndsAtEd, EndsBehind, EndsIn}
-use Rattle.exi_reader.specs.OneEvent.{behind, one, remembered}
+use Rattle.exi_reader.specs.OneEvent.{behind, one}
 use Rattle.exi_reader.specs.Plans.{Alone, Given, Plan, alone_in, at_end, at_first, at_start, nowhere, plan_of, plan_on}
-use Rattle.exi_reader.specs.Rules.{Rule, Telling, Terminal, attribute, characters, comment, declaration, document_type, element, end_document, end_element, entity, informed, instruction, known, self_contained, spelled, start_document}
-use Rattle.exi_reader.specs.Runs.{IsRun, Job, Leads, Turn, closing, done, ends, failed_end, first, goes, has_ended, is_end, turn, turned_by}
+use Rattle.exi_reader.specs.Rules.{Rule, Terminal, attribute, characters, comment, declaration, document_type, element, end_document, end_element, entity, informed, instruction, known, self_contained, spelled, start_document}
+use Rattle.exi_reader.specs.Runs.{Job, Leads, closing, ends, failed_end, first, goes, has_ended, is_end, turned_by}
 use Rattle.exi_reader.specs.declared.end.End.{End}
 use Rattle.exi_reader.specs.declared.end.End.TheVariants as end
 use Rattle.exi_reader.specs.declared.frames.Element.{Element}

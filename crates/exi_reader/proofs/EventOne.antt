@@ -1,7 +1,6 @@
 -- One event: what is read is what is spelled, for every plan.
-use Rattle.std.proofs.Common.{◌≡◌, ℕ, ◌+◌, ◌-◌, ◌*◌, ◌/◌, ◌%◌, ◌≤◌, Bool, true, false, cond, List, [], ◌∷◌, ◌++◌, length, map, take, drop, Option, Some, None, Result, Ok, Err, refl, sym, ap, ◌∙◌, subst, append_assoc, arith, All}
+use Rattle.std.proofs.Common.{◌≡◌, ℕ, ◌+◌, ◌-◌, ◌*◌, ◌/◌, ◌%◌, ◌≤◌, Bool, true, false, cond, List, [], ◌++◌, length, take, drop, Option, Some, None, Result, Ok, Err, refl, sym, ap, ◌∙◌, subst, append_assoc, arith}
 use Rattle.std.proofs.lemmas.List.{drop-drop, drop_at, length-append, length-drop, length-take, take-append-drop, take_at}
-use Rattle.std.proofs.lemmas.List.Elements.{All-nil, All-cons}
 use Rattle.exi_bits.specs.declared.align.Align.{Align}
 use Rattle.exi_bits.specs.declared.align.Align.TheVariants as align
 use Rattle.exi_bits.specs.declared.fault.Kind.{Kind}
@@ -9,19 +8,17 @@ use Rattle.exi_bits.specs.declared.fault.Kind.TheVariants as kind
 use Rattle.exi_bits.specs.Bits.{Spot, Front, IsAligned, IsBytes, at_next_byte, bits, moved, rest}
 use Rattle.exi_bits.specs.Unsigned.{◌>>=◌}
 use Rattle.exi_bits.proofs.BitLaws.{length-bits}
-use Rattle.exi_gram.specs.Books.{IsBook}
-use Rattle.exi_gram.specs.Codes.{IsClosedUp, code_at}
+use Rattle.exi_gram.specs.Codes.{code_at}
 use Rattle.exi_gram.specs.Switches.{align_of}
 use Rattle.exi_gram.proofs.CodeLaws.{spelled_item}
 use Rattle.exi_meter.specs.Metering.{Metering, event_fits, level_fits, with_event, with_level}
 use Rattle.exi_typed.specs.Courses.{Beside, Course, Failure, failing}
-use Rattle.exi_typed.specs.Laws.{Spelling}
 use Rattle.exi_typed.proofs.CourseItems.{CourseItem, bind_told, fine, not_failing, told, told_is}
 use Rattle.exi_reader.specs.Configurations.{Config, Setting, course_in, reached, rules_of, spot_in}
-use Rattle.exi_reader.specs.OneEvent.{at_event, behind, charge_at, event_charge, failed, followed, level_charge, one, remembered, unless}
+use Rattle.exi_reader.specs.OneEvent.{at_event, behind, charge_at, event_charge, followed, level_charge, one, remembered, unless}
 use Rattle.exi_reader.specs.Plans.{Given, Plan, alone_in, plan_of}
 use Rattle.exi_reader.specs.Rules.{Rule}
-use Rattle.exi_reader.specs.Spelled.{IsCharged, IsFollowed, IsIn, IsOne, IsPadding, OneAtMost, OneIsSpelled, SpelledIsOne, counted_by, entered_by, further}
+use Rattle.exi_reader.specs.Spelled.{IsCharged, IsFollowed, IsOne, IsPadding, OneAtMost, OneIsSpelled, SpelledIsOne, counted_by, entered_by, further}
 use Rattle.exi_reader.proofs.ClosedUp.{closed_up}
 use Rattle.exi_reader.proofs.PlanFacts.{made_stays, plan_reads}
 
@@ -61,7 +58,7 @@ charge_is bit p m n e =
       after = sym k.1 ∙ ap (λ (z : Metering). entered_by p.entered z) (sym same);
     }
 
-event_again : (b : Bool) (bit : ℕ) (m : Metering) → (b ≡ true → event_fits m ≡ true) → event_charge b bit m ≡ told (counted_by b m)
+pub event_again : (b : Bool) (bit : ℕ) (m : Metering) → (b ≡ true → event_fits m ≡ true) → event_charge b bit m ≡ told (counted_by b m)
 event_again true bit m h = rw (h refl) refl
 event_again false bit m h = refl
 
@@ -69,7 +66,7 @@ level_again : (b : Bool) (bit : ℕ) (m : Metering) → (b ≡ true → level_fi
 level_again true bit m h = rw (h refl) refl
 level_again false bit m h = refl
 
-charge_again : (bit : ℕ) (p : Plan) (m n : Metering) → IsCharged p m n → charge_at bit p m ≡ told n
+pub charge_again : (bit : ℕ) (p : Plan) (m n : Metering) → IsCharged p m n → charge_at bit p m ≡ told n
 unfolding charge_at
 charge_again bit p m n h = rw (h.free, event_again p.counted bit m h.counted, h.placed, level_again p.entered bit (counted_by p.counted m) h.entered) (ap (λ (z : Metering). told z) (sym h.after))
 
@@ -89,10 +86,10 @@ front_then s t u first second f g = record {
   place = omega (arith, f.place, g.place, length-append first second);
 }
 
-rest_moved : (s : Spot) (text more : List Bool) → rest s ≡ text ++ more → rest (moved s (length text)) ≡ more
+pub rest_moved : (s : Spot) (text more : List Bool) → rest s ≡ text ++ more → rest (moved s (length text)) ≡ more
 rest_moved s text more e = sym (drop-drop (length text) s.place (bits s.bytes)) ∙ ap (λ (x : List Bool). drop (length text) x) e ∙ drop_at text more (length text) refl
 
-aligned_on : (b : Align) (s : Spot) (n : ℕ) → IsAligned b s → (b ≡ align.Bytes → n % 8 ≡ 0) → IsAligned b (moved s n)
+pub aligned_on : (b : Align) (s : Spot) (n : ℕ) → IsAligned b s → (b ≡ align.Bytes → n % 8 ≡ 0) → IsAligned b (moved s n)
 aligned_on b s n al whole e =
     let p : s.place % 8 ≡ 0 = al e in
     let q : n % 8 ≡ 0 = whole e in
@@ -154,7 +151,7 @@ padded_place false s w text h =
     ap (λ (p : ℕ). record { spot = record { bytes = s.bytes; place = p }; beside = w }) e
 
 -- ---- what stands behind a code
-same_spot : (s t : Spot) → s.bytes ≡ t.bytes → s.place ≡ t.place → s ≡ t
+pub same_spot : (s t : Spot) → s.bytes ≡ t.bytes → s.place ≡ t.place → s ≡ t
 same_spot s t e f = ap (λ (z : List ℕ). record { bytes = z; place = s.place }) e ∙ ap (λ (z : ℕ). record { bytes = t.bytes; place = z }) f
 
 abbrev pub at_place : Config → ℕ → Config

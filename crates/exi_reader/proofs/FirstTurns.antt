@@ -1,27 +1,20 @@
 -- The first two turns of a fragment: its SD takes no bits, and its element is the root.
-use Rattle.std.proofs.Common.{◌≡◌, ◌⊎◌, inl, inr, ℕ, zero, suc, ◌+◌, ◌*◌, ◌%◌, ◌<◌, Bool, true, false, cond, ltb, List, [], ◌∷◌, ◌++◌, length, Option, Some, None, Result, Ok, Err, refl, sym, ap, ◌∙◌, subst, arith}
-use Rattle.std.specs.Prelude.{slice_get}
-use Rattle.exi_bits.specs.declared.align.Align.{Align}
-use Rattle.exi_bits.specs.declared.align.Align.TheVariants as align
-use Rattle.exi_bits.specs.declared.fault.Kind.{Kind}
+use Rattle.std.proofs.Common.{◌≡◌, ℕ, ◌+◌, false, List, [], ◌∷◌, length, Some, None, refl, sym, ap, ◌∙◌, subst}
 use Rattle.exi_bits.specs.declared.fault.Kind.TheVariants as kind
 use Rattle.exi_bits.specs.Bits.{IsAligned, IsBytes, Spot}
 use Rattle.exi_gram.specs.Books.{IsBook}
 use Rattle.exi_gram.specs.Codes.{code_at}
 use Rattle.exi_gram.specs.Switches.{align_of, prefixes}
 use Rattle.exi_gram.proofs.CodeLaws.{spelled_item}
-use Rattle.exi_meter.specs.Metering.{Bounds, Metering, with_text}
-use Rattle.exi_names.specs.Events.{Happening}
+use Rattle.exi_meter.specs.Metering.{Metering, with_text}
 use Rattle.exi_names.specs.declared.names.QName.{QName}
-use Rattle.exi_tables.specs.Partitions.{Partitions}
-use Rattle.exi_typed.specs.Courses.{Beside, Course, Failure}
-use Rattle.exi_typed.specs.Strings.{Named}
+use Rattle.exi_typed.specs.Courses.{Course}
 use Rattle.exi_typed.proofs.CourseItems.{fine, told, told_is}
 use Rattle.exi_reader.specs.Changes.{moved_elements, outer_behind, root_in}
-use Rattle.exi_reader.specs.Configurations.{Body, Config, Setting, course_in, reached, rules_of, spot_in}
-use Rattle.exi_reader.specs.OneEvent.{behind, one, remembered}
-use Rattle.exi_reader.specs.Plans.{Alone, Given, Plan, alone_in, at_end, at_first, at_start, nowhere, plan_of, plan_on}
-use Rattle.exi_reader.specs.Rules.{Rule, Telling, Terminal, attribute, characters, comment, declaration, document_type, element, end_document, end_element, entity, fragment_start, informed, instruction, known, self_contained, spelled, start_document}
+use Rattle.exi_reader.specs.Configurations.{Body, Config, Setting, course_in, rules_of, spot_in}
+use Rattle.exi_reader.specs.OneEvent.{one}
+use Rattle.exi_reader.specs.Plans.{Alone, Given, alone_in, at_first, at_start, plan_on}
+use Rattle.exi_reader.specs.Rules.{Rule, Telling, Terminal, attribute, characters, comment, declaration, document_type, element, end_document, end_element, entity, informed, instruction, known, self_contained, spelled, start_document}
 use Rattle.exi_reader.specs.Sound.{FitsContent, FitsIn, FitsStart, IsSound}
 use Rattle.exi_reader.specs.declared.frames.Element.{Element}
 use Rattle.exi_reader.specs.declared.frames.Outer.{Outer}

@@ -1,6 +1,5 @@
 -- One event of a fragment that is read by itself, and the same event where the fragment stands.
-use Rattle.std.proofs.Common.{◌≡◌, ◌≢◌, ◌⊎◌, inl, inr, ℕ, zero, suc, ◌+◌, ◌-◌, ◌*◌, ◌/◌, ◌≤◌, max, Bool, true, false, cond, List, [], ◌∷◌, ◌++◌, length, Option, Some, None, Result, Ok, Err, refl, sym, ap, ◌∙◌, subst, arith}
-use Rattle.std.proofs.lemmas.Bool.{cases_Bool}
+use Rattle.std.proofs.Common.{◌≡◌, ◌≢◌, ◌⊎◌, inl, inr, ℕ, ◌+◌, ◌-◌, ◌≤◌, Bool, true, false, cond, List, [], ◌∷◌, ◌++◌, Option, Some, None, Result, Ok, Err, refl, sym, ap, ◌∙◌, subst, arith}
 use Rattle.exi_bits.specs.declared.fault.Fault.{Fault}
 use Rattle.exi_bits.specs.declared.fault.Kind.{Kind}
 use Rattle.exi_bits.specs.declared.fault.Kind.TheVariants as kind
@@ -11,15 +10,14 @@ use Rattle.exi_gram.specs.Codes.{code_at}
 use Rattle.exi_gram.specs.Switches.{align_of}
 use Rattle.exi_meter.specs.Metering.{Metering, without_level}
 use Rattle.exi_meter.specs.declared.tally.Tally.{Tally}
-use Rattle.exi_names.specs.Events.{Happening}
 use Rattle.exi_names.specs.declared.names.QName.{QName}
 use Rattle.exi_tables.specs.Partitions.{Partitions}
-use Rattle.exi_typed.specs.Courses.{Course, Failure, failing}
-use Rattle.exi_typed.specs.Metered.{IsMetered, Unmetered, charging}
-use Rattle.exi_typed.proofs.CourseItems.{beside, course, fine, told}
+use Rattle.exi_typed.specs.Courses.{Failure, failing}
+use Rattle.exi_typed.specs.Metered.{Unmetered, charging}
+use Rattle.exi_typed.proofs.CourseItems.{beside, course, told}
 use Rattle.exi_reader.specs.Changes.{enclosing, has_level, is_alone, left_level, outer_behind, resumed, same_texts}
 use Rattle.exi_reader.specs.Configurations.{Body, Config, Setting, course_in, reached, rules_of, spot_in}
-use Rattle.exi_reader.specs.Metered.{Due, Outcome, outcome, paying, with_meter}
+use Rattle.exi_reader.specs.Metered.{Outcome, outcome, paying, with_meter}
 use Rattle.exi_reader.specs.OneEvent.{at_event, behind, charge_at, followed, one, remembered, unless}
 use Rattle.exi_reader.specs.Plans.{Alone, Given, Plan, alone_in, at_end, at_first, at_start, element_plan, no_element, nowhere, plan_of, plan_on, wrong_element}
 use Rattle.exi_reader.specs.Rules.{Rule, Telling, Terminal, attribute, characters, comment, declaration, document_type, element, end_document, end_element, entity, informed, instruction, known, self_contained, spelled, start_document}
@@ -31,7 +29,7 @@ use Rattle.exi_reader.specs.declared.frames.Outer.TheVariants as outer
 use Rattle.exi_reader.proofs.Bodies.{moved_alone}
 use Rattle.exi_reader.proofs.EventOne.{at_place}
 use Rattle.exi_reader.proofs.Fitting.{codes_fit}
-use Rattle.exi_reader.proofs.Metering.{AllPaid, Makes, followed_as, followed_paid, last, makes, none_paid, rest_of}
+use Rattle.exi_reader.proofs.Metering.{Makes, followed_as, followed_paid, last, makes, none_paid, rest_of}
 use Rattle.exi_reader.proofs.PlanFacts.{plan_reads}
 use Rattle.exi_reader.proofs.Shifts.{Fair, Room, paid_shift, shifted_meter}
 

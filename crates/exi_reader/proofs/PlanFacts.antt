@@ -1,17 +1,12 @@
 -- What is known of each production's plan: what it reads, and what it makes of a configuration.
-use Rattle.std.proofs.Common.{◌≡◌, ℕ, Bool, true, false, cond, List, [], ◌∷◌, Option, Some, None, refl}
-use Rattle.exi_bits.specs.declared.align.Align.{Align}
+use Rattle.std.proofs.Common.{◌≡◌, Bool, true, false, List, [], ◌∷◌, refl}
 use Rattle.exi_gram.specs.Switches.{align_of}
-use Rattle.exi_meter.specs.Metering.{Bounds, Metering}
-use Rattle.exi_meter.specs.declared.tally.Tally.{Tally}
-use Rattle.exi_names.specs.Events.{Happening}
+use Rattle.exi_meter.specs.Metering.{Metering}
 use Rattle.exi_typed.specs.Strings.{Named}
-use Rattle.exi_reader.specs.Changes.{has_level, left_level, learns, learns_name, moves, opened, resumed, rooted}
+use Rattle.exi_reader.specs.Changes.{has_level, left_level, resumed}
 use Rattle.exi_reader.specs.Configurations.{Body, Config, Setting}
-use Rattle.exi_reader.specs.Plans.{Alone, Plan, at_end, at_first, at_start, element_made, ended_in, nowhere, plan_on, rooted_in, seen_in}
+use Rattle.exi_reader.specs.Plans.{Alone, at_end, at_first, at_start, element_made, ended_in, nowhere, plan_on}
 use Rattle.exi_reader.specs.Rules.{Rule, Telling, Terminal, attribute, characters, comment, declaration, document_type, element, end_document, end_element, entity, informed, instruction, known, self_contained, spelled, start_document}
-use Rattle.exi_reader.specs.declared.frames.Element.{Element}
-use Rattle.exi_reader.specs.declared.frames.Outer.{Outer}
 use Rattle.exi_reader.proofs.Readings.{Reads, attribute_reads, characters_reads, declaration_reads, four_texts_read, name_reads, nothing_reads, text_reads, two_texts_read}
 use Rattle.exi_reader.specs.Changes.{innermost}
 

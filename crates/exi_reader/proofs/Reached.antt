@@ -1,19 +1,14 @@
 -- The first configuration is sound, and so is each that turns lead to.
-use Rattle.std.proofs.Common.{◌≡◌, ◌⊎◌, inl, inr, ℕ, Bool, true, false, cond, List, [], ◌∷◌, Option, Result, Ok, Err, refl, ap, ◌∙◌, subst, arith}
+use Rattle.std.proofs.Common.{◌≡◌, inl, ℕ, Bool, true, false, List, [], ◌∷◌, Option, refl, subst, arith}
 use Rattle.std.proofs.lemmas.List.Elements.{All-nil}
 use Rattle.exi_builtin.specs.Learning.{nothing_learned}
 use Rattle.exi_gram.specs.Books.{IsBook}
 use Rattle.exi_gram.specs.Switches.{fragment}
-use Rattle.exi_meter.specs.Metering.{Bounds}
 use Rattle.exi_names.specs.Events.{Happening}
 use Rattle.exi_tables.specs.Partitions.{Partitions}
-use Rattle.exi_typed.specs.Courses.{Failure}
-use Rattle.exi_typed.proofs.CourseItems.{told}
-use Rattle.exi_reader.specs.Changes.{is_alone}
 use Rattle.exi_reader.specs.Configurations.{Config, Setting, body_outer, first_outer, first_tables}
 use Rattle.exi_reader.specs.OneEvent.{one}
-use Rattle.exi_reader.specs.Plans.{Given}
-use Rattle.exi_reader.specs.Runs.{Job, Leads, first}
+use Rattle.exi_reader.specs.Runs.{Leads, first}
 use Rattle.exi_reader.specs.Sound.{FirstIsSound, IsElementOfName, IsOuter, IsSound, IsSoundAside, IsSoundElement, IsSoundGrammar, ReachedAreSound, levels_in}
 use Rattle.exi_reader.specs.declared.start.Start.{Start}
 use Rattle.exi_reader.specs.declared.start.Start.TheVariants as start

@@ -1,7 +1,6 @@
 -- What stands behind a code: what is read is what is spelled, and it goes onward.
-use Rattle.std.proofs.Common.{◌≡◌, ℕ, ◌%◌, Bool, true, false, cond, List, [], ◌++◌, length, Result, Ok, Err, refl, sym, ap, ◌∙◌, subst}
+use Rattle.std.proofs.Common.{◌≡◌, ℕ, Bool, true, false, cond, List, [], ◌++◌, length, Result, Err, refl, subst}
 use Rattle.exi_bits.specs.declared.align.Align.{Align}
-use Rattle.exi_bits.specs.declared.align.Align.TheVariants as align
 use Rattle.exi_bits.specs.declared.fault.Kind.TheVariants as kind
 use Rattle.exi_bits.specs.Bits.{Spot, IsAligned, IsBytes, moved, rest}
 use Rattle.exi_bits.specs.Unsigned.{◌>>=◌}

@@ -1,12 +1,12 @@
 -- A name without a prefix charges the characters of its URI and of its local name.
-use Rattle.std.proofs.Common.{◌≡◌, ◌⊎◌, inl, inr, ℕ, ◌+◌, Bool, true, false, List, length, Option, Some, None, refl, sym, ap, ◌∙◌, subst, arith}
+use Rattle.std.proofs.Common.{◌≡◌, inl, inr, ℕ, ◌+◌, Bool, false, List, length, Option, Some, None, refl, sym, ap, ◌∙◌, subst, arith}
 use Rattle.exi_bits.specs.declared.align.Align.{Align}
 use Rattle.exi_gram.specs.Switches.{align_of, prefixes}
 use Rattle.exi_meter.specs.Metering.{Metering, with_text}
 use Rattle.exi_names.specs.declared.names.NameId.{NameId}
 use Rattle.exi_tables.specs.Partitions.{uris, with_uri}
 use Rattle.exi_typed.specs.Courses.{Beside}
-use Rattle.exi_typed.specs.Spelled.{Follows, IsIndexed, SpellsIndexed, SpellsKnown, SpellsLocal, SpellsName, SpellsPrefix, SpellsUri}
+use Rattle.exi_typed.specs.Spelled.{Follows, SpellsIndexed, SpellsKnown, SpellsLocal, SpellsName, SpellsPrefix}
 use Rattle.exi_typed.specs.Strings.{Growth, Named, place_in}
 use Rattle.exi_reader.specs.Configurations.{Setting}
 use Rattle.exi_reader.specs.Contents.{SpellsTold}

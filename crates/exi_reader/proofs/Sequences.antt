@@ -8,7 +8,7 @@ use Rattle.exi_names.specs.Events.{Happening}
 use Rattle.exi_names.specs.Events as happening
 use Rattle.exi_typed.specs.Courses.{Failure}
 use Rattle.exi_typed.proofs.CourseItems.{told, told_is}
-use Rattle.exi_reader.specs.Configurations.{Config, Setting, body_outer, first_config, first_outer}
+use Rattle.exi_reader.specs.Configurations.{Config, Setting, body_outer}
 use Rattle.exi_reader.specs.Fragments.{begins, fragments_at, fragments_in}
 use Rattle.exi_reader.specs.Laws.{AFaultEnds, ARunIsThere, ASequenceIsThere, FewTurns, HasFault, HasStep, IsFrontOfRun, NeverBack, OneRun, OneSequence, OneStepOrOneFault}
 use Rattle.exi_reader.specs.OneEvent.{one}
@@ -17,7 +17,7 @@ use Rattle.exi_reader.specs.Runs.{IsRun, Job, Leads, Turn, closing, ends, events
 use Rattle.exi_reader.specs.declared.end.End.{End}
 use Rattle.exi_reader.specs.declared.start.Start.{Start}
 use Rattle.exi_reader.specs.declared.start.Start.TheVariants as start
-use Rattle.exi_reader.proofs.Steps.{Counts, Steps, events, step_is, weight, weights}
+use Rattle.exi_reader.proofs.Steps.{Steps, events, step_is, weight, weights}
 
 -- ---- one event
 abbrev bad : Failure → Result Given Failure

@@ -1,17 +1,13 @@
 -- The meter shift: a fragment read by itself, and the same fragment read where it stands, go on in step.
-use Rattle.std.proofs.Common.{◌≡◌, ◌⊎◌, inl, inr, ℕ, zero, suc, ◌+◌, ◌-◌, ◌*◌, ◌≤◌, max, leb, Bool, true, false, cond, List, [], ◌∷◌, ◌++◌, length, Option, Some, None, Result, Ok, Err, refl, sym, ap, ◌∙◌, subst, arith}
+use Rattle.std.proofs.Common.{◌≡◌, ◌⊎◌, inl, inr, ℕ, ◌+◌, ◌≤◌, max, leb, Bool, true, false, cond, List, [], ◌∷◌, Result, Ok, Err, refl, sym, ap, ◌∙◌, subst, arith}
 use Rattle.std.specs.Prelude.{◌&&◌}
 use Rattle.std.proofs.lemmas.Bool.{cases_Bool, leb-true, le-leb}
 use Rattle.exi_bits.specs.declared.fault.Fault.{Fault}
-use Rattle.exi_bits.specs.declared.fault.Kind.{Kind}
-use Rattle.exi_bits.specs.declared.fault.Kind.TheVariants as kind
-use Rattle.exi_meter.specs.Metering.{Bounds, Metering, event_fits, level_fits, tally_fits, text_fits, with_event, with_level, with_tally, with_text, without_level}
+use Rattle.exi_meter.specs.Metering.{Bounds, Metering, tally_fits, with_tally}
 use Rattle.exi_meter.specs.declared.tally.Tally.{Tally}
-use Rattle.exi_names.specs.Events.{Happening}
 use Rattle.exi_typed.specs.Courses.{Failure}
 use Rattle.exi_reader.specs.Changes.{left_level}
-use Rattle.exi_reader.specs.Configurations.{Body, Config, Setting}
-use Rattle.exi_reader.specs.Metered.{Due, Outcome, due_fits, event, level, limit_of, outcome, paying, text, with_due, with_meter}
+use Rattle.exi_reader.specs.Metered.{Due, Outcome, due_fits, event, level, limit_of, outcome, paying, text, with_due}
 use Rattle.exi_reader.specs.Plans.{Given}
 use Rattle.exi_reader.specs.Splices.{is_limit}
 

@@ -1,5 +1,5 @@
 -- A step leads from a sound configuration to a sound one.
-use Rattle.std.proofs.Common.{◌≡◌, ◌≢◌, ◌⊎◌, inl, inr, ℕ, zero, suc, ◌+◌, ◌-◌, Bool, true, false, cond, List, [], ◌∷◌, length, Option, Some, None, Result, Ok, Err, refl, sym, ap, ◌∙◌, subst, arith}
+use Rattle.std.proofs.Common.{◌≡◌, ◌≢◌, ◌⊎◌, inl, inr, ℕ, zero, suc, ◌+◌, ◌-◌, Bool, true, false, cond, List, [], ◌∷◌, length, Option, Some, None, refl, sym, ap, ◌∙◌, subst, arith}
 use Rattle.std.specs.Prelude.{All}
 use Rattle.std.proofs.lemmas.List.Elements.{All-cons, All-head, All-nil, All-tail}
 use Rattle.exi_bits.specs.declared.align.Align.{Align}
@@ -11,34 +11,32 @@ use Rattle.exi_builtin.specs.declared.learnable.Learned.TheVariants as used
 use Rattle.exi_builtin.specs.declared.learnable.Room.{Room}
 use Rattle.exi_builtin.specs.declared.learnable.Room.TheVariants as room
 use Rattle.exi_builtin.specs.Learning.{Learning, added_by, grammar_number, nothing_learned, with_grammar}
-use Rattle.exi_gram.specs.Books.{IsBook}
 use Rattle.exi_gram.specs.Switches.{align_of, prefixes}
-use Rattle.exi_meter.specs.Metering.{Metering, with_event, with_level, with_text}
+use Rattle.exi_meter.specs.Metering.{Metering}
 use Rattle.exi_names.specs.declared.names.NameId.{NameId}
 use Rattle.exi_names.specs.Events.{Happening}
 use Rattle.exi_names.specs.Events as happening
 use Rattle.exi_names.specs.Seen.{Value}
-use Rattle.exi_tables.specs.Growth.{KeepsAll}
 use Rattle.exi_tables.specs.Partitions.{Partitions, live_at, locals, uris}
-use Rattle.exi_typed.specs.Courses.{Course, Failure}
+use Rattle.exi_typed.specs.Courses.{Course}
 use Rattle.exi_typed.specs.Onward.{Onward}
 use Rattle.exi_typed.specs.Strings.{Named, known_at, placed_at, prefix_at}
 use Rattle.exi_typed.proofs.CourseItems.{bind_told, told, told_is}
 use Rattle.exi_reader.specs.Changes.{enclosing, has_level, innermost, is_alone, learned_in, left_level, moved_elements, outer_behind, resumed, room_in, state_room, texts_of}
 use Rattle.exi_reader.specs.Configurations.{Body, Config, Setting, course_in, first_tables, reached}
 use Rattle.exi_reader.specs.Contents.{attribute_value_at, both_at, told_name_at}
-use Rattle.exi_reader.specs.OneEvent.{behind, is_start, one, remembered}
+use Rattle.exi_reader.specs.OneEvent.{behind, is_start, remembered}
 use Rattle.exi_reader.specs.Plans.{Alone, Given, Plan, alone_in, at_end, at_first, at_start, nowhere, plan_of, plan_on}
 use Rattle.exi_reader.specs.Rules.{Rule, Telling, Terminal, attribute, characters, comment, declaration, document_type, element, end_document, end_element, entity, informed, instruction, known, self_contained, spelled, start_document}
-use Rattle.exi_reader.specs.Runs.{Job, Leads, first}
-use Rattle.exi_reader.specs.Sound.{FirstIsSound, FitsContent, FitsDocument, FitsIn, FitsInside, FitsOutside, FitsStart, IsElementOfName, IsLeastName, IsOfNames, IsOuter, IsSound, IsSoundAside, IsSoundBody, IsSoundElement, IsSoundGrammar, IsStateOfName, IsWhereOpen, ReachedAreSound, StepsKeepSound, levels_aside, levels_in}
-use Rattle.exi_reader.specs.Spelled.{IsCharged, counted_by, entered_by}
+use Rattle.exi_reader.specs.Runs.{first}
+use Rattle.exi_reader.specs.Sound.{FitsDocument, FitsIn, FitsOutside, IsElementOfName, IsLeastName, IsOfNames, IsOuter, IsSound, IsSoundAside, IsSoundBody, IsSoundElement, IsSoundGrammar, IsStateOfName, IsWhereOpen, StepsKeepSound, levels_aside, levels_in}
+use Rattle.exi_reader.specs.Spelled.{counted_by, entered_by}
 use Rattle.exi_reader.specs.declared.frames.Element.{Element}
 use Rattle.exi_reader.specs.declared.frames.Outer.{Outer}
 use Rattle.exi_reader.specs.declared.frames.Outer.TheVariants as outer
 use Rattle.exi_reader.specs.declared.frames.State.{State}
 use Rattle.exi_reader.specs.declared.frames.State.TheVariants as state
-use Rattle.exi_reader.proofs.Bodies.{MayLearn, body_closed, body_learns, body_moves, body_opened, body_went, cons_is_some, levels_alone, levels_closed, levels_moved, moved_alone}
+use Rattle.exi_reader.proofs.Bodies.{MayLearn, body_closed, body_learns, body_moves, body_opened, body_went, cons_is_some, levels_alone, levels_closed, levels_moved}
 use Rattle.exi_reader.proofs.EventOne.{at_place, stepped}
 use Rattle.exi_reader.proofs.Fitting.{codes_fit}
 use Rattle.exi_reader.proofs.PlanFacts.{plan_reads}

@@ -1,5 +1,5 @@
 -- A fragment that was read by itself is taken where it stands: the reader goes on as it would have gone.
-use Rattle.std.proofs.Common.{◌≡◌, ◌≢◌, ◌⊎◌, inl, inr, ℕ, zero, suc, ◌+◌, ◌*◌, ◌%◌, ◌≤◌, max, Bool, true, false, cond, List, [], ◌∷◌, ◌++◌, length, Option, Some, None, Result, Ok, Err, refl, sym, ap, ◌∙◌, subst, arith}
+use Rattle.std.proofs.Common.{◌≡◌, ◌⊎◌, inl, inr, ℕ, zero, suc, ◌+◌, ◌*◌, max, Bool, true, false, cond, List, [], ◌∷◌, ◌++◌, length, Option, Some, None, Err, refl, sym, ap, ◌∙◌, subst, arith}
 use Rattle.std.specs.Prelude.{◌&&◌, slice_get}
 use Rattle.exi_bits.specs.declared.align.Align.{Align}
 use Rattle.exi_bits.specs.declared.align.Align.TheVariants as align
@@ -20,29 +20,28 @@ use Rattle.exi_names.specs.declared.names.QName.{QName}
 use Rattle.exi_tables.specs.Partitions.{Partitions}
 use Rattle.exi_typed.specs.Courses.{Failure}
 use Rattle.exi_typed.proofs.CourseItems.{fine, told}
-use Rattle.exi_reader.specs.Changes.{is_alone, outer_behind, resumed, same_texts}
+use Rattle.exi_reader.specs.Changes.{is_alone, resumed, same_texts}
 use Rattle.exi_reader.specs.Configurations.{Body, Config, Setting, rules_in, rules_of, spot_in}
 use Rattle.exi_reader.specs.OneEvent.{one}
 use Rattle.exi_reader.specs.Plans.{Given}
 use Rattle.exi_reader.specs.Rules.{Rule, fragment_start, start_document}
-use Rattle.exi_reader.specs.Runs.{IsRun, IsSequence, Job, Leads, done, ends, events_of, failed_end, first, goes, is_end, turn}
+use Rattle.exi_reader.specs.Runs.{IsRun, Job, Leads, ends, events_of, failed_end, first, goes, is_end, turn}
 use Rattle.exi_reader.specs.Sound.{IsSound}
-use Rattle.exi_reader.specs.Splices.{AtFragment, GoesAs, SplicesAreRuns, Spliced, ends_by_limit, fits, on_behind, other_root, root_of, spliced, tally_of, with_root, wrong_root}
+use Rattle.exi_reader.specs.Splices.{AtFragment, GoesAs, SplicesAreRuns, ends_by_limit, on_behind, other_root, root_of, spliced, tally_of, with_root, wrong_root}
 use Rattle.exi_reader.specs.declared.end.End.{End}
 use Rattle.exi_reader.specs.declared.end.End.TheVariants as end
 use Rattle.exi_reader.specs.declared.frames.Element.{Element}
 use Rattle.exi_reader.specs.declared.frames.Outer.{Outer}
 use Rattle.exi_reader.specs.declared.frames.Outer.TheVariants as outer
-use Rattle.exi_reader.specs.declared.start.Start.{Start}
 use Rattle.exi_reader.specs.declared.start.Start.TheVariants as start
 use Rattle.exi_reader.proofs.Bodies.{moved_alone}
 use Rattle.exi_reader.proofs.ClosedUp.{closed_up}
-use Rattle.exi_reader.proofs.FirstTurns.{Begins, IsFirst, Rooted, Started, rooted, started}
-use Rattle.exi_reader.proofs.InStep.{EndsThere, GoesOn, IsOther, IsRoot, Lasts, Nests, Step, shifted}
+use Rattle.exi_reader.proofs.FirstTurns.{Begins, Rooted, Started, rooted, started}
+use Rattle.exi_reader.proofs.InStep.{IsRoot, Lasts, Nests, Step, shifted}
 use Rattle.exi_reader.proofs.Reached.{first_is_sound}
-use Rattle.exi_reader.proofs.Shifts.{Fair, Room, metering_is, room_is, shifted_meter}
+use Rattle.exi_reader.proofs.Shifts.{Room, metering_is, room_is, shifted_meter}
 use Rattle.exi_reader.proofs.Soundness.{steps_keep_sound}
-use Rattle.exi_reader.proofs.Splicing.{Concludes, Goes, LastDone, LastFault, fair_goes, fault_concludes, first_not_over, goes_is, in_front, last_is, late, late_root, one_start, over_lasts, step_of, true_false, turn_fails, turn_goes}
+use Rattle.exi_reader.proofs.Splicing.{Concludes, LastDone, LastFault, fair_goes, fault_concludes, goes_is, in_front, last_is, late, late_root, one_start, step_of, true_false, turn_fails, turn_goes}
 
 some_is : {X : Type 0} (x y : X) → Some x ≡ Some y → x ≡ y
 some_is x y e = cc

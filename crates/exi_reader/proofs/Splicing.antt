@@ -1,30 +1,22 @@
 -- What becomes of a reader at a fragment that was read by itself: it goes on as if it had read the fragment.
-use Rattle.std.proofs.Common.{◌≡◌, ◌≢◌, ◌⊎◌, inl, inr, ℕ, zero, suc, ◌+◌, ◌-◌, ◌*◌, ◌≤◌, max, Bool, true, false, cond, List, [], ◌∷◌, ◌++◌, length, Option, Some, None, Result, Ok, Err, refl, sym, ap, ◌∙◌, subst, arith}
-use Rattle.std.specs.Prelude.{◌&&◌, All}
-use Rattle.std.proofs.lemmas.Bool.{cases_Bool}
+use Rattle.std.proofs.Common.{◌≡◌, ◌≢◌, ◌⊎◌, inl, inr, ℕ, ◌+◌, ◌-◌, ◌≤◌, Bool, true, false, cond, List, [], ◌∷◌, ◌++◌, Option, None, Result, Ok, Err, refl, sym, ap, ◌∙◌, subst, arith}
+use Rattle.std.specs.Prelude.{All}
 use Rattle.std.proofs.lemmas.List.Elements.{All-head}
 use Rattle.exi_bits.specs.declared.fault.Fault.{Fault}
-use Rattle.exi_bits.specs.declared.fault.Kind.{Kind}
-use Rattle.exi_bits.specs.declared.fault.Kind.TheVariants as kind
-use Rattle.exi_builtin.specs.Learning.{Learning, nothing_learned}
 use Rattle.exi_gram.specs.Books.{IsBook}
-use Rattle.exi_meter.specs.Metering.{Bounds, Metering, nothing_used, tally_fits, with_tally, with_text, without_level}
+use Rattle.exi_meter.specs.Metering.{Metering, with_tally, without_level}
 use Rattle.exi_meter.specs.declared.tally.Tally.{Tally}
 use Rattle.exi_names.specs.Events.{Happening}
-use Rattle.exi_names.specs.StartTables.{IsStart}
-use Rattle.exi_names.specs.declared.names.QName.{QName}
-use Rattle.exi_tables.specs.Partitions.{Partitions}
-use Rattle.exi_typed.specs.Courses.{Course, Failure}
+use Rattle.exi_typed.specs.Courses.{Failure}
 use Rattle.exi_typed.proofs.CourseItems.{told}
-use Rattle.exi_reader.specs.Changes.{enclosing, has_level, is_alone, outer_behind, resumed, same_texts}
-use Rattle.exi_reader.specs.Configurations.{Body, Config, Setting, first_tables, reached}
-use Rattle.exi_reader.specs.Metered.{Due, Outcome, due_fits, limit_of, outcome, paying, with_due, with_meter}
-use Rattle.exi_reader.specs.OneEvent.{behind, is_start, one, remembered}
-use Rattle.exi_reader.specs.Plans.{Alone, Given, Plan, alone_in, at_end, at_first, at_start, nowhere, plan_of, plan_on}
-use Rattle.exi_reader.specs.Rules.{Rule, Telling, Terminal, attribute, characters, comment, declaration, document_type, element, end_document, end_element, entity, informed, instruction, known, self_contained, spelled, start_document}
-use Rattle.exi_reader.specs.Runs.{IsRun, IsSequence, Job, Leads, Turn, closing, done, ends, events_of, failed_end, first, goes, has_ended, is_end, turn, turned_by}
-use Rattle.exi_reader.specs.Sound.{FitsContent, FitsIn, FitsStart, IsSound, IsSoundAside, levels_aside, levels_in}
-use Rattle.exi_reader.specs.Splices.{AtFragment, GoesAs, SplicesAreRuns, Spliced, ended, ends_by_limit, fits, is_limit, on, on_behind, other_root, root_of, spliced, tally_of, with_root, wrong_root}
+use Rattle.exi_reader.specs.Changes.{is_alone, outer_behind, resumed, same_texts}
+use Rattle.exi_reader.specs.Configurations.{Body, Config, Setting, reached}
+use Rattle.exi_reader.specs.Metered.{Due, Outcome, due_fits, limit_of, outcome, paying, with_due}
+use Rattle.exi_reader.specs.OneEvent.{behind, is_start, one}
+use Rattle.exi_reader.specs.Plans.{Given, alone_in, plan_of}
+use Rattle.exi_reader.specs.Runs.{IsRun, Leads, closing, done, ends, failed_end, goes, has_ended, is_end, turn, turned_by}
+use Rattle.exi_reader.specs.Sound.{IsSound, IsSoundAside, levels_aside, levels_in}
+use Rattle.exi_reader.specs.Splices.{ends_by_limit, root_of, tally_of}
 use Rattle.exi_reader.specs.declared.end.End.{End}
 use Rattle.exi_reader.specs.declared.end.End.TheVariants as end
 use Rattle.exi_reader.specs.declared.frames.Element.{Element}
@@ -32,15 +24,13 @@ use Rattle.exi_reader.specs.declared.frames.Outer.{Outer}
 use Rattle.exi_reader.specs.declared.frames.Outer.TheVariants as outer
 use Rattle.exi_reader.specs.declared.start.Start.{Start}
 use Rattle.exi_reader.specs.declared.start.Start.TheVariants as start
-use Rattle.exi_reader.proofs.Bodies.{levels_closed, moved_alone}
+use Rattle.exi_reader.proofs.Bodies.{levels_closed}
 use Rattle.exi_reader.proofs.EventOne.{at_place, stepped}
-use Rattle.exi_reader.proofs.Fitting.{codes_fit}
-use Rattle.exi_reader.proofs.InStep.{EndsThere, GoesOn, IsOther, IsRoot, Lasts, LevelsOf, Nests, Step, one_steps, shifted, taken_up}
+use Rattle.exi_reader.proofs.InStep.{EndsThere, IsRoot, Lasts, LevelsOf, Nests, Step, one_steps, shifted, taken_up}
 use Rattle.exi_reader.proofs.Metering.{one_is_metered}
 use Rattle.exi_reader.proofs.PlanFacts.{made_stays}
-use Rattle.exi_reader.proofs.Reached.{first_is_sound}
 use Rattle.exi_reader.proofs.Sequences.{by_result, same_ends, same_goes}
-use Rattle.exi_reader.proofs.Shifts.{Below, Fair, Room, below_then, due_below, left_used, room_is, shifted_meter}
+use Rattle.exi_reader.proofs.Shifts.{Below, Fair, Room, below_then, due_below, left_used, shifted_meter}
 use Rattle.exi_reader.proofs.Soundness.{levels_none, steps_keep_sound}
 
 -- ---- what is used never grows less

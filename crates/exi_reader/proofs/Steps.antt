@@ -1,24 +1,22 @@
 -- One event goes onward against the same limits; it is counted where it gives an event, and else comes nearer to the
 -- end of a fragment.
-use Rattle.std.proofs.Common.{◌≡◌, ℕ, zero, suc, ◌+◌, ◌*◌, ◌/◌, ◌≤◌, Bool, true, false, cond, List, [], ◌∷◌, length, Option, Some, None, Result, Ok, Err, refl, sym, ap, ◌∙◌, subst, arith}
+use Rattle.std.proofs.Common.{◌≡◌, ℕ, zero, suc, ◌+◌, ◌*◌, ◌/◌, ◌≤◌, Bool, true, false, List, [], ◌∷◌, Option, Some, None, refl, sym, ap, ◌∙◌, subst, arith}
 use Rattle.std.proofs.lemmas.Bool.{leb-true}
-use Rattle.exi_bits.specs.declared.fault.Kind.{Kind}
 use Rattle.exi_bits.specs.declared.fault.Kind.TheVariants as kind
-use Rattle.exi_bits.specs.Bits.{Spot}
 use Rattle.exi_gram.specs.Switches.{align_of}
-use Rattle.exi_meter.specs.Metering.{Bounds, Metering, event_fits, with_event, with_level, with_text}
+use Rattle.exi_meter.specs.Metering.{Metering, event_fits, with_text}
 use Rattle.exi_meter.specs.declared.tally.Tally.{Tally}
 use Rattle.exi_names.specs.Events.{Happening}
 use Rattle.exi_names.specs.Events as happening
-use Rattle.exi_typed.specs.Courses.{Course, Failure}
+use Rattle.exi_typed.specs.Courses.{Course}
 use Rattle.exi_typed.specs.Onward.{Onward}
-use Rattle.exi_typed.proofs.CourseItems.{fine, told}
-use Rattle.exi_reader.specs.Changes.{moved_outer, outer_behind, resumed}
+use Rattle.exi_typed.proofs.CourseItems.{told}
+use Rattle.exi_reader.specs.Changes.{outer_behind, resumed}
 use Rattle.exi_reader.specs.Configurations.{Body, Config, Setting, course_in, reached, rules_of, spot_in}
 use Rattle.exi_reader.specs.Fragments.{begins}
 use Rattle.exi_reader.specs.OneEvent.{behind, one, remembered}
 use Rattle.exi_reader.specs.Plans.{Alone, Given, Plan, alone_in, at_end, at_first, at_start, ended_in, nowhere, plan_of, plan_on}
-use Rattle.exi_reader.specs.Rules.{Rule, Telling, Terminal, attribute, characters, comment, declaration, document_type, element, end_document, end_element, entity, informed, instruction, known, self_contained, spelled, start_document}
+use Rattle.exi_reader.specs.Rules.{Rule, Terminal, attribute, characters, comment, declaration, document_type, element, end_document, end_element, entity, informed, instruction, known, self_contained, spelled, start_document}
 use Rattle.exi_reader.specs.Spelled.{IsCharged, counted_by, entered_by}
 use Rattle.exi_reader.specs.declared.frames.Element.{Element}
 use Rattle.exi_reader.specs.declared.frames.Outer.{Outer}

@@ -14,12 +14,12 @@ use Rattle.exi_names.specs.Events.{Happening}
 use Rattle.exi_typed.specs.Courses.{Course, Courser, Failure, failing}
 use Rattle.exi_typed.specs.Metered.{Charge, IsMetered, Unmetered, charging}
 use Rattle.exi_typed.proofs.CourseItems.{told}
-use Rattle.exi_reader.specs.Configurations.{Config, Setting, course_in, first_config, reached, rules_of, spot_in}
+use Rattle.exi_reader.specs.Configurations.{Config, Setting, course_in, reached, rules_of, spot_in}
 use Rattle.exi_reader.specs.Laws.{IsWithinLimits, LimitsAreKept}
 use Rattle.exi_reader.specs.OneEvent.{at_event, behind, charge_at, event_charge, failed, followed, level_charge, one, remembered, unless}
 use Rattle.exi_reader.specs.Plans.{Given, Plan, alone_in, plan_of}
 use Rattle.exi_reader.specs.Rules.{Rule}
-use Rattle.exi_reader.specs.Runs.{IsRun, Leads, closing, done, ends, failed_end, first, goes, has_ended, turn, turned_by, whole_bytes}
+use Rattle.exi_reader.specs.Runs.{Leads, closing, done, ends, failed_end, first, goes, has_ended, turned_by, whole_bytes}
 use Rattle.exi_reader.specs.Splices.{tally_of}
 use Rattle.exi_reader.specs.declared.end.End.{End}
 use Rattle.exi_reader.specs.declared.end.End.TheVariants as end

@@ -1,5 +1,5 @@
 -- Sequential processing of whole streams, worked by hand.
-use Rattle.std.proofs.Common.{◌≡◌, ℕ, zero, suc, Bool, true, false, ◌∷◌, [], List, Option, Some, None, map, refl, sym, ap, ◌∙◌}
+use Rattle.std.proofs.Common.{◌≡◌, ℕ, zero, suc, true, false, ◌∷◌, [], List, Option, Some, None, map, refl, sym, ap, ◌∙◌}
 use Rattle.std.specs.Prelude.{codes}
 use Rattle.exi_bits.specs.declared.fault.Kind.{Kind}
 use Rattle.exi_bits.specs.declared.fault.Kind.TheVariants as kind
@@ -29,7 +29,6 @@ use Rattle.exi_reader.specs.OneEvent.{charge_at, followed, one}
 use Rattle.exi_reader.specs.Runs.{IsRun, Turn, ends, events_of, goes, turn}
 use Rattle.exi_reader.specs.declared.end.End.{End}
 use Rattle.exi_reader.specs.declared.end.End.TheVariants as end
-use Rattle.exi_reader.specs.declared.start.Start.{Start}
 use Rattle.exi_reader.specs.declared.start.Start.TheVariants as start
 
 -- the events from a configuration on, over at most so many turns, and the end where it is reached

@@ -1,6 +1,6 @@
 -- What an event makes of a configuration: what its state learns, the state that follows, an element opened and closed,
 -- a body put aside and taken up again (EXI 1.0, sections 8.4 and 8.5.4).
-use Rattle.std.specs.Prelude.{ℕ, zero, suc, ◌*◌, ◌==◌, ◌&&◌, Bool, true, false, List, [], ◌∷◌, Option, Some, None, get_or, if◌then◌else◌}
+use Rattle.std.specs.Prelude.{ℕ, zero, suc, ◌&&◌, Bool, true, false, List, [], ◌∷◌, Option, Some, None, get_or, if◌then◌else◌}
 use Rattle.std.specs.Str.{bytes_eq}
 use Rattle.exi_builtin.specs.declared.learnable.Learned.{Learned}
 use Rattle.exi_builtin.specs.declared.learnable.Room.{Room}

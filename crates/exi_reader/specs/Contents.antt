@@ -1,6 +1,5 @@
 -- What stands behind an event's code: how it is read, and how it is spelled (EXI 1.0, sections 4 and 7.1).
 use Rattle.std.specs.Prelude.{◌≡◌, ℕ, ◌&&◌, Bool, false, List, [], Ok, Err, if◌then◌else◌}
-use Rattle.exi_bits.specs.declared.align.Align.{Align}
 use Rattle.exi_bits.specs.declared.fault.Kind.TheVariants as kind
 use Rattle.exi_bits.specs.Unsigned.{◌>>=◌}
 use Rattle.exi_builtin.specs.Learning.{is_type}

@@ -1,11 +1,13 @@
 pub mod Changes
 pub mod Configurations
 pub mod Contents
+pub mod Fews
 pub mod Fragments
 pub mod Laws
 pub mod Metered
 pub mod OneEvent
 pub mod Plans
+pub mod Refused
 pub mod Rules
 pub mod Runs
 pub mod Sound

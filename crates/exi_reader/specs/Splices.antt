@@ -1,15 +1,13 @@
 -- What becomes of a reader that stands at a self-contained fragment, where that fragment was read apart (EXI 1.0,
 -- section 8.4.3).
 use Rattle.std.specs.Prelude.{◌≡◌, ℕ, ◌+◌, ◌*◌, ◌≤◌, ◌&&◌, Bool, true, false, List, [], ◌∷◌, length, Option, Some, None, if◌then◌else◌}
-use Rattle.exi_bits.specs.declared.fault.Fault.{Fault}
 use Rattle.exi_bits.specs.declared.fault.Kind.{Kind}
 use Rattle.exi_bits.specs.declared.fault.Kind.TheVariants as kind
-use Rattle.exi_bits.specs.declared.fault.Part.{Part}
 use Rattle.exi_builtin.specs.Learning.{nothing_learned}
 use Rattle.exi_gram.specs.Books.{IsBook}
 use Rattle.exi_gram.specs.Switches.{prefixes}
 use Rattle.exi_bits.specs.Bits.{IsBytes}
-use Rattle.exi_meter.specs.Metering.{Bounds, Metering, tally_fits, with_tally, with_text}
+use Rattle.exi_meter.specs.Metering.{Bounds, tally_fits, with_tally, with_text}
 use Rattle.exi_meter.specs.declared.tally.Tally.{Tally}
 use Rattle.exi_names.specs.declared.names.QName.{QName}
 use Rattle.exi_names.specs.Events.{Happening}

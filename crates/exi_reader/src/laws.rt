@@ -1,8 +1,10 @@
 //! What holds of sequential processing. Each law is a function that does nothing: what it ensures is
 //! the law.
 
+ghost use Rattle.exi_reader.specs.Fews.{FewAfterTurns};
 ghost use Rattle.exi_reader.specs.Laws.{AFaultEnds, ARunIsThere, ASequenceIsThere, EndIs, EndsAtEd, FewTurns, IsFrontOfRun, LimitsAreKept, NeverBack, OneRun, OneSequence, OneStepOrOneFault};
 ghost use Rattle.exi_reader.specs.Metered.{OneIsMetered};
+ghost use Rattle.exi_reader.specs.Refused.{FaultIsRefused, OneSpelledOrOneFault, RefusedIsFault};
 ghost use Rattle.exi_reader.specs.Spelled.{OneAtMost, OneIsSpelled, SpelledIsOne};
 ghost use Rattle.exi_reader.specs.Splices.{SplicesAreRuns};
 ghost use Rattle.exi_reader.specs.Sound.{CodesFit, FirstIsSound, ReachedAreSound, StepsKeepSound};
@@ -116,4 +118,26 @@ pub fn one_is_metered()
 /// another root.
 pub fn splices_are_runs()
     ensures law { SplicesAreRuns }
+{}
+
+/// After so many turns no list of the string tables has more than 2^30 texts and two for each turn, and
+/// there are no more grammars than turns, each with no more learned productions in a state.
+pub fn few_after_turns()
+    ensures law { FewAfterTurns }
+{}
+
+/// A fault is refused so: what stands before it is spelled, and the fault has its kind, its bit and all
+/// charges before.
+pub fn fault_is_refused()
+    ensures law { FaultIsRefused }
+{}
+
+/// What is refused so is the fault of the reading.
+pub fn refused_is_fault()
+    ensures law { RefusedIsFault }
+{}
+
+/// Exactly one event is spelled at a place, or exactly one fault is there.
+pub fn one_spelled_or_one_fault()
+    ensures law { OneSpelledOrOneFault }
 {}

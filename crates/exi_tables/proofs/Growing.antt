@@ -181,7 +181,7 @@ longer_uri most p text few =
       few_own = λ name. omega (arith, few.few_own name);
     }
 
-longer_locals : (text : List ℕ) (o : Option Namespace) → length (locals_in (option_map (and_local text) o)) ≤ length (locals_in o) + 1
+pub longer_locals : (text : List ℕ) (o : Option Namespace) → length (locals_in (option_map (and_local text) o)) ≤ length (locals_in o) + 1
 longer_locals text None = omega arith
 longer_locals text (Some n) = omega (arith, length-append n.locals (text ∷ []))
 
@@ -189,7 +189,7 @@ same_prefixes : (text : List ℕ) (o : Option Namespace) → length (prefixes_in
 same_prefixes text None = omega arith
 same_prefixes text (Some n) = omega arith
 
-longer_prefixes : (text : List ℕ) (o : Option Namespace) → length (prefixes_in (option_map (and_prefix text) o)) ≤ length (prefixes_in o) + 1
+pub longer_prefixes : (text : List ℕ) (o : Option Namespace) → length (prefixes_in (option_map (and_prefix text) o)) ≤ length (prefixes_in o) + 1
 longer_prefixes text None = omega arith
 longer_prefixes text (Some n) = omega (arith, length-append n.prefixes (text ∷ []))
 

@@ -19,13 +19,13 @@ one_at_most : (b : Bool) → cond b 1 0 ≤ 1
 one_at_most true = omega arith
 one_at_most false = omega arith
 
-texts_longer : (t : ValueTable) (name : NameId) (text : List ℕ) → length (texts_of (with_missed t name text)) ≤ length (texts_of t) + 1
+pub texts_longer : (t : ValueTable) (name : NameId) (text : List ℕ) → length (texts_of (with_missed t name text)) ≤ length (texts_of t) + 1
 texts_longer t name text = elim (cases_Bool (is_added t.bounds text)) [
   | inl yes_is ↦ rw (yes_is, length-map, length-map) (put_longer t.next (record { name = name; local = given_to name t.given; text = text }) t.live)
   | inr no_is ↦ rw no_is (omega arith)
 ]
 
-own_longer : (t : ValueTable) (name other : NameId) (text : List ℕ) → given_to other (with_missed t name text).given ≤ given_to other t.given + 1
+pub own_longer : (t : ValueTable) (name other : NameId) (text : List ℕ) → given_to other (with_missed t name text).given ≤ given_to other t.given + 1
 own_longer t name other text = elim (cases_Bool (is_added t.bounds text)) [
   | inl yes_is ↦ rw (yes_is, given_more name other t.given) (omega (arith, one_at_most (same_name other name)))
   | inr no_is ↦ rw no_is (omega arith)

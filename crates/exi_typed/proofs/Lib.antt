@@ -1,6 +1,7 @@
 pub mod CourseItems
 pub mod Texts
 pub mod NameItems
+pub mod Additions
 pub mod Agree
 pub mod Worked
 pub mod Goings
