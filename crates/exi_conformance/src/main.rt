@@ -12,6 +12,7 @@
 //! value DATATYPE TEXT           VALUE, or none
 //! place DATATYPE TEXT           the place of the value in an enumeration, or none
 //! write DATATYPE ALIGN SKIP TEXT    HEX BITS, or none
+//! tables MOST CAPACITY CALL ..  what each call answers, or differ: see the module `tables`
 //! ```
 //!
 //! `HEX` is pairs of hex digits, `-` where empty; a text is the hex of its UTF-8. `SKIP` is a number of
@@ -22,6 +23,7 @@ mod datatypes;
 mod fields;
 mod reads;
 mod show;
+mod tables;
 mod texts;
 mod writes;
 
@@ -39,6 +41,7 @@ fn answer(alloc: Global, line: &str) -> Result<Option<String>, AllocError> {
         ["uint" | "nbit" | "read" | "chars", ..] => reads::answer(alloc, fields.as_slice()),
         ["wuint" | "wbit" | "wchars", ..] => writes::answer(alloc, fields.as_slice()),
         ["value" | "place" | "write", ..] => texts::answer(alloc, fields.as_slice()),
+        ["tables", ..] => tables::answer(alloc, fields.as_slice()),
         _ => Ok(None),
     }
 }
