@@ -119,10 +119,10 @@ drop_few (suc count) [] le = refl
 drop_few (suc count) (x ∷ xs) le = drop_few count xs (omega (arith, le))
 
 -- ---- writing
-pub write_starts : (a : Align) (cells : List Cell) (codes : List (List ℕ)) (row : Branch) (place : ℕ) (bits : List Bool) → CellStands cells 0 3 (cell.Branch row) (counted 0 codes) → place < length codes → Writing a cells codes (get_or codes place []) row 0 bits bits
-write_starts a cells codes row place bits h less = record {
+pub write_starts : (a : Align) (cells : List Cell) (codes : List (List ℕ)) (branch : Branch) (place : ℕ) (bits : List Bool) → CellStands cells 0 3 (cell.Branch branch) (counted 0 codes) → place < length codes → Writing a cells codes (get_or codes place []) branch 0 bits bits
+write_starts a cells codes branch place bits h less = record {
   left = counted 0 codes;
-  at = cell.Branch row;
+  at = cell.Branch branch;
   stands = h;
   goes_on = inl refl;
   place = 0 + place;
@@ -133,73 +133,73 @@ write_starts a cells codes row place bits h less = record {
   whole = ap (λ (cs : List (List ℕ)). code_bits a cs (get_or codes place [])) (sym (parts_counted 0 codes));
 }
 
--- the row goes on where the code does
-row_of : (a : Align) (cells : List Cell) (codes : List (List ℕ)) (parts : List ℕ) (row : Branch) (count part : ℕ) (before now : List Bool) (w : Writing a cells codes parts row count before now) → count < 3 → slice_get parts count ≡ Some part → CellStands cells 0 (suc (3 - (count + 1))) (cell.Branch row) w.left
-row_of a cells codes parts row count part before now w less e =
+-- the branch goes on where the code does
+row_of : (a : Align) (cells : List Cell) (codes : List (List ℕ)) (parts : List ℕ) (branch : Branch) (count part : ℕ) (before now : List Bool) (w : Writing a cells codes parts branch count before now) → count < 3 → slice_get parts count ≡ Some part → CellStands cells 0 (suc (3 - (count + 1))) (cell.Branch branch) w.left
+row_of a cells codes parts branch count part before now w less e =
     let n : 3 - count ≡ suc (3 - (count + 1)) = omega (arith, less) in
-    subst (λ (k : ℕ). CellStands cells 0 k (cell.Branch row) w.left) n (by w.goes_on)
+    subst (λ (k : ℕ). CellStands cells 0 k (cell.Branch branch) w.left) n (by w.goes_on)
   where
-    by : (w.at ≡ cell.Branch row) ⊎ (drop count parts ≡ []) → CellStands cells 0 (3 - count) (cell.Branch row) w.left
+    by : (w.at ≡ cell.Branch branch) ⊎ (drop count parts ≡ []) → CellStands cells 0 (3 - count) (cell.Branch branch) w.left
     by (inl is) = subst (λ (c : Cell). CellStands cells 0 (3 - count) c w.left) is w.stands
     by (inr none) = let wrong : part ∷ drop (count + 1) parts ≡ [] = sym (drop_some count part parts e) ∙ none in absurd cc
 
-among_more : (a : Align) (cells : List Cell) (codes : List (List ℕ)) (parts : List ℕ) (row : Branch) (count part : ℕ) (before now : List Bool) (w : Writing a cells codes parts row count before now) → slice_get parts count ≡ Some part → slice_get w.left w.index ≡ Some (record { parts = part ∷ drop (count + 1) parts; item = w.place })
-among_more a cells codes parts row count part before now w e = w.among ∙ ap (λ (ps : List ℕ). Some (record { parts = ps; item = w.place })) (drop_some count part parts e)
+among_more : (a : Align) (cells : List Cell) (codes : List (List ℕ)) (parts : List ℕ) (branch : Branch) (count part : ℕ) (before now : List Bool) (w : Writing a cells codes parts branch count before now) → slice_get parts count ≡ Some part → slice_get w.left w.index ≡ Some (record { parts = part ∷ drop (count + 1) parts; item = w.place })
+among_more a cells codes parts branch count part before now w e = w.among ∙ ap (λ (ps : List ℕ). Some (record { parts = ps; item = w.place })) (drop_some count part parts e)
 
-pub write_below : (a : Align) (cells : List Cell) (codes : List (List ℕ)) (parts : List ℕ) (row : Branch) (count part : ℕ) (before now : List Bool) → Writing a cells codes parts row count before now → count < 3 → slice_get parts count ≡ Some part → part < row.count
-write_below a cells codes parts row count part before now w less e =
-    let s = row_of a cells codes parts row count part before now w less e in
-    omega (arith, s.1, below_values w.left w.index part (drop (count + 1) parts) w.place (among_more a cells codes parts row count part before now w e))
+pub write_below : (a : Align) (cells : List Cell) (codes : List (List ℕ)) (parts : List ℕ) (branch : Branch) (count part : ℕ) (before now : List Bool) → Writing a cells codes parts branch count before now → count < 3 → slice_get parts count ≡ Some part → part < branch.count
+write_below a cells codes parts branch count part before now w less e =
+    let s = row_of a cells codes parts branch count part before now w less e in
+    omega (arith, s.1, below_values w.left w.index part (drop (count + 1) parts) w.place (among_more a cells codes parts branch count part before now w e))
 
-pub write_within : (a : Align) (cells : List Cell) (codes : List (List ℕ)) (parts : List ℕ) (row : Branch) (count part : ℕ) (before now : List Bool) → Writing a cells codes parts row count before now → count < 3 → slice_get parts count ≡ Some part → row.begin + part < length cells
-write_within a cells codes parts row count part before now w less e =
-    let s = row_of a cells codes parts row count part before now w less e in
-    omega (arith, s.3, write_below a cells codes parts row count part before now w less e)
+pub write_within : (a : Align) (cells : List Cell) (codes : List (List ℕ)) (parts : List ℕ) (branch : Branch) (count part : ℕ) (before now : List Bool) → Writing a cells codes parts branch count before now → count < 3 → slice_get parts count ≡ Some part → branch.begin + part < length cells
+write_within a cells codes parts branch count part before now w less e =
+    let s = row_of a cells codes parts branch count part before now w less e in
+    omega (arith, s.3, write_below a cells codes parts branch count part before now w less e)
 
--- one part more: where the code ends the row stays
-pub write_next : (a : Align) (cells : List Cell) (codes : List (List ℕ)) (parts : List ℕ) (row next : Branch) (count part : ℕ) (before now new : List Bool) → Writing a cells codes parts row count before now → count < 3 → slice_get parts count ≡ Some part → new ≡ now ++ number (width_for row.count) a part →
-    (cell_at cells (row.begin + part) ≡ cell.Branch next) ⊎ ((place : ℕ) × (cell_at cells (row.begin + part) ≡ cell.Leaf place)) → Writing a cells codes parts next (count + 1) before new
-write_next a cells codes parts row next count part before now new w less e put found = record {
+-- one part more: where the code ends the branch stays
+pub write_next : (a : Align) (cells : List Cell) (codes : List (List ℕ)) (parts : List ℕ) (branch next : Branch) (count part : ℕ) (before now new : List Bool) → Writing a cells codes parts branch count before now → count < 3 → slice_get parts count ≡ Some part → new ≡ now ++ number (width_for branch.count) a part →
+    (cell_at cells (branch.begin + part) ≡ cell.Branch next) ⊎ ((place : ℕ) × (cell_at cells (branch.begin + part) ≡ cell.Leaf place)) → Writing a cells codes parts next (count + 1) before new
+write_next a cells codes parts branch next count part before now new w less e put found = record {
   left = behind (part ∷ []) w.left;
-  at = cell_at cells (row.begin + part);
+  at = cell_at cells (branch.begin + part);
   stands = stands;
   goes_on = by found;
   place = w.place;
   index = one.index;
   among = one.there;
-  written = w.written ++ number (width_for row.count) a part;
-  so_far = put ∙ ap (λ (bits : List Bool). bits ++ number (width_for row.count) a part) w.so_far ∙ append_assoc before w.written (number (width_for row.count) a part);
+  written = w.written ++ number (width_for branch.count) a part;
+  so_far = put ∙ ap (λ (bits : List Bool). bits ++ number (width_for branch.count) a part) w.so_far ∙ append_assoc before w.written (number (width_for branch.count) a part);
   whole = whole;
 }
   where
-    s : CellStands cells 0 (suc (3 - (count + 1))) (cell.Branch row) w.left
-    s = row_of a cells codes parts row count part before now w less e
+    s : CellStands cells 0 (suc (3 - (count + 1))) (cell.Branch branch) w.left
+    s = row_of a cells codes parts branch count part before now w less e
 
     among : slice_get w.left w.index ≡ Some (record { parts = part ∷ drop (count + 1) parts; item = w.place })
-    among = among_more a cells codes parts row count part before now w e
+    among = among_more a cells codes parts branch count part before now w e
 
     one : OneOf (behind (part ∷ []) w.left) (record { parts = drop (count + 1) parts; item = w.place })
     one = stays_among w.left w.index part (drop (count + 1) parts) w.place among
 
-    stands : CellStands cells 0 (3 - (count + 1)) (cell_at cells (row.begin + part)) (behind (part ∷ []) w.left)
-    stands = s.4 part (write_below a cells codes parts row count part before now w less e)
+    stands : CellStands cells 0 (3 - (count + 1)) (cell_at cells (branch.begin + part)) (behind (part ∷ []) w.left)
+    stands = s.4 part (write_below a cells codes parts branch count part before now w less e)
 
-    by : (cell_at cells (row.begin + part) ≡ cell.Branch next) ⊎ ((place : ℕ) × (cell_at cells (row.begin + part) ≡ cell.Leaf place)) → (cell_at cells (row.begin + part) ≡ cell.Branch next) ⊎ (drop (count + 1) parts ≡ [])
+    by : (cell_at cells (branch.begin + part) ≡ cell.Branch next) ⊎ ((place : ℕ) × (cell_at cells (branch.begin + part) ≡ cell.Leaf place)) → (cell_at cells (branch.begin + part) ≡ cell.Branch next) ⊎ (drop (count + 1) parts ≡ [])
     by (inl is) = inl is
     by (inr leaf) = inr (alone_ended (behind (part ∷ []) w.left) one.index w.place leaf.0 (drop (count + 1) parts) (stands_leaf cells 0 (3 - (count + 1)) leaf.0 (behind (part ∷ []) w.left) (subst (λ (c : Cell). CellStands cells 0 (3 - (count + 1)) c (behind (part ∷ []) w.left)) leaf.1 stands)) one.there)
 
-    whole : code_bits a codes parts ≡ (w.written ++ number (width_for row.count) a part) ++ code_bits a (parts_in (behind (part ∷ []) w.left)) (drop (count + 1) parts)
+    whole : code_bits a codes parts ≡ (w.written ++ number (width_for branch.count) a part) ++ code_bits a (parts_in (behind (part ∷ []) w.left)) (drop (count + 1) parts)
     whole =
         w.whole
         ∙ ap (λ (ps : List ℕ). w.written ++ code_bits a (parts_in w.left) ps) (drop_some count part parts e)
         ∙ ap (λ (bits : List Bool). w.written ++ bits) (bits_more a (parts_in w.left) part (drop (count + 1) parts))
         ∙ ap (λ (k : ℕ). w.written ++ (number (width_for k) a part ++ code_bits a (going_on part (parts_in w.left)) (drop (count + 1) parts))) s.1
-        ∙ ap (λ (cs : List (List ℕ)). w.written ++ (number (width_for row.count) a part ++ code_bits a cs (drop (count + 1) parts))) (sym (parts_behind part w.left))
-        ∙ sym (append_assoc w.written (number (width_for row.count) a part) (code_bits a (parts_in (behind (part ∷ []) w.left)) (drop (count + 1) parts)))
+        ∙ ap (λ (cs : List (List ℕ)). w.written ++ (number (width_for branch.count) a part ++ code_bits a cs (drop (count + 1) parts))) (sym (parts_behind part w.left))
+        ∙ sym (append_assoc w.written (number (width_for branch.count) a part) (code_bits a (parts_in (behind (part ∷ []) w.left)) (drop (count + 1) parts)))
 
 -- the code has ended already
-pub write_over : (a : Align) (cells : List Cell) (codes : List (List ℕ)) (parts : List ℕ) (row : Branch) (count : ℕ) (before now : List Bool) → Writing a cells codes parts row count before now → slice_get parts count ≡ None → Writing a cells codes parts row (count + 1) before now
-write_over a cells codes parts row count before now w e = record {
+pub write_over : (a : Align) (cells : List Cell) (codes : List (List ℕ)) (parts : List ℕ) (branch : Branch) (count : ℕ) (before now : List Bool) → Writing a cells codes parts branch count before now → slice_get parts count ≡ None → Writing a cells codes parts branch (count + 1) before now
+write_over a cells codes parts branch count before now w e = record {
   left = w.left;
   at = w.at;
   stands = by w.at (3 - count) (3 - (count + 1)) w.stands;
@@ -229,15 +229,15 @@ write_over a cells codes parts row count before now w e = record {
     by (cell.Leaf place) zero (suc m) h = h
     by (cell.Leaf place) (suc n) zero h = h
     by (cell.Leaf place) (suc n) (suc m) h = h
-    by (cell.Branch row) zero m h = absurd h
-    by (cell.Branch row) (suc n) m h = absurd (ended_some w.left w.index w.place told h.0)
+    by (cell.Branch branch) zero m h = absurd h
+    by (cell.Branch branch) (suc n) m h = absurd (ended_some w.left w.index w.place told h.0)
 
-pub write_done : (a : Align) (cells : List Cell) (codes : List (List ℕ)) (parts : List ℕ) (row : Branch) (count : ℕ) (before now : List Bool) → Writing a cells codes parts row count before now → length parts ≤ count → now ≡ before ++ code_bits a codes parts
-write_done a cells codes parts row count before now w few =
+pub write_done : (a : Align) (cells : List Cell) (codes : List (List ℕ)) (parts : List ℕ) (branch : Branch) (count : ℕ) (before now : List Bool) → Writing a cells codes parts branch count before now → length parts ≤ count → now ≡ before ++ code_bits a codes parts
+write_done a cells codes parts branch count before now w few =
     w.so_far ∙ ap (λ (bits : List Bool). before ++ bits) (sym (w.whole ∙ ap (λ (bits : List Bool). w.written ++ bits) (bits_none a (parts_in w.left) (drop count parts) (drop_few count parts few)) ∙ append-nil w.written))
 
-pub write_front : (a : Align) (cells : List Cell) (codes : List (List ℕ)) (parts : List ℕ) (row : Branch) (count : ℕ) (before now new : List Bool) → Writing a cells codes parts row count before now → new ≡ now → HoldsFront before (code_bits a codes parts) new
-write_front a cells codes parts row count before now new w same = record {
+pub write_front : (a : Align) (cells : List Cell) (codes : List (List ℕ)) (parts : List ℕ) (branch : Branch) (count : ℕ) (before now new : List Bool) → Writing a cells codes parts branch count before now → new ≡ now → HoldsFront before (code_bits a codes parts) new
+write_front a cells codes parts branch count before now new w same = record {
   front = w.written;
   behind = code_bits a (parts_in w.left) (drop count parts);
   parts = w.whole;
