@@ -48,7 +48,7 @@ fn codes_are_numbered(rt: HostRuntime) -> Result<(), Fail> {
     }
     let mut out = BitOut::new(alloc);
     state.write(&mut out, 4, Align::Bits)?;
-    assert_eq!(rt; out.bytes(), &[0xB0]);
+    assert_eq!(rt; out.bytes(), [0xB0].as_slice());
     assert_eq!(rt; state.productions(alloc)?.as_slice().len(), 5);
     let _table = state.table(alloc)?;
     Ok(())
