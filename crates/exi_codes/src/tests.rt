@@ -41,7 +41,7 @@ fn codes_are_written_and_read_back(rt: HostRuntime) -> Result<(), Fail> {
         assert!(rt; may_read(&book, 1) && may_write(&book, 1, 3));
         if may_read(&book, 1) && may_write(&book, 1, 3) {
             write_code(&mut out, &book, 0, 1, 3)?;
-            assert_eq!(rt; out.bytes(), &[0xE0]);
+            assert_eq!(rt; out.bytes(), [0xE0].as_slice());
             let mut input = BitIn::new(&[0xE0]);
             assert_eq!(rt; read_code(&mut input, &book, 0, 1), Ok(3));
             assert_eq!(rt; input.at(), 3);
