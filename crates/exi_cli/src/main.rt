@@ -10,7 +10,7 @@ use std::{env, io};
 
 /// The number with which the program ends.
 fn exit(status: Status) -> ExitCode {
-    ExitCode::from(status as u8)
+    ExitCode::from(status.number())
 }
 
 fn main(rt: HostRuntime) -> ExitCode {

@@ -1,248 +1,338 @@
 -- What the status says, in parts.
-use Rattle.std.proofs.Common.{◌≡◌, ◌≤◌, ◌<◌, ◌⊎◌, ℕ, List, [], ◌∷◌, ◌++◌, Option, Some, None, Ok, Err, inl, inr, length, take, drop, refl, sym, ap, ◌∙◌, subst, arith}
-use Rattle.std.specs.Prelude.{codes, IfSome}
+use Rattle.std.proofs.Common.{◌≡◌, ◌≢◌, ◌≤◌, ◌⊎◌, ℕ, List, [], ◌∷◌, ◌++◌, Option, Some, None, Ok, Err, inl, inr, length, take, drop, refl, sym, ap, ◌∙◌, subst, arith}
+use Rattle.std.specs.Prelude.{IfSome}
 use Rattle.std.proofs.lemmas.List.{append-nil, take-append-drop}
-use Rattle.std.proofs.lemmas.Bool.{cases_lt}
-use Rattle.exi_names.specs.Events.{Happening, Grows}
-use Rattle.exi_ports.specs.Ports.{GrowsInPart, file_at}
+use Rattle.exi_names.specs.Events.{Grows}
+use Rattle.exi_ports.specs.Ports.{Fetched, IsAnswer, GrowsInPart, file_at}
+use Rattle.exi_ports.specs.declared.shelf.Fetch.TheVariants as fetch
+use Rattle.exi_run.specs.declared.halt.Halt.TheVariants as halt
+use Rattle.exi_run.specs.declared.halt.Refusal.{Refusal}
+use Rattle.exi_run.specs.declared.halt.Refusal.TheVariants as refusal
+use Rattle.exi_run.specs.declared.halt.Role.{Role}
 use Rattle.exi_run.specs.declared.reader.End.{End}
 use Rattle.exi_run.specs.declared.reader.End.TheVariants as end
 use Rattle.exi_run.specs.declared.status.Status.{Status}
 use Rattle.exi_run.specs.declared.status.Status.TheVariants as status
-use Rattle.exi_run.specs.declared.status.Halt.TheVariants as halt
+use Rattle.exi_run.specs.Answers.{Answered, AnsweredBy, AreWithin, GrowsByPieces, HasLong, HasRole, IsAnswered, IsLater, IsLong, IsWithin, MayRefuse, OfFile, RefusalPut, Served, Starves, Tells, no_memory}
+use Rattle.exi_run.specs.Dues.{Due, Files, found, long, failed, OwedBy, OwedFrom, OwedOf, most_bytes, refusal_due, status_of, text_of}
+use Rattle.exi_run.specs.Printing.{grows_more, grows_none}
+use Rattle.exi_run.specs.Refusals.{refusal_line, refusal_status}
 use Rattle.exi_run.specs.Sequence.{IsWhole}
-use Rattle.exi_run.specs.Printing.{grows_more}
-use Rattle.exi_run.specs.Answers.{Due, most_bytes, text_of, one_line, usage_due, failed_due, long_due, whole_due, status_of, OwedOf, OwedBy, OwedFrom, Owed, Answered, Served, GrowsByLines, no_memory, Files, OfFile, IsTold, Tells, IsOr, IsLater, RefusalPut}
+use Rattle.exi_run.specs.Statuses.{Sort, told, refuses, breaks, starved, sort_of, IsOr, IsTold}
+use Rattle.exi_run.specs.Tasks.{Task, read, Need, needs, needs_of, read_file}
 use Rattle.exi_run.proofs.Owing.{text-whole}
 use Rattle.exi_run.proofs.Runs.{whole_lines}
 
--- ---- what may be owed: one of three lines, or the whole of a stream
-abbrev IsKind : Option (List ℕ) → Due → Type 0
-IsKind name due = ((name ≡ None) × (due ≡ usage_due)) ⊎ ((due ≡ failed_due) ⊎ ((due ≡ long_due) ⊎ IsTold due.status))
+-- ---- what may be owed: a refusal's line, or what a command owes whose files were found
+abbrev AreFound : Option Files → List Need → List (List ℕ) → Type 0
+AreFound files [] [] = Unit {0}
+AreFound files [] (b ∷ bs) = ⊥
+AreFound files (n ∷ ns) [] = ⊥
+AreFound files (n ∷ ns) (b ∷ bs) = Fetched files n.name most_bytes (fetch.Bytes b) × AreFound files ns bs
 
-told_of : (s : Status) (e : End) → s ≡ status_of e → IsTold s
-told_of s (end.Done bit) is = subst IsTold (sym is) tt
-told_of s (end.Fault f) is = subst IsTold (sym is) tt
-told_of s (end.NotBuilt bit) is = subst IsTold (sym is) tt
+abbrev OneLong : Option Files → List Need → Role → Type 0
+OneLong files [] role = ⊥
+OneLong files (n ∷ ns) role = ((role ≡ n.role) × Fetched files n.name most_bytes fetch.TooLong) ⊎ OneLong files ns role
 
-of_bytes : (name : Option (List ℕ)) (bytes : List ℕ) (due : Due) → OwedOf bytes due → IsKind name due
-of_bytes name bytes due owed =
-    elim (cases_lt most_bytes (length bytes)) [
-      | inl long ↦ inr (inr (inl (owed.0 long)))
-      | inr few ↦ let w = owed.1 few in inr (inr (inr (told_of due.status w.1 (ap (λ (d : Due). d.status) w.3))))
-    ]
+abbrev Causes : Option Task → Option Files → Refusal → Type 0
+Causes t files refusal.Usage = t ≡ None
+Causes t files refusal.ReadFailed = t ≢ None
+Causes t files (refusal.TooLong role) = OneLong files (needs_of t) role
 
-of_file : (name file : Option (List ℕ)) (due : Due) → OwedBy file due → IsKind name due
-of_file name None due owed = inr (inl owed)
-of_file name (Some bytes) due owed = of_bytes name bytes due owed
+-- of the files
+abbrev FileCauses : Option Files → List Need → Refusal → Type 0
+FileCauses files ns refusal.Usage = ⊥
+FileCauses files ns refusal.ReadFailed = Unit {0}
+FileCauses files ns (refusal.TooLong role) = OneLong files ns role
 
-of_files : (name : List ℕ) (files : Option Files) (due : Due) → OwedFrom name files due → IsKind (Some name) due
-of_files name None due (inl long) = inr (inr (inl long))
-of_files name None due (inr some) = of_bytes (Some name) some.0 due some.2
-of_files name (Some held) due owed = of_file (Some name) (file_at held name) due owed
+abbrev IsRefused : Option Files → List Need → Due → Type 0
+IsRefused files ns due = (r : Refusal) × (due ≡ refusal_due r) × FileCauses files ns r
 
-kinds : (name : Option (List ℕ)) (files : Option Files) (rose : Type 0) (due : Due) → Owed name files rose due → IsKind name due
-kinds None files rose due owed = inl (refl, owed)
-kinds (Some name) files rose due (inl failed) = inr (inl failed.1)
-kinds (Some name) files rose due (inr owed) = of_files name files due owed
+abbrev AreDone : Option Files → List Need → (List (List ℕ) → Type 0) → Type 0
+AreDone files ns rest = (bs : List (List ℕ)) × AreFound files ns bs × rest bs
 
--- ---- from what was served to the status
-abbrev IsWholeStatus : Status → Type 0
-IsWholeStatus s = IsTold s ⊎ ((s ≡ status.Usage) ⊎ ((s ≡ status.ReadFault) ⊎ (s ≡ status.TooLong)))
+cause_more : (files : Option Files) (n : Need) (ns : List Need) (r : Refusal) → FileCauses files ns r → FileCauses files (n ∷ ns) r
+cause_more files n ns refusal.Usage c = absurd c
+cause_more files n ns refusal.ReadFailed c = tt
+cause_more files n ns (refusal.TooLong role) c = inr c
 
-whole_status : (name : Option (List ℕ)) (due : Due) → IsKind name due → IsWholeStatus due.status
-whole_status name due (inl k) = inr (inl (ap (λ (d : Due). d.status) k.1))
-whole_status name due (inr (inl k)) = inr (inr (inl (ap (λ (d : Due). d.status) k)))
-whole_status name due (inr (inr (inl k))) = inr (inr (inr (ap (λ (d : Due). d.status) k)))
-whole_status name due (inr (inr (inr k))) = inl k
+one_more : (files : Option Files) (n : Need) (ns : List Need) (rest : List (List ℕ) → Type 0) (due : Due) (b : List ℕ) → Fetched files n.name most_bytes (fetch.Bytes b) → AreDone files ns (λ bs. rest (b ∷ bs)) ⊎ IsRefused files ns due → AreDone files (n ∷ ns) rest ⊎ IsRefused files (n ∷ ns) due
+one_more files n ns rest due b had (inl done) = inl (b ∷ done.0, (had, done.1), done.2)
+one_more files n ns rest due b had (inr lost) = inr (lost.0, lost.1, cause_more files n ns lost.0 lost.2)
 
--- a status by which no text is owed
-none_whole : (s : Status) → (IsTold s → ⊥) → (s ≡ status.Usage → ⊥) → (s ≡ status.ReadFault → ⊥) → (s ≡ status.TooLong → ⊥) → IsWholeStatus s → ⊥
-none_whole s a b c d (inl h) = a h
-none_whole s a b c d (inr (inl h)) = b h
-none_whole s a b c d (inr (inr (inl h))) = c h
-none_whole s a b c d (inr (inr (inr h))) = d h
+by_files : (files : Option Files) (rose : Type 0) (ns : List Need) (rest : List (List ℕ) → Type 0) (due : Due) → OwedFrom files rose ns rest due → AreDone files ns rest ⊎ IsRefused files ns due
+by_files files rose [] rest due o = inl ([], tt, o)
+by_files files rose (n ∷ ns) rest due (found b, had, o) = one_more files n ns rest due b had (by_files files rose ns (λ bs. rest (b ∷ bs)) due o)
+by_files files rose (n ∷ ns) rest due (long, had, is) = inr (refusal.TooLong n.role, is, inl (refl, had))
+by_files files rose (n ∷ ns) rest due (failed, had, is) = inr (refusal.ReadFailed, is, tt)
 
-answer_by : (s : Status) (due : Due) (old new : Option (List ℕ)) → IsWholeStatus s → due.status ≡ s → Grows old (text_of due.lines) new → Answered due s old new
-answer_by status.Ok due old new w is g = (is, g)
-answer_by status.Fault due old new w is g = (is, g)
-answer_by status.Usage due old new w is g = (is, g)
-answer_by status.Schema due old new w is g = absurd (none_whole status.Schema (λ h. h) (λ h. cc) (λ h. cc) (λ h. cc) w)
-answer_by status.ReadFault due old new w is g = (is, g)
-answer_by status.WriteFault due old new w is g = absurd (none_whole status.WriteFault (λ h. h) (λ h. cc) (λ h. cc) (λ h. cc) w)
-answer_by status.NoMemory due old new w is g = absurd (none_whole status.NoMemory (λ h. h) (λ h. cc) (λ h. cc) (λ h. cc) w)
-answer_by status.Events due old new w is g = absurd (none_whole status.Events (λ h. h) (λ h. cc) (λ h. cc) (λ h. cc) w)
-answer_by status.Hints due old new w is g = absurd (none_whole status.Hints (λ h. h) (λ h. cc) (λ h. cc) (λ h. cc) w)
-answer_by status.TooLong due old new w is g = (is, g)
+-- ---- what came of it
+abbrev IsDone : Option Task → Option Files → Due → Type 0
+IsDone None files due = ⊥
+IsDone (Some t) files due = AreDone files (needs t) (OwedBy t due)
 
-pub answers_ok : (s : Status) (name : Option (List ℕ)) (files : Option Files) (rose : Type 0) (old new : Option (List ℕ)) → Served name files rose (Ok s) old new → (due : Due) × Owed name files rose due × Answered due s old new
-answers_ok s name files rose old new (due, owed, did) =
-    (due, owed, answer_by s due old new (subst IsWholeStatus (sym did.0) (whole_status name due (kinds name files rose due owed))) (sym did.0) did.1)
+abbrev IsPut : Status → Due → Option (List ℕ) → Option (List ℕ) → Type 0
+IsPut s due old new = (due.status ≡ s) × Grows old (text_of due.pieces) new
 
-pub answers_write : (name : Option (List ℕ)) (files : Option Files) (rose : Type 0) (old new : Option (List ℕ)) → Served name files rose (Err halt.Write) old new → (due : Due) × Owed name files rose due × Answered due status.WriteFault old new
-answers_write name files rose old new (due, owed, did) = (due, owed, inl did)
+abbrev CameDone : Option Task → Option Files → Status → Option (List ℕ) → Option (List ℕ) → Type 0
+CameDone t files s old new = (due : Due) × IsDone t files due × IsPut s due old new × IsTold s
 
--- the line on want of memory: put, not begun, or broken off
-by_lines : (old mid new : Option (List ℕ)) (ls : List (List ℕ)) (piece : List ℕ) → GrowsByLines old ls [] mid → Grows mid piece new → GrowsByLines old ls piece new
-by_lines old mid new ls piece (some, l, others, is, g) h =
-    (some, l, others, is, subst (λ (t : List ℕ). Grows old t new) (ap (λ (t : List ℕ). t ++ piece) (append-nil (text_of some))) (grows_more old mid new (text_of some ++ []) piece g h))
+abbrev CameRefused : Option Task → Option Files → Status → Option (List ℕ) → Option (List ℕ) → Type 0
+CameRefused t files s old new = (r : Refusal) × Causes t files r × (s ≡ refusal_status r) × Grows old (refusal_line r) new
 
-pub memory_put : (name : Option (List ℕ)) (files : Option Files) (rose : Type 0) (old mid new : Option (List ℕ)) → Served name files rose (Err halt.Memory) old mid → Grows mid no_memory new → (due : Due) × Owed name files rose due × Answered due status.NoMemory old new
-memory_put name files rose old mid new (due, owed, did) g = (due, owed, inr (by_lines old mid new due.lines no_memory did g))
+abbrev Came : Option Task → Option Files → Status → Option (List ℕ) → Option (List ℕ) → Type 0
+Came t files s old new = CameDone t files s old new ⊎ (CameRefused t files s old new ⊎ ((s ≡ status.WriteFault) ⊎ (s ≡ status.NoMemory)))
 
-pub memory_none : (name : Option (List ℕ)) (files : Option Files) (rose : Type 0) (old mid new : Option (List ℕ)) → Served name files rose (Err halt.Memory) old mid → new ≡ mid → (due : Due) × Owed name files rose due × Answered due status.NoMemory old new
-memory_none name files rose old mid new (due, owed, did) is = (due, owed, inl (subst (λ (o : Option (List ℕ)). GrowsByLines old due.lines [] o) (sym is) did))
-
-pub memory_part : (name : Option (List ℕ)) (files : Option Files) (rose : Type 0) (old mid new : Option (List ℕ)) → Served name files rose (Err halt.Memory) old mid → GrowsInPart mid no_memory new → (due : Due) × Owed name files rose due × Answered due status.WriteFault old new
-memory_part name files rose old mid new (due, owed, did) p =
-    (due, owed, inr (take p.0 no_memory, drop p.0 no_memory, sym (take-append-drop p.0 no_memory), by_lines old mid new due.lines (take p.0 no_memory) did p.2))
-
--- ---- the parts
--- all that was owed was put, or one of two statuses stands
-put_or : (s : Status) (due : Due) (old new : Option (List ℕ)) → Answered due s old new → ((due.status ≡ s) × Grows old (text_of due.lines) new) ⊎ ((s ≡ status.WriteFault) ⊎ (s ≡ status.NoMemory))
+put_or : (s : Status) (due : Due) (old new : Option (List ℕ)) → Answered due s old new → IsPut s due old new ⊎ ((s ≡ status.WriteFault) ⊎ (s ≡ status.NoMemory))
 put_or status.Ok due old new a = inl a
 put_or status.Fault due old new a = inl a
 put_or status.Usage due old new a = inl a
-put_or status.Schema due old new a = absurd a
+put_or status.Schema due old new a = inl a
 put_or status.ReadFault due old new a = inl a
 put_or status.WriteFault due old new a = inr (inl refl)
 put_or status.NoMemory due old new a = inr (inr refl)
-put_or status.Events due old new a = absurd a
-put_or status.Hints due old new a = absurd a
+put_or status.Events due old new a = inl a
+put_or status.Hints due old new a = inl a
 put_or status.TooLong due old new a = inl a
 
-abbrev IsAnswer : Option (List ℕ) → Option Files → Type 0 → Status → Option (List ℕ) → Option (List ℕ) → Type 0
-IsAnswer name files rose s old new = (due : Due) × Owed name files rose due × Answered due s old new
+told_end : (e : End) → IsTold (status_of e)
+told_end (end.Done bit) = refl
+told_end (end.Fault f) = refl
+told_end (end.NotBuilt bit) = refl
 
-not_told : (s t : Status) → s ≡ t → (IsTold t → ⊥) → IsTold s → ⊥
-not_told s t is none told = none (subst IsTold is told)
+done_told : (t : Task) (due : Due) (bs : List (List ℕ)) → OwedBy t due bs → IsTold due.status
+done_told (read file) due [] o = absurd o
+done_told (read file) due (b ∷ bs) (es, e, w, is) = subst (λ (d : Due). IsTold d.status) (sym is) (told_end e)
 
--- a fact of the file that is owed: where it failed, where it is too long, and where it is read
-by_file : (file : Option (List ℕ)) (rose : Type 0) (s : Status) (old new : Option (List ℕ)) (P : List ℕ → Type 0) (due : Due) → ((rose × (due ≡ failed_due)) ⊎ OwedBy file due) → Answered due s old new
-    → ((bytes : List ℕ) → rose → due ≡ failed_due → P bytes) → ((bytes : List ℕ) → most_bytes < length bytes → due ≡ long_due → P bytes)
-    → ((bytes : List ℕ) → length bytes ≤ most_bytes → (es : List Happening) (e : End) → IsWhole bytes es e → due ≡ whole_due es e → P bytes) → IfSome file P
-by_file None rose s old new P due owed a f g h = tt
-by_file (Some bytes) rose s old new P due (inl failed) a f g h = f bytes failed.0 failed.1
-by_file (Some bytes) rose s old new P due (inr owed) a f g h =
-    elim (cases_lt most_bytes (length bytes)) [
-      | inl long ↦ g bytes long (owed.0 long)
-      | inr few ↦ let w = owed.1 few in h bytes few w.0 w.1 w.2 w.3
-    ]
+came_done : (t : Task) (files : Option Files) (s : Status) (old new : Option (List ℕ)) (due : Due) → AreDone files (needs t) (OwedBy t due) → IsPut s due old new → CameDone (Some t) files s old new
+came_done t files s old new due done p = (due, done, p, subst IsTold p.0 (done_told t due done.0 done.2))
 
-by_words : (name : Option (List ℕ)) (files : Option Files) (rose : Type 0) (s : Status) (old new : Option (List ℕ)) (P : List ℕ → Type 0) (due : Due) → Owed name files rose due → Answered due s old new
-    → ((bytes : List ℕ) → rose → due ≡ failed_due → P bytes) → ((bytes : List ℕ) → most_bytes < length bytes → due ≡ long_due → P bytes)
-    → ((bytes : List ℕ) → length bytes ≤ most_bytes → (es : List Happening) (e : End) → IsWhole bytes es e → due ≡ whole_due es e → P bytes) → OfFile name files P
-by_words None files rose s old new P due owed a f g h = tt
-by_words (Some name) None rose s old new P due owed a f g h = tt
-by_words (Some name) (Some held) rose s old new P due owed a f g h = by_file (file_at held name) rose s old new P due owed a f g h
+refused_put : (s : Status) (old new : Option (List ℕ)) (due : Due) (r : Refusal) → due ≡ refusal_due r → IsPut s due old new → (s ≡ refusal_status r) × Grows old (refusal_line r) new
+refused_put s old new due r is p =
+    (sym p.0 ∙ ap (λ (d : Due). d.status) is, subst (λ (t : List ℕ). Grows old t new) (ap (λ (d : Due). text_of d.pieces) is ∙ append-nil (refusal_line r)) p.1)
 
-same_status : (due d : Due) → due ≡ d → due.status ≡ d.status
-same_status due d is = ap (λ (x : Due). x.status) is
+of_file_cause : (t : Task) (files : Option Files) (r : Refusal) → FileCauses files (needs t) r → Causes (Some t) files r
+of_file_cause t files refusal.Usage c = absurd c
+of_file_cause t files refusal.ReadFailed c = λ h. cc
+of_file_cause t files (refusal.TooLong role) c = c
 
-tells_whole : (s : Status) (old new : Option (List ℕ)) (due : Due) (bytes : List ℕ) (es : List Happening) (e : End) → IsTold s → IsWhole bytes es e → due ≡ whole_due es e
-    → (((due.status ≡ s) × Grows old (text_of due.lines) new) ⊎ ((s ≡ status.WriteFault) ⊎ (s ≡ status.NoMemory))) → Tells s old new bytes
-tells_whole s old new due bytes es e told w is (inl a) =
-    (es, e, w, whole_lines bytes es e w, sym a.0 ∙ same_status due (whole_due es e) is, subst (λ (t : List ℕ). Grows old t new) (ap (λ (d : Due). text_of d.lines) is ∙ text-whole es e) a.1)
-tells_whole s old new due bytes es e told w is (inr (inl b)) = absurd (not_told s status.WriteFault b (λ h. h) told)
-tells_whole s old new due bytes es e told w is (inr (inr b)) = absurd (not_told s status.NoMemory b (λ h. h) told)
+came_by : (t : Task) (files : Option Files) (s : Status) (old new : Option (List ℕ)) (due : Due) → (AreDone files (needs t) (OwedBy t due) ⊎ IsRefused files (needs t) due) → (IsPut s due old new ⊎ ((s ≡ status.WriteFault) ⊎ (s ≡ status.NoMemory))) → Came (Some t) files s old new
+came_by t files s old new due o (inr early) = inr (inr early)
+came_by t files s old new due (inl done) (inl p) = inl (came_done t files s old new due done p)
+came_by t files s old new due (inr lost) (inl p) = let put = refused_put s old new due lost.0 lost.1 p in inr (inl (lost.0, of_file_cause t files lost.0 lost.2, put.0, put.1))
 
--- a told status is not that of a refusal
-told_is : (s : Status) (old new : Option (List ℕ)) (due d : Due) → IsTold s → due ≡ d → (IsTold d.status → ⊥) → (((due.status ≡ s) × Grows old (text_of due.lines) new) ⊎ ((s ≡ status.WriteFault) ⊎ (s ≡ status.NoMemory))) → ⊥
-told_is s old new due d told is none (inl a) = not_told s d.status (sym a.0 ∙ same_status due d is) none told
-told_is s old new due d told is none (inr (inl b)) = not_told s status.WriteFault b (λ h. h) told
-told_is s old new due d told is none (inr (inr b)) = not_told s status.NoMemory b (λ h. h) told
+came_usage : (files : Option Files) (s : Status) (old new : Option (List ℕ)) (due : Due) → due ≡ refusal_due refusal.Usage → (IsPut s due old new ⊎ ((s ≡ status.WriteFault) ⊎ (s ≡ status.NoMemory))) → Came None files s old new
+came_usage files s old new due is (inr early) = inr (inr early)
+came_usage files s old new due is (inl p) = let put = refused_put s old new due refusal.Usage is p in inr (inl (refusal.Usage, refl, put.0, put.1))
 
-pub tells : (name : Option (List ℕ)) (files : Option Files) (rose : Type 0) (s : Status) (old new : Option (List ℕ)) → IsAnswer name files rose s old new → OfFile name files (λ bytes. IsTold s → Tells s old new bytes)
-tells name files rose s old new (due, owed, a) =
-    by_words name files rose s old new (λ bytes. IsTold s → Tells s old new bytes) due owed a
-    (λ bytes r is told. absurd (told_is s old new due failed_due told is (λ h. h) (put_or s due old new a)))
-    (λ bytes long is told. absurd (told_is s old new due long_due told is (λ h. h) (put_or s due old new a)))
-    (λ bytes few es e w is told. tells_whole s old new due bytes es e told w is (put_or s due old new a))
+pub came : (t : Option Task) (files : Option Files) (rose : Type 0) (s : Status) (old new : Option (List ℕ)) → IsAnswered t files rose s old new → Came t files s old new
+came None files rose s old new (due, owed, a) = came_usage files s old new due owed (put_or s due old new a)
+came (Some t) files rose s old new (due, owed, a) = came_by t files s old new due (by_files files rose (needs t) (OwedBy t due) due owed) (put_or s due old new a)
 
-or_by : (s t : Status) (due d : Due) (old new : Option (List ℕ)) → due ≡ d → d.status ≡ t → (((due.status ≡ s) × Grows old (text_of due.lines) new) ⊎ ((s ≡ status.WriteFault) ⊎ (s ≡ status.NoMemory))) → IsOr t s
-or_by s t due d old new is st (inl a) = inl (sym a.0 ∙ same_status due d is ∙ st)
-or_by s t due d old new is st (inr b) = inr b
+-- ---- the clauses
+tells_file : (name : List ℕ) (held : Files) (s : Status) (old new : Option (List ℕ)) (b : List ℕ) (due : Due) (file : Option (List ℕ)) → file_at held name ≡ file → file_at held name ≡ Some b → OwedOf b due → IsPut s due old new → IfSome file (λ bytes. IsTold s → Tells s old new bytes)
+tells_file name held s old new b due None is at o p = tt
+tells_file name held s old new b due (Some bytes) is at (es, e, w, d) p =
+    let same : Some b ≡ Some bytes = sym at ∙ is in
+    let b_is : b ≡ bytes = cc in
+    λ _. (es, e, subst (λ (x : List ℕ). IsWhole x es e) b_is w, whole_lines b es e w, sym p.0 ∙ ap (λ (x : Due). x.status) d, subst (λ (t : List ℕ). Grows old t new) (ap (λ (x : Due). text_of x.pieces) d ∙ text-whole es e) p.1)
 
-pub refused : (name : Option (List ℕ)) (files : Option Files) (rose : Type 0) (s : Status) (old new : Option (List ℕ)) → IsAnswer name files rose s old new → name ≡ None → IsOr status.Usage s
-refused None files rose s old new (due, owed, a) none = or_by s status.Usage due usage_due old new owed refl (put_or s due old new a)
-refused (Some name) files rose s old new h none = absurd cc
+not_told : (s : Status) (file : Option (List ℕ)) (old new : Option (List ℕ)) → (IsTold s → ⊥) → IfSome file (λ bytes. IsTold s → Tells s old new bytes)
+not_told s None old new never = tt
+not_told s (Some bytes) old new never = λ h. absurd (never h)
 
-pub long_is : (name : Option (List ℕ)) (files : Option Files) (rose : Type 0) (s : Status) (old new : Option (List ℕ)) → IsAnswer name files rose s old new → OfFile name files (λ bytes. most_bytes < length bytes → (rose → ⊥) → IsOr status.TooLong s)
-long_is name files rose s old new (due, owed, a) =
-    by_words name files rose s old new (λ bytes. most_bytes < length bytes → (rose → ⊥) → IsOr status.TooLong s) due owed a
-    (λ bytes r is long still. absurd (still r))
-    (λ bytes l is long still. or_by s status.TooLong due long_due old new is refl (put_or s due old new a))
-    (λ bytes few es e w is long still. absurd (omega arith))
+refusal_untold : (r : Refusal) (s : Status) → s ≡ refusal_status r → IsTold s → ⊥
+refusal_untold refusal.Usage s is h = let x : refuses ≡ told = ap sort_of (sym is) ∙ h in absurd cc
+refusal_untold refusal.ReadFailed s is h = let x : refuses ≡ told = ap sort_of (sym is) ∙ h in absurd cc
+refusal_untold (refusal.TooLong role) s is h = let x : refuses ≡ told = ap sort_of (sym is) ∙ h in absurd cc
 
-whole_or : (s : Status) (due : Due) (old new : Option (List ℕ)) (es : List Happening) (e : End) (out : Type 0) → due ≡ whole_due es e → (s ≡ status.WriteFault → out) → (out → ⊥) → (((due.status ≡ s) × Grows old (text_of due.lines) new) ⊎ ((s ≡ status.WriteFault) ⊎ (s ≡ status.NoMemory))) → IsTold s ⊎ (s ≡ status.NoMemory)
-whole_or s due old new es e out is write still (inl a) = inl (told_of s e (sym a.0 ∙ same_status due (whole_due es e) is))
-whole_or s due old new es e out is write still (inr (inl b)) = absurd (still (write b))
-whole_or s due old new es e out is write still (inr (inr b)) = inr b
+early_untold : (s : Status) → ((s ≡ status.WriteFault) ⊎ (s ≡ status.NoMemory)) → IsTold s → ⊥
+early_untold s (inl is) h = let x : breaks ≡ told = ap sort_of (sym is) ∙ h in absurd cc
+early_untold s (inr is) h = let x : starved ≡ told = ap sort_of (sym is) ∙ h in absurd cc
 
-pub completes : (name : Option (List ℕ)) (files : Option Files) (rose out : Type 0) (s : Status) (old new : Option (List ℕ)) → IsAnswer name files rose s old new → (s ≡ status.WriteFault → out) → OfFile name files (λ bytes. length bytes ≤ most_bytes → (rose → ⊥) → (out → ⊥) → IsTold s ⊎ (s ≡ status.NoMemory))
-completes name files rose out s old new (due, owed, a) write =
-    by_words name files rose s old new (λ bytes. length bytes ≤ most_bytes → (rose → ⊥) → (out → ⊥) → IsTold s ⊎ (s ≡ status.NoMemory)) due owed a
-    (λ bytes r is few still calm. absurd (still r))
-    (λ bytes l is few still calm. absurd (omega arith))
-    (λ bytes f es e w is few still calm. whole_or s due old new es e out is write calm (put_or s due old new a))
+tells_by : (name : List ℕ) (held : Files) (s : Status) (old new : Option (List ℕ)) → Came (Some (read name)) (Some held) s old new → IfSome (file_at held name) (λ bytes. IsTold s → Tells s old new bytes)
+tells_by name held s old new (inl (due, ([], are, o), p, h)) = absurd are
+tells_by name held s old new (inl (due, (b ∷ bs, are, o), p, h)) = tells_file name held s old new b due (file_at held name) refl are.0.0 o p
+tells_by name held s old new (inr (inl lost)) = not_told s (file_at held name) old new (refusal_untold lost.0 s lost.2)
+tells_by name held s old new (inr (inr early)) = not_told s (file_at held name) old new (early_untold s early)
 
-status_put : (s t : Status) (due : Due) (old new : Option (List ℕ)) → s ≡ t → (t ≡ status.WriteFault → ⊥) → (t ≡ status.NoMemory → ⊥) → (((due.status ≡ s) × Grows old (text_of due.lines) new) ⊎ ((s ≡ status.WriteFault) ⊎ (s ≡ status.NoMemory))) → (due.status ≡ t) × Grows old (text_of due.lines) new
-status_put s t due old new is a b (inl h) = (h.0 ∙ is, h.1)
-status_put s t due old new is a b (inr (inl h)) = absurd (a (sym is ∙ h))
-status_put s t due old new is a b (inr (inr h)) = absurd (b (sym is ∙ h))
+pub tells : (t : Option Task) (files : Option Files) (rose : Type 0) (s : Status) (old new : Option (List ℕ)) → IsAnswered t files rose s old new → OfFile (read_file t) files (λ bytes. IsTold s → Tells s old new bytes)
+tells None files rose s old new a = tt
+tells (Some (read name)) None rose s old new a = tt
+tells (Some (read name)) (Some held) rose s old new a = tells_by name held s old new (came (Some (read name)) (Some held) rose s old new a)
 
-pub too_long_is : (name : Option (List ℕ)) (files : Option Files) (rose : Type 0) (s : Status) (old new : Option (List ℕ)) → IsAnswer name files rose s old new → OfFile name files (λ bytes. s ≡ status.TooLong → most_bytes < length bytes)
-too_long_is name files rose s old new (due, owed, a) =
-    by_words name files rose s old new (λ bytes. s ≡ status.TooLong → most_bytes < length bytes) due owed a
-    (λ bytes r is st. let h : status.ReadFault ≡ status.TooLong = sym (same_status due failed_due is) ∙ (status_put s status.TooLong due old new st (λ x. cc) (λ x. cc) (put_or s due old new a)).0 in absurd cc)
-    (λ bytes l is st. l)
-    (λ bytes f es e w is st. absurd (told_of status.TooLong e (sym (status_put s status.TooLong due old new st (λ x. cc) (λ x. cc) (put_or s due old new a)).0 ∙ same_status due (whole_due es e) is)))
+-- that there is no command
+refused_by : (files : Option Files) (s : Status) (old new : Option (List ℕ)) → Came None files s old new → IsOr status.Usage s
+refused_by files s old new (inl done) = absurd done.1
+refused_by files s old new (inr (inl (refusal.Usage, c, is, g))) = inl is
+refused_by files s old new (inr (inl (refusal.ReadFailed, c, is, g))) = absurd (c refl)
+refused_by files s old new (inr (inl (refusal.TooLong role, c, is, g))) = absurd c
+refused_by files s old new (inr (inr early)) = inr early
 
--- ---- refusals
-kind_usage : (name : Option (List ℕ)) (due : Due) → IsKind name due → due.status ≡ status.Usage → (name ≡ None) × (due ≡ usage_due)
-kind_usage name due (inl k) st = k
-kind_usage name due (inr (inl k)) st = let h : status.ReadFault ≡ status.Usage = sym (same_status due failed_due k) ∙ st in absurd cc
-kind_usage name due (inr (inr (inl k))) st = let h : status.TooLong ≡ status.Usage = sym (same_status due long_due k) ∙ st in absurd cc
-kind_usage name due (inr (inr (inr k))) st = absurd (subst IsTold st k)
+pub refused : (t : Option Task) (files : Option Files) (rose : Type 0) (s : Status) (old new : Option (List ℕ)) → IsAnswered t files rose s old new → t ≡ None → IsOr status.Usage s
+refused None files rose s old new a none = refused_by files s old new (came None files rose s old new a)
+refused (Some t) files rose s old new a none = absurd cc
 
-kind_failed : (name : Option (List ℕ)) (due : Due) → IsKind name due → due.status ≡ status.ReadFault → due ≡ failed_due
-kind_failed name due (inl k) st = let h : status.Usage ≡ status.ReadFault = sym (same_status due usage_due k.1) ∙ st in absurd cc
-kind_failed name due (inr (inl k)) st = k
-kind_failed name due (inr (inr (inl k))) st = let h : status.TooLong ≡ status.ReadFault = sym (same_status due long_due k) ∙ st in absurd cc
-kind_failed name due (inr (inr (inr k))) st = absurd (subst IsTold st k)
+-- ---- the causes of refusals
+-- a status that refuses has its refusal
+refusal_of : (t : Option Task) (files : Option Files) (s : Status) (old new : Option (List ℕ)) → Came t files s old new → sort_of s ≡ refuses → CameRefused t files s old new
+refusal_of t files s old new (inl done) is = let x : told ≡ refuses = sym done.3 ∙ is in absurd cc
+refusal_of t files s old new (inr (inl lost)) is = lost
+refusal_of t files s old new (inr (inr (inl w))) is = let x : breaks ≡ refuses = ap sort_of (sym w) ∙ is in absurd cc
+refusal_of t files s old new (inr (inr (inr m))) is = let x : starved ≡ refuses = ap sort_of (sym m) ∙ is in absurd cc
 
-kind_long : (name : Option (List ℕ)) (due : Due) → IsKind name due → due.status ≡ status.TooLong → due ≡ long_due
-kind_long name due (inl k) st = let h : status.Usage ≡ status.TooLong = sym (same_status due usage_due k.1) ∙ st in absurd cc
-kind_long name due (inr (inl k)) st = let h : status.ReadFault ≡ status.TooLong = sym (same_status due failed_due k) ∙ st in absurd cc
-kind_long name due (inr (inr (inl k))) st = k
-kind_long name due (inr (inr (inr k))) st = absurd (subst IsTold st k)
+usage_by : (t : Option Task) (files : Option Files) (s : Status) (old new : Option (List ℕ)) → CameRefused t files s old new → s ≡ status.Usage → t ≡ None
+usage_by t files s old new (refusal.Usage, c, is, g) st = c
+usage_by t files s old new (refusal.ReadFailed, c, is, g) st = let x : status.ReadFault ≡ status.Usage = sym is ∙ st in absurd cc
+usage_by t files s old new (refusal.TooLong role, c, is, g) st = let x : status.TooLong ≡ status.Usage = sym is ∙ st in absurd cc
 
-pub usage_is : (name : Option (List ℕ)) (files : Option Files) (rose : Type 0) (s : Status) (old new : Option (List ℕ)) → IsAnswer name files rose s old new → s ≡ status.Usage → name ≡ None
-usage_is name files rose s old new (due, owed, a) st = (kind_usage name due (kinds name files rose due owed) (status_put s status.Usage due old new st (λ x. cc) (λ x. cc) (put_or s due old new a)).0).0
+pub usage_is : (t : Option Task) (files : Option Files) (rose : Type 0) (s : Status) (old new : Option (List ℕ)) → IsAnswered t files rose s old new → s ≡ status.Usage → t ≡ None
+usage_is t files rose s old new a st = usage_by t files s old new (refusal_of t files s old new (came t files rose s old new a) (ap sort_of st)) st
 
-one_text : (due : Due) (l : List ℕ) (st : Status) (old new : Option (List ℕ)) → due ≡ one_line l st → Grows old (text_of due.lines) new → Grows old (l ++ 10 ∷ []) new
-one_text due l st old new is g = subst (λ (t : List ℕ). Grows old t new) (ap (λ (d : Due). text_of d.lines) is ∙ append-nil (l ++ 10 ∷ [])) g
+-- ---- files that are too long
+long_one : (held : Files) (name : List ℕ) (file : Option (List ℕ)) → file_at held name ≡ file → IsAnswer file most_bytes fetch.TooLong → IsLong file
+long_one held name None is l = l
+long_one held name (Some bytes) is l = l
 
-pub refusal_is : (name : Option (List ℕ)) (files : Option Files) (rose : Type 0) (s : Status) (old new : Option (List ℕ)) → IsAnswer name files rose s old new → RefusalPut s old new
-refusal_is name files rose status.Ok old new h = tt
-refusal_is name files rose status.Fault old new h = tt
-refusal_is name files rose status.Usage old new (due, owed, a) = one_text due (codes "usage") status.Usage old new (kind_usage name due (kinds name files rose due owed) a.0).1 a.1
-refusal_is name files rose status.Schema old new h = tt
-refusal_is name files rose status.ReadFault old new (due, owed, a) = one_text due (codes "read failed") status.ReadFault old new (kind_failed name due (kinds name files rose due owed) a.0) a.1
-refusal_is name files rose status.WriteFault old new h = tt
-refusal_is name files rose status.NoMemory old new h = tt
-refusal_is name files rose status.Events old new h = tt
-refusal_is name files rose status.Hints old new h = tt
-refusal_is name files rose status.TooLong old new (due, owed, a) = one_text due (codes "too long input") status.TooLong old new (kind_long name due (kinds name files rose due owed) a.0) a.1
+has_long : (held : Files) (ns : List Need) (role : Role) → OneLong (Some held) ns role → HasLong held ns
+has_long held [] role l = l
+has_long held (n ∷ ns) role (inl l) = inl (long_one held n.name (file_at held n.name) refl l.1)
+has_long held (n ∷ ns) role (inr l) = inr (has_long held ns role l)
 
-pub not_later : (name : Option (List ℕ)) (files : Option Files) (rose : Type 0) (s : Status) (old new : Option (List ℕ)) → IsAnswer name files rose s old new → IsLater s → ⊥
-not_later name files rose status.Ok old new h later = later
-not_later name files rose status.Fault old new h later = later
-not_later name files rose status.Usage old new h later = later
-not_later name files rose status.Schema old new (due, owed, a) later = a
-not_later name files rose status.ReadFault old new h later = later
-not_later name files rose status.WriteFault old new h later = later
-not_later name files rose status.NoMemory old new h later = later
-not_later name files rose status.Events old new (due, owed, a) later = a
-not_later name files rose status.Hints old new (due, owed, a) later = a
-not_later name files rose status.TooLong old new h later = later
+long_by : (t : Option Task) (held : Files) (s : Status) (old new : Option (List ℕ)) → CameRefused t (Some held) s old new → s ≡ status.TooLong → HasLong held (needs_of t)
+long_by t held s old new (refusal.Usage, c, is, g) st = let x : status.Usage ≡ status.TooLong = sym is ∙ st in absurd cc
+long_by t held s old new (refusal.ReadFailed, c, is, g) st = let x : status.ReadFault ≡ status.TooLong = sym is ∙ st in absurd cc
+long_by t held s old new (refusal.TooLong role, c, is, g) st = has_long held (needs_of t) role c
+
+pub too_long_is : (t : Option Task) (files : Option Files) (rose : Type 0) (s : Status) (old new : Option (List ℕ)) → IsAnswered t files rose s old new → IfSome files (λ held. s ≡ status.TooLong → HasLong held (needs_of t))
+too_long_is t None rose s old new a = tt
+too_long_is t (Some held) rose s old new a = λ st. long_by t held s old new (refusal_of t (Some held) s old new (came t (Some held) rose s old new a) (ap sort_of st)) st
+
+found_short : (b : List ℕ) (file : Option (List ℕ)) → IsAnswer file most_bytes (fetch.Bytes b) → IsLong file → ⊥
+found_short b None f l = l
+found_short b (Some bytes) f l = let is : bytes ≡ b = cc (f.0) in let few : length bytes ≤ most_bytes = subst (λ (x : List ℕ). length x ≤ most_bytes) (sym is) f.1 in omega (arith, few, l)
+
+none_long : (held : Files) (ns : List Need) (bs : List (List ℕ)) → AreFound (Some held) ns bs → HasLong held ns → ⊥
+none_long held [] bs f l = l
+none_long held (n ∷ ns) [] f l = f
+none_long held (n ∷ ns) (b ∷ bs) f (inl l) = found_short b (file_at held n.name) f.0 l
+none_long held (n ∷ ns) (b ∷ bs) f (inr l) = none_long held ns bs f.1 l
+
+done_short : (t : Option Task) (held : Files) (due : Due) → IsDone t (Some held) due → HasLong held (needs_of t) → ⊥
+done_short None held due d l = d
+done_short (Some t) held due d l = none_long held (needs t) d.0 d.1 l
+
+some_long : (t : Option Task) (held : Files) → HasLong held (needs_of t) → t ≡ None → ⊥
+some_long None held l is = l
+some_long (Some t) held l is = cc
+
+long_or : (t : Option Task) (held : Files) (rose : Type 0) (s : Status) (old new : Option (List ℕ)) → Came t (Some held) s old new → (s ≡ status.ReadFault → rose) → HasLong held (needs_of t) → (rose → ⊥) → IsOr status.TooLong s
+long_or t held rose s old new (inl done) fell l still = absurd (done_short t held done.0 done.1 l)
+long_or t held rose s old new (inr (inl (refusal.Usage, c, is, g))) fell l still = absurd (some_long t held l c)
+long_or t held rose s old new (inr (inl (refusal.ReadFailed, c, is, g))) fell l still = absurd (still (fell is))
+long_or t held rose s old new (inr (inl (refusal.TooLong role, c, is, g))) fell l still = inl is
+long_or t held rose s old new (inr (inr early)) fell l still = inr early
+
+pub long_is : (t : Option Task) (files : Option Files) (rose : Type 0) (s : Status) (old new : Option (List ℕ)) → IsAnswered t files rose s old new → (s ≡ status.ReadFault → rose) → IfSome files (λ held. HasLong held (needs_of t) → (rose → ⊥) → IsOr status.TooLong s)
+long_is t None rose s old new a fell = tt
+long_is t (Some held) rose s old new a fell = λ l still. long_or t held rose s old new (came t (Some held) rose s old new a) fell l still
+
+-- ---- a refusal's line
+role_there : (files : Option Files) (ns : List Need) (role : Role) → OneLong files ns role → HasRole ns role
+role_there files [] role l = l
+role_there files (n ∷ ns) role (inl l) = inl l.0
+role_there files (n ∷ ns) role (inr l) = inr (role_there files ns role l)
+
+may_refuse : (t : Option Task) (files : Option Files) (r : Refusal) → Causes t files r → MayRefuse t r
+may_refuse t files refusal.Usage c = c
+may_refuse t files refusal.ReadFailed c = c
+may_refuse t files (refusal.TooLong role) c = role_there files (needs_of t) role c
+
+pub refusal_is : (t : Option Task) (files : Option Files) (rose : Type 0) (s : Status) (old new : Option (List ℕ)) → IsAnswered t files rose s old new → RefusalPut t s old new
+refusal_is t files rose s old new a =
+    λ is. let lost = refusal_of t files s old new (came t files rose s old new a) is in
+    (lost.0, may_refuse t files lost.0 lost.1, lost.2, lost.3)
+
+refusal_now : (r : Refusal) (s : Status) → s ≡ refusal_status r → IsLater s → ⊥
+refusal_now refusal.Usage s is (inl l) = let x : status.Usage ≡ status.Schema = sym is ∙ l in cc
+refusal_now refusal.Usage s is (inr (inl l)) = let x : status.Usage ≡ status.Events = sym is ∙ l in cc
+refusal_now refusal.Usage s is (inr (inr l)) = let x : status.Usage ≡ status.Hints = sym is ∙ l in cc
+refusal_now refusal.ReadFailed s is (inl l) = let x : status.ReadFault ≡ status.Schema = sym is ∙ l in cc
+refusal_now refusal.ReadFailed s is (inr (inl l)) = let x : status.ReadFault ≡ status.Events = sym is ∙ l in cc
+refusal_now refusal.ReadFailed s is (inr (inr l)) = let x : status.ReadFault ≡ status.Hints = sym is ∙ l in cc
+refusal_now (refusal.TooLong role) s is (inl l) = let x : status.TooLong ≡ status.Schema = sym is ∙ l in cc
+refusal_now (refusal.TooLong role) s is (inr (inl l)) = let x : status.TooLong ≡ status.Events = sym is ∙ l in cc
+refusal_now (refusal.TooLong role) s is (inr (inr l)) = let x : status.TooLong ≡ status.Hints = sym is ∙ l in cc
+
+later_refuses : (s : Status) → IsLater s → sort_of s ≡ refuses
+later_refuses s (inl l) = ap sort_of l
+later_refuses s (inr (inl l)) = ap sort_of l
+later_refuses s (inr (inr l)) = ap sort_of l
+
+pub not_later : (t : Option Task) (files : Option Files) (rose : Type 0) (s : Status) (old new : Option (List ℕ)) → IsAnswered t files rose s old new → IsLater s → ⊥
+not_later t files rose s old new a later =
+    let lost = refusal_of t files s old new (came t files rose s old new a) (later_refuses s later) in
+    refusal_now lost.0 s lost.2 later
+
+-- ---- completeness
+long_within : (file : Option (List ℕ)) → IsWithin file → IsAnswer file most_bytes fetch.TooLong → ⊥
+long_within None w l = w
+long_within (Some bytes) w l = omega (arith, w, l)
+
+within_all : (held : Files) (ns : List Need) (role : Role) → AreWithin held ns → OneLong (Some held) ns role → ⊥
+within_all held [] role w l = l
+within_all held (n ∷ ns) role w (inl l) = long_within (file_at held n.name) w.0 l.1
+within_all held (n ∷ ns) role w (inr l) = within_all held ns role w.1 l
+
+complete_by : (t : Option Task) (held : Files) (rose out : Type 0) (s : Status) (old new : Option (List ℕ)) → Came t (Some held) s old new → (s ≡ status.ReadFault → rose) → (s ≡ status.WriteFault → out) → t ≢ None → AreWithin held (needs_of t) → (rose → ⊥) → (out → ⊥) → IsTold s ⊎ (s ≡ status.NoMemory)
+complete_by t held rose out s old new (inl done) fell write some w still calm = inl done.3
+complete_by t held rose out s old new (inr (inl (refusal.Usage, c, is, g))) fell write some w still calm = absurd (some c)
+complete_by t held rose out s old new (inr (inl (refusal.ReadFailed, c, is, g))) fell write some w still calm = absurd (still (fell is))
+complete_by t held rose out s old new (inr (inl (refusal.TooLong role, c, is, g))) fell write some w still calm = absurd (within_all held (needs_of t) role w c)
+complete_by t held rose out s old new (inr (inr (inl b))) fell write some w still calm = absurd (calm (write b))
+complete_by t held rose out s old new (inr (inr (inr m))) fell write some w still calm = inr m
+
+pub completes : (t : Option Task) (files : Option Files) (rose out : Type 0) (s : Status) (old new : Option (List ℕ)) → IsAnswered t files rose s old new → (s ≡ status.ReadFault → rose) → (s ≡ status.WriteFault → out) → IfSome files (λ held. t ≢ None → AreWithin held (needs_of t) → (rose → ⊥) → (out → ⊥) → IsTold s ⊎ (s ≡ status.NoMemory))
+completes t None rose out s old new a fell write = tt
+completes t (Some held) rose out s old new a fell write = λ some w still calm. complete_by t held rose out s old new (came t (Some held) rose s old new a) fell write some w still calm
+
+-- ---- from what was done to the answer
+answered_told : (s : Status) (due : Due) (old new : Option (List ℕ)) → IsTold s → IsPut s due old new → Answered due s old new
+answered_told s due old new h p = subst (λ (k : Sort). AnsweredBy k due s old new) (sym h) p
+
+pub answers_ok : (t : Option Task) (files : Option Files) (rose : Type 0) (s : Status) (old new : Option (List ℕ)) → Served t files rose (Ok s) old new → IsTold s → IsAnswered t files rose s old new
+answers_ok t files rose s old new (due, owed, did) h = (due, owed, answered_told s due old new h (sym did.0, did.1))
+
+pub answers_refused : (t : Option Task) (files : Option Files) (rose : Type 0) (r : Refusal) (s : Status) (old mid new : Option (List ℕ)) → Served t files rose (Err (halt.Refused r)) old mid → Answered (refusal_due r) s mid new → IsAnswered t files rose s old new
+answers_refused t files rose r s old mid new (due, owed, did) a =
+    (due, owed, subst (λ (d : Due). Answered d s old new) (sym did.0) (subst (λ (o : Option (List ℕ)). Answered (refusal_due r) s o new) did.1 a))
+
+pub answers_write : (t : Option Task) (files : Option Files) (rose : Type 0) (old new : Option (List ℕ)) → Served t files rose (Err halt.Write) old new → IsAnswered t files rose status.WriteFault old new
+answers_write t files rose old new (due, owed, did) = (due, owed, inl did)
+
+-- the line on want of memory: put, not begun, or broken off
+by_pieces : (old mid new : Option (List ℕ)) (ps : List (List ℕ)) (text : List ℕ) → GrowsByPieces old ps [] mid → Grows mid text new → GrowsByPieces old ps text new
+by_pieces old mid new ps text (some, p, others, is, g) h =
+    (some, p, others, is, subst (λ (t : List ℕ). Grows old t new) (ap (λ (t : List ℕ). t ++ text) (append-nil (text_of some))) (grows_more old mid new (text_of some ++ []) text g h))
+
+starves_by : (due : Due) (s : Status) (old mid new : Option (List ℕ)) → GrowsByPieces old due.pieces [] mid → Starves s mid new → Answered due s old new
+starves_by due s old mid new g (inl (is, inl same)) = rw is (inl (subst (λ (o : Option (List ℕ)). GrowsByPieces old due.pieces [] o) (sym same) g))
+starves_by due s old mid new g (inl (is, inr all)) = rw is (inr (by_pieces old mid new due.pieces no_memory g all))
+starves_by due s old mid new g (inr (is, p)) = rw is (inr (take p.0 no_memory, drop p.0 no_memory, sym (take-append-drop p.0 no_memory), by_pieces old mid new due.pieces (take p.0 no_memory) g p.2))
+
+pub answers_starved : (t : Option Task) (files : Option Files) (rose : Type 0) (s : Status) (old mid new : Option (List ℕ)) → Served t files rose (Err halt.Memory) old mid → Starves s mid new → IsAnswered t files rose s old new
+answers_starved t files rose s old mid new (due, owed, did) st = (due, owed, starves_by due s old mid new did st)
+
+-- ---- the line of a refusal
+pub refused_all : (r : Refusal) (old new : Option (List ℕ)) → Grows old (refusal_line r) new → Answered (refusal_due r) (refusal_status r) old new
+refused_all refusal.Usage old new g = (refl, subst (λ (t : List ℕ). Grows old t new) (sym (append-nil (refusal_line refusal.Usage))) g)
+refused_all refusal.ReadFailed old new g = (refl, subst (λ (t : List ℕ). Grows old t new) (sym (append-nil (refusal_line refusal.ReadFailed))) g)
+refused_all (refusal.TooLong role) old new g = (refl, subst (λ (t : List ℕ). Grows old t new) (sym (append-nil (refusal_line (refusal.TooLong role)))) g)
+
+pub refused_part : (r : Refusal) (old new : Option (List ℕ)) → GrowsInPart old (refusal_line r) new → Answered (refusal_due r) status.WriteFault old new
+refused_part r old new p =
+    inl (take p.0 (refusal_line r), drop p.0 (refusal_line r), append-nil (refusal_line r) ∙ sym (take-append-drop p.0 (refusal_line r)), p.2)
+
+pub refused_starved : (r : Refusal) (s : Status) (old mid new : Option (List ℕ)) → mid ≡ old → Starves s mid new → Answered (refusal_due r) s old new
+refused_starved r s old mid new same st =
+    starves_by (refusal_due r) s old mid new ([], refusal_line r, [], refl, subst (λ (o : Option (List ℕ)). Grows old [] o) (sym same) (grows_none old)) st

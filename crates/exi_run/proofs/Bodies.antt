@@ -1,5 +1,5 @@
 -- What printing a body says of the whole stream.
-use Rattle.std.proofs.Common.{◌≡◌, ◌≤◌, ℕ, List, [], ◌∷◌, ◌++◌, Option, Result, Ok, Err, take, drop, refl, sym, ap, ◌∙◌, subst, arith, append_assoc}
+use Rattle.std.proofs.Common.{◌≡◌, ◌≤◌, ℕ, List, [], ◌∷◌, ◌++◌, Option, Result, Ok, Err, IsErrOf, take, drop, refl, sym, ap, ◌∙◌, subst, arith, append_assoc}
 use Rattle.std.proofs.lemmas.List.{append-nil, take-append-drop}
 use Rattle.exi_bits.specs.declared.fault.Fault.{Fault}
 use Rattle.exi_bits.specs.Bits.{Spot}
@@ -13,7 +13,10 @@ use Rattle.exi_run.specs.Sequence.{Config, Leads, IsRun, first_of, start_of, hea
 use Rattle.exi_run.specs.Taking.{TookRun}
 use Rattle.exi_run.specs.Text.{line, lines}
 use Rattle.exi_run.specs.Printing.{Prints, BreaksOff, PrintsBody, grows_more, lines-append}
-use Rattle.exi_run.specs.Answers.{GrowsByFront}
+use Rattle.exi_run.specs.Answers.{DidEvents, GrowsByFront}
+use Rattle.exi_run.specs.Stops.{halt_by}
+use Rattle.exi_run.specs.declared.halt.Halt.{Halt}
+use Rattle.exi_run.specs.declared.halt.Halt.TheVariants as halt
 use Rattle.exi_run.proofs.Runs.{leads_push, moves_on}
 
 pub body_prints : {T : Type 0} (tk : T → Option (List ℕ)) (n : T → ℕ) (r : Result End ReadStop) (first : Config) (a b : T) → TookRun (λ x es y. Prints (tk x) (n x) es (tk y) (n y)) (λ x e y. BreaksOff (tk x) (n x) e (tk y) (n y)) r first a b → PrintsBody r first (tk a) (n a) (tk b) (n b)
@@ -64,3 +67,12 @@ unfolding Prints BreaksOff
 part_rose first old new before after (es, last, e, next, mid, between, leads, goes_on, prints, breaks) =
     let b = breaks.1 (moves_on last e next goes_on).0 in
     omega (arith, prints.1, b.1)
+
+-- ---- a stop of the reader is one of the command
+pub halted : (s : ReadStop) (bytes : List ℕ) (body : Spot) (old new : Option (List ℕ)) (before after : ℕ) → header_at (start_of bytes) ≡ Ok body → PrintsBody (Err s) (first_of body) old before new after → DidEvents bytes (Err (halt_by s)) old new
+halted stop.Stopped bytes body old new before after h p = did_part bytes body old new before after h p
+halted stop.Memory bytes body old new before after h p = did_first bytes body old new before after h p
+
+pub halted_rose : (s : ReadStop) (r : Result End Halt) (first : Config) (old new : Option (List ℕ)) (before after : ℕ) → PrintsBody (Err s) first old before new after → r ≡ Err (halt_by s) → IsErrOf r halt.Write → Rose before after
+halted_rose stop.Stopped r first old new before after p is w = part_rose first old new before after p
+halted_rose stop.Memory r first old new before after p is w = let x = sym is ∙ w in absurd cc

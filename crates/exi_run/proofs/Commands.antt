@@ -3,14 +3,14 @@ use Rattle.std.proofs.Common.{◌≡◌, ◌≢◌, ℕ, Bool, List, [], ◌∷�
 use Rattle.std.proofs.Math.Utf8.{encodes, encode}
 use Rattle.std.specs.Prelude.{codes, if◌then◌else◌}
 use Rattle.std.specs.Str.{bytes_eq}
-use Rattle.exi_run.specs.Answers.{file_of}
+use Rattle.exi_run.specs.Tasks.{read, task_of}
 use Rattle.exi_run.proofs.SpaceLaws.{same_by_bytes}
 
 read_is : encodes (codes "read") ≡ codes "read"
 unfolding encode
 read_is = refl
 
-pub by_command : (ws : List (List ℕ)) (command file bs : List ℕ) (r : Bool) → length ws ≡ 2 → command ≡ get_or ws 0 command → file ≡ get_or ws 1 file → bs ≡ encodes command → r ≡ bytes_eq bs (codes "read") → file_of ws ≡ (if r then Some file else None)
+pub by_command : (ws : List (List ℕ)) (command file bs : List ℕ) (r : Bool) → length ws ≡ 2 → command ≡ get_or ws 0 command → file ≡ get_or ws 1 file → bs ≡ encodes command → r ≡ bytes_eq bs (codes "read") → task_of ws ≡ (if r then Some (read file) else None)
 by_command [] command file bs r len a b is e = absurd (omega arith)
 by_command (x ∷ []) command file bs r len a b is e = absurd (omega arith)
 by_command (x ∷ y ∷ z ∷ ws) command file bs r len a b is e = absurd (omega arith)
@@ -18,8 +18,8 @@ by_command (x ∷ y ∷ []) command file bs r len a b is e =
     let test : r ≡ bytes_eq x (codes "read") = e ∙ ap (λ (t : List ℕ). bytes_eq t (codes "read")) (is ∙ ap encodes a) ∙ same_by_bytes x (codes "read") read_is in
     rw (test, b) refl
 
-pub no_file : (ws : List (List ℕ)) → length ws ≢ 2 → file_of ws ≡ None
-no_file [] n = refl
-no_file (x ∷ []) n = refl
-no_file (x ∷ y ∷ []) n = absurd (n refl)
-no_file (x ∷ y ∷ z ∷ ws) n = refl
+pub no_task : (ws : List (List ℕ)) → length ws ≢ 2 → task_of ws ≡ None
+no_task [] n = refl
+no_task (x ∷ []) n = refl
+no_task (x ∷ y ∷ []) n = absurd (n refl)
+no_task (x ∷ y ∷ z ∷ ws) n = refl

@@ -1,16 +1,20 @@
 -- What is owed, and what was done of it.
-use Rattle.std.proofs.Common.{◌≡◌, ◌≤◌, ℕ, List, [], ◌∷◌, ◌++◌, Option, Ok, Err, length, refl, sym, ap, ◌∙◌, subst, arith, append_assoc}
+use Rattle.std.proofs.Common.{◌≡◌, ℕ, List, [], ◌∷◌, ◌++◌, Option, Result, Ok, Err, IsErrOf, refl, sym, ap, ◌∙◌, subst, append_assoc}
 use Rattle.std.specs.Prelude.{map}
 use Rattle.std.proofs.lemmas.List.{append-nil}
 use Rattle.exi_names.specs.Events.{Happening, Grows}
 use Rattle.exi_ports.specs.Ports.{GrowsInPart}
 use Rattle.exi_run.specs.declared.reader.End.{End}
-use Rattle.exi_run.specs.declared.status.Halt.{Halt}
-use Rattle.exi_run.specs.declared.status.Halt.TheVariants as halt
+use Rattle.exi_ports.specs.declared.sink.SinkStop.{SinkStop}
+use Rattle.exi_ports.specs.declared.sink.SinkStop.TheVariants as sink_stop
+use Rattle.exi_run.specs.declared.halt.Halt.{Halt}
+use Rattle.exi_run.specs.declared.halt.Halt.TheVariants as halt
+use Rattle.exi_run.specs.Stops.{halt_of}
 use Rattle.exi_run.specs.Sequence.{IsWhole, IsFront}
 use Rattle.exi_run.specs.Text.{line, lines, last_line}
 use Rattle.exi_run.specs.Printing.{grows_more, lines-append}
-use Rattle.exi_run.specs.Answers.{Due, most_bytes, text_of, whole_due, status_of, OwedOf, Did, DidLine, DidEvents, GrowsByFront}
+use Rattle.exi_run.specs.Answers.{Did, DidEvents, GrowsByFront}
+use Rattle.exi_run.specs.Dues.{Due, text_of, whole_due, status_of, OwedOf}
 use Rattle.exi_run.proofs.Runs.{whole_there, front_whole_lem}
 use Rattle.exi_run.proofs.Bodies.{in_part}
 
@@ -23,7 +27,7 @@ text-lines [] = refl
 text-lines (e ∷ es) = ap (λ (t : List ℕ). line e ++ t) (text-lines es)
 
 -- the text of a whole stream
-pub text-whole : (es : List Happening) (e : End) → text_of (whole_due es e).lines ≡ lines es ++ last_line e
+pub text-whole : (es : List Happening) (e : End) → text_of (whole_due es e).pieces ≡ lines es ++ last_line e
 text-whole es e = text-append (map line es) (last_line e ∷ []) ∙ ap (λ (t : List ℕ). t ++ text_of (last_line e ∷ [])) (text-lines es) ∙ ap (λ (t : List ℕ). lines es ++ t) (append-nil (last_line e))
 
 map-append : (es fs : List Happening) → map line (es ++ fs) ≡ map line es ++ map line fs
@@ -31,54 +35,56 @@ map-append [] fs = refl
 map-append (e ∷ es) fs = ap (λ (t : List (List ℕ)). line e ∷ t) (map-append es fs)
 
 -- ---- of a stream's bytes
-owed_whole : (bytes : List ℕ) (es : List Happening) (e : End) → length bytes ≤ most_bytes → IsWhole bytes es e → OwedOf bytes (whole_due es e)
-owed_whole bytes es e few w = (λ more. absurd (omega arith), λ _. (es, e, w, refl))
+owed_whole : (bytes : List ℕ) (es : List Happening) (e : End) → IsWhole bytes es e → OwedOf bytes (whole_due es e)
+owed_whole bytes es e w = (es, e, w, refl)
 
-pub done_all : (bytes : List ℕ) (e : End) (old mid new : Option (List ℕ)) → length bytes ≤ most_bytes → ((es : List Happening) × IsWhole bytes es e × Grows old (lines es) mid) → Grows mid (last_line e) new
+pub done_all : (bytes : List ℕ) (e : End) (old mid new : Option (List ℕ)) → ((es : List Happening) × IsWhole bytes es e × Grows old (lines es) mid) → Grows mid (last_line e) new
     → (due : Due) × OwedOf bytes due × Did due (Ok (status_of e)) old new
-done_all bytes e old mid new few (es, w, g) last =
-    (whole_due es e, owed_whole bytes es e few w, (refl, subst (λ (t : List ℕ). Grows old t new) (sym (text-whole es e)) (grows_more old mid new (lines es) (last_line e) g last)))
+done_all bytes e old mid new (es, w, g) last =
+    (whole_due es e, owed_whole bytes es e w, (refl, subst (λ (t : List ℕ). Grows old t new) (sym (text-whole es e)) (grows_more old mid new (lines es) (last_line e) g last)))
 
 -- the last line was broken off
-pub done_part : (bytes : List ℕ) (e : End) (old mid new : Option (List ℕ)) → length bytes ≤ most_bytes → ((es : List Happening) × IsWhole bytes es e × Grows old (lines es) mid) → GrowsInPart mid (last_line e) new
+pub done_part : (bytes : List ℕ) (e : End) (old mid new : Option (List ℕ)) → ((es : List Happening) × IsWhole bytes es e × Grows old (lines es) mid) → GrowsInPart mid (last_line e) new
     → (due : Due) × OwedOf bytes due × Did due (Err halt.Write) old new
-done_part bytes e old mid new few (es, w, g) last =
-    (whole_due es e, owed_whole bytes es e few w, subst (λ (t : List ℕ). GrowsByFront old t new) (sym (text-whole es e)) (in_part old mid new (lines es) (last_line e) g last))
+done_part bytes e old mid new (es, w, g) last =
+    (whole_due es e, owed_whole bytes es e w, subst (λ (t : List ℕ). GrowsByFront old t new) (sym (text-whole es e)) (in_part old mid new (lines es) (last_line e) g last))
 
 -- the last line was not begun
-pub done_first : (bytes : List ℕ) (e : End) (old new : Option (List ℕ)) → length bytes ≤ most_bytes → ((es : List Happening) × IsWhole bytes es e × Grows old (lines es) new)
+pub done_first : (bytes : List ℕ) (e : End) (old new : Option (List ℕ)) → ((es : List Happening) × IsWhole bytes es e × Grows old (lines es) new)
     → (due : Due) × OwedOf bytes due × Did due (Err halt.Memory) old new
-done_first bytes e old new few (es, w, g) =
-    (whole_due es e, owed_whole bytes es e few w, (map line es, last_line e, [], refl, subst (λ (t : List ℕ). Grows old t new) (sym (append-nil (text_of (map line es)) ∙ text-lines es)) g))
+done_first bytes e old new (es, w, g) =
+    (whole_due es e, owed_whole bytes es e w, (map line es, last_line e, [], refl, subst (λ (t : List ℕ). Grows old t new) (sym (append-nil (text_of (map line es)) ∙ text-lines es)) g))
 
 -- the lines of the other events, and the last line
 pub others_of : (fs : List Happening) (e : End) → (l : List ℕ) × (others : List (List ℕ)) × (map line fs ++ last_line e ∷ [] ≡ l ∷ others)
 others_of [] e = (last_line e, [], refl)
 others_of (f ∷ fs) e = (line f, map line fs ++ last_line e ∷ [], refl)
 
-pub events_first : (bytes : List ℕ) (old new : Option (List ℕ)) → length bytes ≤ most_bytes → ((es : List Happening) × IsFront bytes es × Grows old (lines es) new)
+pub events_first : (bytes : List ℕ) (old new : Option (List ℕ)) → ((es : List Happening) × IsFront bytes es × Grows old (lines es) new)
     → (due : Due) × OwedOf bytes due × Did due (Err halt.Memory) old new
-events_first bytes old new few (es, front, g) =
+events_first bytes old new (es, front, g) =
     let w = whole_there bytes in
     let rest = front_whole_lem bytes es w.0 w.1 front w.2 in
     let o = others_of rest.0 w.1 in
     let parts : map line w.0 ++ last_line w.1 ∷ [] ≡ map line es ++ o.0 ∷ o.1 =
     ap (λ (x : List Happening). map line x ++ last_line w.1 ∷ []) rest.1 ∙ ap (λ (x : List (List ℕ)). x ++ last_line w.1 ∷ []) (map-append es rest.0) ∙ append_assoc (map line es) (map line rest.0) (last_line w.1 ∷ []) ∙ ap (λ (x : List (List ℕ)). map line es ++ x) o.2 in
-    (whole_due w.0 w.1, owed_whole bytes w.0 w.1 few w.2, (map line es, o.0, o.1, parts, subst (λ (t : List ℕ). Grows old t new) (sym (append-nil (text_of (map line es)) ∙ text-lines es)) g))
+    (whole_due w.0 w.1, owed_whole bytes w.0 w.1 w.2, (map line es, o.0, o.1, parts, subst (λ (t : List ℕ). Grows old t new) (sym (append-nil (text_of (map line es)) ∙ text-lines es)) g))
 
-pub events_part : (bytes : List ℕ) (old new : Option (List ℕ)) → length bytes ≤ most_bytes → ((es : List Happening) × IsFront bytes es × GrowsByFront old (lines es) new)
+pub events_part : (bytes : List ℕ) (old new : Option (List ℕ)) → ((es : List Happening) × IsFront bytes es × GrowsByFront old (lines es) new)
     → (due : Due) × OwedOf bytes due × Did due (Err halt.Write) old new
-events_part bytes old new few (es, front, (piece, after, is, g)) =
+events_part bytes old new (es, front, (piece, after, is, g)) =
     let w = whole_there bytes in
     let rest = front_whole_lem bytes es w.0 w.1 front w.2 in
     let all : lines w.0 ++ last_line w.1 ≡ piece ++ (after ++ (lines rest.0 ++ last_line w.1)) =
     ap (λ (x : List Happening). lines x ++ last_line w.1) rest.1 ∙ ap (λ (x : List ℕ). x ++ last_line w.1) (lines-append es rest.0) ∙ append_assoc (lines es) (lines rest.0) (last_line w.1) ∙ ap (λ (x : List ℕ). x ++ (lines rest.0 ++ last_line w.1)) is ∙ append_assoc piece after (lines rest.0 ++ last_line w.1) in
-    (whole_due w.0 w.1, owed_whole bytes w.0 w.1 few w.2, (piece, after ++ (lines rest.0 ++ last_line w.1), text-whole w.0 w.1 ∙ all, g))
+    (whole_due w.0 w.1, owed_whole bytes w.0 w.1 w.2, (piece, after ++ (lines rest.0 ++ last_line w.1), text-whole w.0 w.1 ∙ all, g))
 
-pub events_err : (h : Halt) (bytes : List ℕ) (old new : Option (List ℕ)) → length bytes ≤ most_bytes → DidEvents bytes (Err h) old new → (due : Due) × OwedOf bytes due × Did due (Err h) old new
-events_err halt.Write bytes old new few d = events_part bytes old new few d
-events_err halt.Memory bytes old new few d = events_first bytes old new few d
+pub events_err : (h : Halt) (bytes : List ℕ) (old new : Option (List ℕ)) → DidEvents bytes (Err h) old new → (due : Due) × OwedOf bytes due × Did due (Err h) old new
+events_err (halt.Refused r) bytes old new d = absurd d
+events_err halt.Write bytes old new d = events_part bytes old new d
+events_err halt.Memory bytes old new d = events_first bytes old new d
 
-pub last_err : (h : Halt) (bytes l : List ℕ) (e : End) (old mid new : Option (List ℕ)) → length bytes ≤ most_bytes → l ≡ last_line e → DidEvents bytes (Ok e) old mid → DidLine l (Err h) mid new → (due : Due) × OwedOf bytes due × Did due (Err h) old new
-last_err halt.Write bytes l e old mid new few is d p = done_part bytes e old mid new few d (subst (λ (t : List ℕ). GrowsInPart mid t new) is p)
-last_err halt.Memory bytes l e old mid new few is d p = subst (λ (o : Option (List ℕ)). (due : Due) × OwedOf bytes due × Did due (Err halt.Memory) old o) (sym p) (done_first bytes e old mid few d)
+-- the line of the end was broken off, or not begun
+pub last_err : (r : Result (Unit {0}) SinkStop) (stop : SinkStop) (bytes l : List ℕ) (e : End) (old mid new : Option (List ℕ)) → l ≡ last_line e → DidEvents bytes (Ok e) old mid → r ≡ Err stop → (IsErrOf r sink_stop.Failed → GrowsInPart mid l new) → (IsErrOf r sink_stop.Memory → new ≡ mid) → (due : Due) × OwedOf bytes due × Did due (Err (halt_of stop)) old new
+last_err r sink_stop.Failed bytes l e old mid new is d err part same = done_part bytes e old mid new d (subst (λ (t : List ℕ). GrowsInPart mid t new) is (part err))
+last_err r sink_stop.Memory bytes l e old mid new is d err part same = subst (λ (o : Option (List ℕ)). (due : Due) × OwedOf bytes due × Did due (Err halt.Memory) old o) (sym (same err)) (done_first bytes e old mid d)

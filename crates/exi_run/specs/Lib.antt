@@ -7,4 +7,9 @@ pub mod Bytes
 pub mod Text
 pub mod Printing
 pub mod Taking
+pub mod Statuses
+pub mod Refusals
+pub mod Stops
+pub mod Tasks
+pub mod Dues
 pub mod Answers

@@ -14,6 +14,8 @@
 //! sequential processing gives for the file's bytes, or the part of it that the status tells.
 #![tactic(auto)]
 
+mod files;
+mod halt;
 mod header;
 mod laws;
 mod names;
@@ -22,12 +24,14 @@ mod reader;
 mod reading;
 mod spaces;
 mod status;
+mod stream;
 #[cfg(test)]
 mod tests;
 mod text;
 mod top;
 mod words;
 
+pub use halt::{Refusal, Role};
 pub use laws::{first_tables, front_of_whole, one_whole};
 pub use reader::End;
 pub use status::Status;

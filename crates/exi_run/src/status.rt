@@ -1,3 +1,6 @@
+ghost use Rattle.std.specs.Prelude.{◌≡◌};
+ghost use Rattle.exi_run.specs.Statuses.{number_of};
+
 /// How a command ended. The numbers are those with which the program ends.
 #[derive(Clone, Copy, Debug, PartialEq, Eq)]
 pub enum Status {
@@ -23,11 +26,22 @@ pub enum Status {
     TooLong,
 }
 
-/// Why a command stopped before its last line.
-#[derive(Clone, Copy, Debug, PartialEq, Eq)]
-pub(crate) enum Halt {
-    /// The output could not be written.
-    Write,
-    /// There was no memory.
-    Memory,
+impl Status {
+    /// The number with which the program ends, from 0 to 9.
+    pub fn number(self) -> u8
+        ensures { result ≡ number_of self }
+    {
+        match self {
+            Status::Ok => 0,
+            Status::Fault => 1,
+            Status::Usage => 2,
+            Status::Schema => 3,
+            Status::ReadFault => 4,
+            Status::WriteFault => 5,
+            Status::NoMemory => 6,
+            Status::Events => 7,
+            Status::Hints => 8,
+            Status::TooLong => 9,
+        }
+    }
 }

@@ -1,19 +1,27 @@
 ghost use Rattle.std.specs.Prelude.{◌≡◌};
-ghost use Rattle.std.specs.Option.{option_copied};
-ghost use Rattle.exi_run.specs.Answers.{file_of};
+ghost use Rattle.exi_run.specs.Tasks.{task_of, tasked};
 
 use exi_names::Txt;
 
-/// The file that the words name, where they are `read` and one word more.
-pub fn file_to_read(words: &[Txt]) -> Option<&Txt>
-    ensures { option_copied result ≡ file_of words.now }
-{
-    let [command, file] = words else {
-        return None;
-    };
-    if command.as_str() == "read" {
-        Some(file)
-    } else {
-        None
+/// What the words ask for.
+#[derive(Clone, Copy, Debug)]
+pub(crate) enum Command<'a> {
+    /// `read FILE`: a stream as text.
+    Read(&'a Txt),
+}
+
+impl<'a> Command<'a> {
+    /// The command that the words are, where they are of a command's form.
+    pub(crate) fn of(words: &'a [Txt]) -> Option<Command<'a>>
+        ensures { tasked result ≡ task_of words.now }
+    {
+        let [command, file] = words else {
+            return None;
+        };
+        if command.as_str() == "read" {
+            Some(Command::Read(file))
+        } else {
+            None
+        }
     }
 }

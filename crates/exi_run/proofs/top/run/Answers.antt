@@ -1,28 +1,28 @@
 use Rattle.exi_names.specs.Events.{Rose}
-use Rattle.exi_run.specs.Answers.{file_of}
+use Rattle.exi_run.specs.Tasks.{task_of}
 use Rattle.exi_run.proofs.Answering.{tells, refused, usage_is, long_is, too_long_is, refusal_is, not_later, completes}
 use Rattle.exi_run.proofs.top.run.Goals as goal
 
 pub returns-clause-read : goal.returns-clause-read
-returns-clause-read g c = tells (file_of c.args.words.now) (g.F.Shelf.files c.args.shelf.now) (Rose (g.F.Shelf.faults c.args.shelf.now) (g.F.Shelf.faults c.respond.new.shelf)) c.respond.result (g.O.Sink.taken c.args.out.now) (g.O.Sink.taken c.respond.new.out) c.respond.ensures.answered
+returns-clause-read g c = tells (task_of c.args.words.now) (g.F.Shelf.files c.args.shelf.now) (Rose (g.F.Shelf.faults c.args.shelf.now) (g.F.Shelf.faults c.respond.new.shelf)) c.respond.result (g.O.Sink.taken c.args.out.now) (g.O.Sink.taken c.respond.new.out) c.respond.ensures.answered
 
 pub returns-clause-refused : goal.returns-clause-refused
-returns-clause-refused g c = refused (file_of c.args.words.now) (g.F.Shelf.files c.args.shelf.now) (Rose (g.F.Shelf.faults c.args.shelf.now) (g.F.Shelf.faults c.respond.new.shelf)) c.respond.result (g.O.Sink.taken c.args.out.now) (g.O.Sink.taken c.respond.new.out) c.respond.ensures.answered
+returns-clause-refused g c = refused (task_of c.args.words.now) (g.F.Shelf.files c.args.shelf.now) (Rose (g.F.Shelf.faults c.args.shelf.now) (g.F.Shelf.faults c.respond.new.shelf)) c.respond.result (g.O.Sink.taken c.args.out.now) (g.O.Sink.taken c.respond.new.out) c.respond.ensures.answered
 
 pub returns-clause-usage : goal.returns-clause-usage
-returns-clause-usage g c = usage_is (file_of c.args.words.now) (g.F.Shelf.files c.args.shelf.now) (Rose (g.F.Shelf.faults c.args.shelf.now) (g.F.Shelf.faults c.respond.new.shelf)) c.respond.result (g.O.Sink.taken c.args.out.now) (g.O.Sink.taken c.respond.new.out) c.respond.ensures.answered
+returns-clause-usage g c = usage_is (task_of c.args.words.now) (g.F.Shelf.files c.args.shelf.now) (Rose (g.F.Shelf.faults c.args.shelf.now) (g.F.Shelf.faults c.respond.new.shelf)) c.respond.result (g.O.Sink.taken c.args.out.now) (g.O.Sink.taken c.respond.new.out) c.respond.ensures.answered
 
 pub returns-clause-too_long : goal.returns-clause-too_long
-returns-clause-too_long g c = long_is (file_of c.args.words.now) (g.F.Shelf.files c.args.shelf.now) (Rose (g.F.Shelf.faults c.args.shelf.now) (g.F.Shelf.faults c.respond.new.shelf)) c.respond.result (g.O.Sink.taken c.args.out.now) (g.O.Sink.taken c.respond.new.out) c.respond.ensures.answered
+returns-clause-too_long g c = long_is (task_of c.args.words.now) (g.F.Shelf.files c.args.shelf.now) (Rose (g.F.Shelf.faults c.args.shelf.now) (g.F.Shelf.faults c.respond.new.shelf)) c.respond.result (g.O.Sink.taken c.args.out.now) (g.O.Sink.taken c.respond.new.out) c.respond.ensures.answered c.respond.ensures.read_fault
 
 pub returns-clause-too_long_only : goal.returns-clause-too_long_only
-returns-clause-too_long_only g c = too_long_is (file_of c.args.words.now) (g.F.Shelf.files c.args.shelf.now) (Rose (g.F.Shelf.faults c.args.shelf.now) (g.F.Shelf.faults c.respond.new.shelf)) c.respond.result (g.O.Sink.taken c.args.out.now) (g.O.Sink.taken c.respond.new.out) c.respond.ensures.answered
+returns-clause-too_long_only g c = too_long_is (task_of c.args.words.now) (g.F.Shelf.files c.args.shelf.now) (Rose (g.F.Shelf.faults c.args.shelf.now) (g.F.Shelf.faults c.respond.new.shelf)) c.respond.result (g.O.Sink.taken c.args.out.now) (g.O.Sink.taken c.respond.new.out) c.respond.ensures.answered
 
 pub returns-clause-refusal : goal.returns-clause-refusal
-returns-clause-refusal g c = refusal_is (file_of c.args.words.now) (g.F.Shelf.files c.args.shelf.now) (Rose (g.F.Shelf.faults c.args.shelf.now) (g.F.Shelf.faults c.respond.new.shelf)) c.respond.result (g.O.Sink.taken c.args.out.now) (g.O.Sink.taken c.respond.new.out) c.respond.ensures.answered
+returns-clause-refusal g c = refusal_is (task_of c.args.words.now) (g.F.Shelf.files c.args.shelf.now) (Rose (g.F.Shelf.faults c.args.shelf.now) (g.F.Shelf.faults c.respond.new.shelf)) c.respond.result (g.O.Sink.taken c.args.out.now) (g.O.Sink.taken c.respond.new.out) c.respond.ensures.answered
 
 pub returns-clause-never : goal.returns-clause-never
-returns-clause-never g c = not_later (file_of c.args.words.now) (g.F.Shelf.files c.args.shelf.now) (Rose (g.F.Shelf.faults c.args.shelf.now) (g.F.Shelf.faults c.respond.new.shelf)) c.respond.result (g.O.Sink.taken c.args.out.now) (g.O.Sink.taken c.respond.new.out) c.respond.ensures.answered
+returns-clause-never g c = not_later (task_of c.args.words.now) (g.F.Shelf.files c.args.shelf.now) (Rose (g.F.Shelf.faults c.args.shelf.now) (g.F.Shelf.faults c.respond.new.shelf)) c.respond.result (g.O.Sink.taken c.args.out.now) (g.O.Sink.taken c.respond.new.out) c.respond.ensures.answered
 
 pub returns-clause-complete : goal.returns-clause-complete
-returns-clause-complete g c = completes (file_of c.args.words.now) (g.F.Shelf.files c.args.shelf.now) (Rose (g.F.Shelf.faults c.args.shelf.now) (g.F.Shelf.faults c.respond.new.shelf)) (Rose (g.O.Sink.faults c.args.out.now) (g.O.Sink.faults c.respond.new.out)) c.respond.result (g.O.Sink.taken c.args.out.now) (g.O.Sink.taken c.respond.new.out) c.respond.ensures.answered c.respond.ensures.write_fault
+returns-clause-complete g c = completes (task_of c.args.words.now) (g.F.Shelf.files c.args.shelf.now) (Rose (g.F.Shelf.faults c.args.shelf.now) (g.F.Shelf.faults c.respond.new.shelf)) (Rose (g.O.Sink.faults c.args.out.now) (g.O.Sink.faults c.respond.new.out)) c.respond.result (g.O.Sink.taken c.args.out.now) (g.O.Sink.taken c.respond.new.out) c.respond.ensures.answered c.respond.ensures.read_fault c.respond.ensures.write_fault

@@ -1,0 +1,91 @@
+-- What the program owes for its words, its files and its stream.
+use Rattle.std.specs.Prelude.{◌≡◌, ◌⊎◌, ℕ, List, [], ◌∷◌, ◌++◌, map, Option, Some, None}
+use Rattle.std.specs.List.{flat_map}
+use Rattle.exi_names.specs.Events.{Happening}
+use Rattle.exi_ports.specs.Ports.{file_at, Fetched}
+use Rattle.exi_ports.specs.declared.shelf.Fetch.TheVariants as fetch
+use Rattle.exi_run.specs.declared.files.TheConstants.{MOST_BYTES}
+use Rattle.exi_run.specs.declared.halt.Refusal.{Refusal}
+use Rattle.exi_run.specs.declared.halt.Refusal.TheVariants as refusal
+use Rattle.exi_run.specs.declared.halt.Role.{Role}
+use Rattle.exi_run.specs.declared.reader.End.{End}
+use Rattle.exi_run.specs.declared.reader.End.TheVariants as end
+use Rattle.exi_run.specs.declared.status.Status.{Status}
+use Rattle.exi_run.specs.declared.status.Status.TheVariants as status
+use Rattle.exi_run.specs.Refusals.{refusal_line, refusal_status}
+use Rattle.exi_run.specs.Sequence.{IsWhole}
+use Rattle.exi_run.specs.Tasks.{Task, read, Need, needs}
+use Rattle.exi_run.specs.Text.{line, last_line}
+
+-- the pieces that are owed, each in one put, and the status behind them
+pub record Due : Type 0 where
+  pub pieces : List (List ℕ)
+  pub status : Status
+
+abbrev pub text_of : List (List ℕ) → List ℕ
+text_of ps = flat_map (λ p. p) ps
+
+-- of a refusal, its line
+abbrev pub refusal_due : Refusal → Due
+refusal_due r = record { pieces = refusal_line r ∷ []; status = refusal_status r }
+
+-- ---- files
+-- the files that a shelf tells, by their names
+abbrev pub Files : Type 0
+Files = List (List ℕ × List ℕ)
+
+-- the greatest length of a file, in bytes: 64 MiB
+abbrev pub most_bytes : ℕ
+most_bytes = MOST_BYTES
+
+-- what becomes of a file that is needed: its bytes, too many of them, or a fault
+pub data Had : Type 0 where
+  found : List ℕ → Had
+  long : Had
+  failed : Had
+
+-- no file has this name, where the files are told; that is a fault of the shelf
+abbrev pub IsAbsent : Option Files → List ℕ → Type 0
+IsAbsent None name = ⊥
+IsAbsent (Some held) name = file_at held name ≡ None
+
+-- as a fetch may answer; any file may have failed where the count of the shelf's faults `rose`
+abbrev pub IsHad : Option Files → Type 0 → List ℕ → Had → Type 0
+IsHad files rose name (found bytes) = Fetched files name most_bytes (fetch.Bytes bytes)
+IsHad files rose name long = Fetched files name most_bytes fetch.TooLong
+IsHad files rose name failed = rose ⊎ IsAbsent files name
+
+-- ---- what is owed
+-- with what became of a file: where it was found, what its bytes owe, and else its refusal
+abbrev pub OwedWith : Had → Role → (List ℕ → Type 0) → Due → Type 0
+OwedWith (found bytes) role rest due = rest bytes
+OwedWith long role rest due = due ≡ refusal_due (refusal.TooLong role)
+OwedWith failed role rest due = due ≡ refusal_due refusal.ReadFailed
+
+-- with the files in their order, and then what their bytes owe
+abbrev pub OwedFrom : Option Files → Type 0 → List Need → (List (List ℕ) → Type 0) → Due → Type 0
+OwedFrom files rose [] rest due = rest []
+OwedFrom files rose (n ∷ ns) rest due = (h : Had) × IsHad files rose n.name h × OwedWith h n.role (λ bytes. OwedFrom files rose ns (λ others. rest (bytes ∷ others)) due) due
+
+abbrev pub status_of : End → Status
+status_of (end.Done bit) = status.Ok
+status_of (end.Fault f) = status.Fault
+status_of (end.NotBuilt bit) = status.Fault
+
+-- of events and an end: the line of each
+abbrev pub whole_due : List Happening → End → Due
+whole_due es e = record { pieces = map line es ++ last_line e ∷ []; status = status_of e }
+
+-- of `read`: the events and the end of the file's bytes
+abbrev pub OwedOf : List ℕ → Due → Type 0
+OwedOf bytes due = (es : List Happening) × (e : End) × IsWhole bytes es e × (due ≡ whole_due es e)
+
+-- of a command whose files were found, by their bytes in their order
+abbrev pub OwedBy : Task → Due → List (List ℕ) → Type 0
+OwedBy (read file) due [] = ⊥
+OwedBy (read file) due (input ∷ others) = OwedOf input due
+
+-- of the words
+abbrev pub Owed : Option Task → Option Files → Type 0 → Due → Type 0
+Owed None files rose due = due ≡ refusal_due refusal.Usage
+Owed (Some t) files rose due = OwedFrom files rose (needs t) (OwedBy t due) due

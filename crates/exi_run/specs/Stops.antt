@@ -1,0 +1,17 @@
+-- A stop of what a command uses is a stop of the command.
+use Rattle.exi_ports.specs.declared.sink.SinkStop.{SinkStop}
+use Rattle.exi_ports.specs.declared.sink.SinkStop.TheVariants as sink_stop
+use Rattle.exi_run.specs.declared.halt.Halt.{Halt}
+use Rattle.exi_run.specs.declared.halt.Halt.TheVariants as halt
+use Rattle.exi_run.specs.declared.reading.ReadStop.{ReadStop}
+use Rattle.exi_run.specs.declared.reading.ReadStop.TheVariants as read_stop
+
+-- of the sink
+abbrev pub halt_of : SinkStop → Halt
+halt_of sink_stop.Failed = halt.Write
+halt_of sink_stop.Memory = halt.Memory
+
+-- of the reader, whose events go to the sink
+abbrev pub halt_by : ReadStop → Halt
+halt_by read_stop.Stopped = halt.Write
+halt_by read_stop.Memory = halt.Memory

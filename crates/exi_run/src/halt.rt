@@ -1,0 +1,98 @@
+ghost use Rattle.std.specs.Prelude.{◌≡◌};
+ghost use Rattle.exi_run.specs.Refusals.{refusal_line, refusal_status};
+ghost use Rattle.exi_run.specs.declared.halt.Halt.TheVariants.{Memory};
+ghost use Rattle.exi_run.specs.Stops.{halt_of, halt_by};
+
+use crate::reading::ReadStop;
+use crate::status::Status;
+use exi_ports::SinkStop;
+use std::alloc::AllocError;
+
+/// What a file is for.
+#[derive(Clone, Copy, Debug, PartialEq, Eq)]
+pub enum Role {
+    /// The schema document.
+    Schema,
+    /// The hints at where fragments begin.
+    Hints,
+    /// The stream, or the event text.
+    Input,
+}
+
+/// Why a command is refused before it begins. It has a line of its own, and puts nothing else.
+#[derive(Clone, Copy, Debug, PartialEq, Eq)]
+pub enum Refusal {
+    /// The words are not of a command's form.
+    Usage,
+    /// A file could not be read.
+    ReadFailed,
+    /// A file is longer than 64 MiB.
+    TooLong(Role),
+}
+
+impl Refusal {
+    /// Its line, with the line's end.
+    pub(crate) fn line(self) -> &'static [u8]
+        ensures { result.now ≡ refusal_line self }
+    {
+        match self {
+            Refusal::Usage => b"usage\n",
+            Refusal::ReadFailed => b"read failed\n",
+            Refusal::TooLong(Role::Schema) => b"too long schema\n",
+            Refusal::TooLong(Role::Hints) => b"too long hints\n",
+            Refusal::TooLong(Role::Input) => b"too long input\n",
+        }
+    }
+
+    /// The status behind its line.
+    pub(crate) fn status(self) -> Status
+        ensures { result ≡ refusal_status self }
+    {
+        match self {
+            Refusal::Usage => Status::Usage,
+            Refusal::ReadFailed => Status::ReadFault,
+            Refusal::TooLong(_) => Status::TooLong,
+        }
+    }
+}
+
+/// Why a command stopped before its last line.
+#[derive(Clone, Copy, Debug, PartialEq, Eq)]
+pub(crate) enum Halt {
+    /// It is refused, and nothing was put.
+    Refused(Refusal),
+    /// The output could not be written.
+    Write,
+    /// There was no memory.
+    Memory,
+}
+
+impl From<AllocError> for Halt {
+    ghost from_gives = { λ _ e. e ≡ Memory };
+
+    fn from(_refused: AllocError) -> Halt {
+        Halt::Memory
+    }
+}
+
+impl From<SinkStop> for Halt {
+    ghost from_gives = { λ s e. e ≡ halt_of s };
+
+    fn from(stop: SinkStop) -> Halt {
+        match stop {
+            SinkStop::Failed => Halt::Write,
+            SinkStop::Memory => Halt::Memory,
+        }
+    }
+}
+
+impl From<ReadStop> for Halt {
+    ghost from_gives = { λ s e. e ≡ halt_by s };
+
+    fn from(stop: ReadStop) -> Halt {
+        match stop {
+            ReadStop::Stopped => Halt::Write,
+            ReadStop::Memory => Halt::Memory,
+        }
+    }
+}
