@@ -1,9 +1,11 @@
 -- What the reading of names and strings goes through: bits, a meter and the string tables.
-use Rattle.std.specs.Prelude.{Result, Ok, Err}
+use Rattle.std.specs.Prelude.{◌≡◌, ◌⊎◌, List, ℕ, Result, Ok, Err}
 use Rattle.exi_bits.specs.Bits.{Spot}
 use Rattle.exi_bits.specs.declared.fault.Fault.{Fault}
+use Rattle.exi_bits.specs.declared.fault.Stop.{Stop}
+use Rattle.exi_bits.specs.declared.fault.Stop.TheVariants as stop
 use Rattle.exi_meter.specs.Metering.{Metering}
-use Rattle.exi_tables.specs.Partitions.{Partitions}
+use Rattle.exi_tables.specs.Partitions.{Partitions, with_uri}
 
 -- what stands beside the bits
 pub record Beside : Type 0 where
@@ -32,3 +34,25 @@ failing meter (Err f) = Err (record { fault = f; meter = meter })
 -- a reading that may charge the meter and let the tables grow
 abbrev pub Courser : Type 0 → Type 0
 Courser X = Course → Result (X × Course) Failure
+
+-- ---- what a reader answers
+abbrev pub course : Spot → Metering → Partitions → Course
+course s m p = record { spot = s; beside = record { meter = m; tables = p } }
+
+-- What was answered, and where reading goes on with what stands beside, is what reading gives. After a fault the meter is
+-- this one.
+abbrev pub Goes : {X Y : Type 0} → (X → Y × Course) → Metering → Result X Fault → Result (Y × Course) Failure → Type 0
+Goes view m (Ok x) read = read ≡ Ok (view x)
+Goes view m (Err f) read = read ≡ Err (record { fault = f; meter = m })
+
+-- the same, where memory may run out
+abbrev pub GoesOrStops : {X Y : Type 0} → (X → Y × Course) → Metering → Result X Stop → Result (Y × Course) Failure → Type 0
+GoesOrStops view m (Ok x) read = read ≡ Ok (view x)
+GoesOrStops view m (Err stop.Memory) read = Unit {0}
+GoesOrStops view m (Err (stop.Fault f)) read = read ≡ Err (record { fault = f; meter = m })
+
+-- after a fault the tables are as they were; where memory ran out they may have one URI more
+abbrev pub Leaves : {X : Type 0} → Result X Stop → Partitions → Partitions → Type 0
+Leaves (Ok x) old new = Unit {0}
+Leaves (Err stop.Memory) old new = (new ≡ old) ⊎ ((uri : List ℕ) × (new ≡ with_uri old uri))
+Leaves (Err (stop.Fault f)) old new = new ≡ old

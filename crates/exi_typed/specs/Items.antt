@@ -1,8 +1,10 @@
 -- Items by their representation, as the value of an attribute or of characters (EXI 1.0, section 7.1): one reading,
 -- and one spelling. Those that go through the string tables have theirs so far.
-use Rattle.std.specs.Prelude.{◌≡◌, ℕ, Bool, List, None, Ok}
+use Rattle.std.specs.Prelude.{◌≡◌, ◌≢◌, ℕ, Bool, List, Option, None, Some, Ok, unwrap_or}
 use Rattle.exi_bits.specs.declared.align.Align.{Align}
 use Rattle.exi_bits.specs.Unsigned.{◌>>=◌}
+use Rattle.exi_names.specs.Datatypes.{Representation}
+use Rattle.exi_names.specs.Datatypes as datatype
 use Rattle.exi_names.specs.declared.names.NameId.{NameId}
 use Rattle.exi_names.specs.Seen.{Value}
 use Rattle.exi_names.specs.Seen as value
@@ -17,6 +19,30 @@ pub data Tabled : Type 0 where
   string : Tabled
   -- a name, and whether its prefix is kept
   qualified : Bool → Tabled
+
+-- how a datatype's items go through the tables, where they do
+abbrev pub tabled_of : Representation → Option Tabled
+tabled_of (datatype.small least count) = None
+tabled_of datatype.unsigned = None
+tabled_of datatype.integer = None
+tabled_of (datatype.boolean pattern) = None
+tabled_of (datatype.binary hex) = None
+tabled_of datatype.decimal = None
+tabled_of datatype.float = None
+tabled_of (datatype.moment kind) = None
+tabled_of (datatype.list item) = None
+tabled_of (datatype.choice base values) = None
+tabled_of datatype.text = Some string
+tabled_of (datatype.chars set) = None
+tabled_of (datatype.name keep) = Some (qualified keep)
+
+-- the datatype's items go through the tables
+abbrev pub IsTabled : Representation → Type 0
+IsTabled r = tabled_of r ≢ None
+
+-- how they do
+abbrev pub tabled : Representation → Tabled
+tabled r = unwrap_or (tabled_of r) string
 
 -- an item under a name
 unfoldable pub item_at : Tabled → Align → NameId → Courser Value

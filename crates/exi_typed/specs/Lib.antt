@@ -5,5 +5,6 @@ pub mod Limits
 pub mod Metered
 pub mod NameValues
 pub mod Onward
+pub mod Places
 pub mod Spelled
 pub mod Strings

@@ -100,4 +100,19 @@
 //! In a byte-aligned stream a number takes whole bytes, and otherwise all is the same.
 #![tactic(auto)]
 
+mod charge;
+mod declarations;
 pub mod laws;
+mod names;
+mod spaces;
+mod strings;
+#[cfg(test)]
+mod tests;
+mod values;
+
+pub use declarations::{DeclarationAt, declaration_texts, read_declaration};
+pub use names::{
+    NameAt, name_ref, read_known, read_name, read_name_under, read_name_value, read_prefix,
+};
+pub use strings::{StringRead, read_literal, read_string};
+pub use values::read_value;

@@ -1,0 +1,206 @@
+ghost use Rattle.std.specs.Prelude.{◌≡◌, ◌<◌, ◌^◌, IfOk, length};
+ghost use Rattle.std.specs.Prelude.{option_map};
+ghost use Rattle.exi_bits.specs.Bits.{IsAligned};
+ghost use Rattle.exi_names.specs.Shown.{named};
+ghost use Rattle.exi_tables.specs.Growth.{NoneLonger};
+ghost use Rattle.exi_tables.specs.Partitions.{IsName, prefixes, uris};
+ghost use Rattle.exi_typed.specs.Courses.{Goes, GoesOrStops, Leaves, course};
+ghost use Rattle.exi_typed.specs.NameValues.{name_value_at};
+ghost use Rattle.exi_typed.specs.Places.{IsNameAt, IsPlaceIn, name_in, text_in};
+ghost use Rattle.exi_typed.specs.Strings.{known_at, name_at, name_under, prefix_at};
+
+use crate::charge::{charge, charge_text, told};
+use crate::spaces::{Space, add_local, read_local, read_prefix_of, read_uri};
+use exi_bits::{Align, BitIn, Fault, Stop};
+use exi_meter::Meter;
+use exi_names::{NameId, NameRef};
+use exi_tables::Tables;
+use std::alloc::Global;
+
+/// A qualified name that was read, by its places in the string tables.
+#[derive(Clone, Copy, Debug, PartialEq, Eq)]
+pub struct NameAt {
+    /// The least places of its URI and its local name.
+    pub id: NameId,
+    /// The place of its prefix among those of its URI, where it has one.
+    pub prefix: Option<u32>,
+}
+
+/// The name that stands at these places of the tables.
+pub fn name_ref<T: Tables>(tables: &T, name: NameAt) -> NameRef<'_>
+    requires { IsNameAt (T.held tables.now) name }
+    ensures { named result ≡ (name_in (T.held tables.now) name).name }
+{
+    let uri = tables.uri_at(name.id.uri).unwrap();
+    let local = tables.local_at(name.id.uri, name.id.local).unwrap();
+    let prefix = match name.prefix {
+        Some(place) => tables.prefix_at(name.id.uri, place),
+        None => None,
+    };
+    NameRef { uri, local, prefix }
+}
+
+/// Reads the prefix of a name under the URI at a place, where prefixes are kept (EXI 1.0, section 7.1.7), and
+/// gives its place among those of the URI. Where the URI has none nothing is coded, and the name has none.
+///
+/// # Errors
+///
+/// The place may then be any.
+///
+/// - `Short` and `BadPlace` at the prefix's place.
+/// - `TextLimit` behind it, where the prefix would pass the limit.
+pub fn read_prefix<T: Tables>(
+    input: &mut BitIn<'_>,
+    keep: bool,
+    align: Align,
+    uri: u32,
+    tables: &T,
+    meter: &mut Meter,
+) -> Result<Option<u32>, Fault>
+    requires uri { uri < length (uris (T.held tables.now)) }
+    requires aligned { IsAligned align input.old }
+    ensures read { Goes (λ place. (option_map (text_in (prefixes (T.held tables.now) uri)) place, course input.new meter.new (T.held tables.now))) meter.new result (prefix_at keep align uri (course input.old meter.old (T.held tables.now))) }
+    ensures within { IfOk result (λ place. IsPlaceIn (prefixes (T.held tables.now) uri) place) }
+    ensures bytes { input.new.bytes ≡ input.old.bytes }
+    ensures aligned { IsAligned align input.new }
+{
+    read_prefix_of(input, keep, align, &Space::at(uri), tables, meter)
+}
+
+/// Reads a name that the event's code tells: its texts are charged, and only its prefix is coded.
+///
+/// # Errors
+///
+/// The place may then be any, and what was charged stays charged.
+///
+/// - `TextLimit` where a text would pass the limit: at the place, or behind that of the prefix.
+/// - `Short` and `BadPlace` at the prefix's place.
+#[tactic(auto, unfolding(crate::specs::Strings::known_at, crate::specs::Strings::charged_at))]
+pub fn read_known<T: Tables>(
+    input: &mut BitIn<'_>,
+    keep: bool,
+    align: Align,
+    name: NameId,
+    tables: &T,
+    meter: &mut Meter,
+) -> Result<NameAt, Fault>
+    requires name { IsName (T.held tables.now) name }
+    requires aligned { IsAligned align input.old }
+    ensures read { Goes (λ n. (name_in (T.held tables.now) n, course input.new meter.new (T.held tables.now))) meter.new result (known_at keep align name (course input.old meter.old (T.held tables.now))) }
+    ensures places { IfOk result (λ n. IsNameAt (T.held tables.now) n) }
+    ensures id { IfOk result (λ n. n.id ≡ name) }
+    ensures bytes { input.new.bytes ≡ input.old.bytes }
+    ensures aligned { IsAligned align input.new }
+{
+    let bit = input.at();
+    charge_text(meter, told(tables.uri_at(name.uri), bit)?, bit)?;
+    charge_text(meter, told(tables.local_at(name.uri, name.local), bit)?, bit)?;
+    let prefix = read_prefix(input, keep, align, name.uri, tables, meter)?;
+    Ok(NameAt { id: name, prefix })
+}
+
+/// Reads the local name of a URI at a place and, where prefixes are kept, the prefix, and adds what is missed.
+///
+/// # Errors
+///
+/// The place may then be any, and what was charged before a fault stays charged. The tables are unchanged.
+///
+/// - `Short`, `TooWide` and `BadChar` at the item that is so.
+/// - `BadPlace` at the place of a text that is not there.
+/// - `TextLimit` where a text would pass the limit: at its first character, or behind its place.
+/// - `Memory` where memory is refused.
+#[tactic(auto, unfolding(crate::specs::Strings::name_under))]
+pub fn read_name_under<T: Tables>(
+    alloc: Global,
+    input: &mut BitIn<'_>,
+    keep: bool,
+    align: Align,
+    uri: u32,
+    tables: &mut T,
+    meter: &mut Meter,
+) -> Result<NameAt, Stop>
+    requires uri { uri < length (uris (T.held tables.old)) }
+    requires few { NoneLonger (2 ^ 31) (T.held tables.old) }
+    requires aligned { IsAligned align input.old }
+    ensures read { GoesOrStops (λ n. (name_in (T.held tables.new) n, course input.new meter.new (T.held tables.new))) meter.new result (name_under keep align uri (text_in (uris (T.held tables.old)) uri) (course input.old meter.old (T.held tables.old))) }
+    ensures places { IfOk result (λ n. IsNameAt (T.held tables.new) n) }
+    ensures tables { Leaves result (T.held tables.old) (T.held tables.new) }
+    ensures bytes { input.new.bytes ≡ input.old.bytes }
+    ensures aligned { IsAligned align input.new }
+{
+    let space = Space::at(uri);
+    let local = read_local(alloc, input, align, &space, tables, meter)?;
+    let prefix = read_prefix_of(input, keep, align, &space, tables, meter)?;
+    let local = add_local(tables, uri, local)?;
+    Ok(NameAt {
+        id: NameId { uri, local },
+        prefix,
+    })
+}
+
+/// Reads a qualified name: its URI, its local name and, where prefixes are kept, its prefix (EXI 1.0, section
+/// 7.1.7). A URI or a local name that is missed is added; the name goes on as the least places of its texts.
+///
+/// # Errors
+///
+/// The place may then be any, and what was charged before a fault stays charged. After a fault the tables are
+/// unchanged; where memory ran out they may have the URI.
+///
+/// - `Short`, `TooWide` and `BadChar` at the item that is so.
+/// - `BadPlace` at the place of a text that is not there.
+/// - `TextLimit` where a text would pass the limit: at its first character, or behind its place.
+/// - `Memory` where memory is refused.
+#[tactic(auto, unfolding(crate::specs::Strings::name_at, crate::specs::Strings::name_under))]
+pub fn read_name<T: Tables>(
+    alloc: Global,
+    input: &mut BitIn<'_>,
+    keep: bool,
+    align: Align,
+    tables: &mut T,
+    meter: &mut Meter,
+) -> Result<NameAt, Stop>
+    requires few { NoneLonger (2 ^ 31) (T.held tables.old) }
+    requires aligned { IsAligned align input.old }
+    ensures read { GoesOrStops (λ n. (name_in (T.held tables.new) n, course input.new meter.new (T.held tables.new))) meter.new result (name_at keep align (course input.old meter.old (T.held tables.old))) }
+    ensures places { IfOk result (λ n. IsNameAt (T.held tables.new) n) }
+    ensures tables { Leaves result (T.held tables.old) (T.held tables.new) }
+    ensures bytes { input.new.bytes ≡ input.old.bytes }
+    ensures aligned { IsAligned align input.new }
+{
+    let space = read_uri(alloc, input, align, tables, meter)?;
+    let local = read_local(alloc, input, align, &space, tables, meter)?;
+    let prefix = read_prefix_of(input, keep, align, &space, tables, meter)?;
+    let uri = space.add(tables)?;
+    let local = add_local(tables, uri, local)?;
+    Ok(NameAt {
+        id: NameId { uri, local },
+        prefix,
+    })
+}
+
+/// Reads a value that is a name, as that of `xsi:type` (EXI 1.0, sections 7.1.7 and 8.4.3): one unit is charged,
+/// and a qualified name follows.
+///
+/// # Errors
+///
+/// As [`read_name`], and `TextLimit` at the place where the unit would pass the limit.
+#[tactic(auto, unfolding(crate::specs::NameValues::name_value_at))]
+pub fn read_name_value<T: Tables>(
+    alloc: Global,
+    input: &mut BitIn<'_>,
+    keep: bool,
+    align: Align,
+    tables: &mut T,
+    meter: &mut Meter,
+) -> Result<NameAt, Stop>
+    requires few { NoneLonger (2 ^ 31) (T.held tables.old) }
+    requires aligned { IsAligned align input.old }
+    ensures read { GoesOrStops (λ n. (name_in (T.held tables.new) n, course input.new meter.new (T.held tables.new))) meter.new result (name_value_at keep align (course input.old meter.old (T.held tables.old))) }
+    ensures places { IfOk result (λ n. IsNameAt (T.held tables.new) n) }
+    ensures tables { Leaves result (T.held tables.old) (T.held tables.new) }
+    ensures bytes { input.new.bytes ≡ input.old.bytes }
+    ensures aligned { IsAligned align input.new }
+{
+    charge(meter, 1, input.at())?;
+    read_name(alloc, input, keep, align, tables, meter)
+}
