@@ -22,7 +22,7 @@ use Rattle.exi_names.specs.declared.names.QName.{QName}
 use Rattle.exi_text.specs.Literals.{chars_at, code_at as char_code_at, in_set_at}
 use Rattle.exi_typed.specs.Items.{item_at}
 use Rattle.exi_typed.specs.NameValues.{name_value_at}
-use Rattle.exi_typed.specs.Strings.{charged_at, declaration_at, hit_at, indexed_at, known_at, literal_at, local_at, missed_at, name_at, name_under, value_at}
+use Rattle.exi_typed.specs.Strings.{charged_at, declaration_at, declared_under, hit_at, indexed_at, known_at, literal_at, local_at, missed_at, name_at, name_under, value_at}
 use Rattle.exi_reader.specs.Configurations.{Config, Setting, first_config}
 use Rattle.exi_reader.specs.Contents.{attribute_value_at, both_at}
 use Rattle.exi_reader.specs.OneEvent.{charge_at, followed, one}
@@ -226,7 +226,7 @@ pub record Streams : Type 0 where
   pub alone_comment : read_at 22 1 (0x80 ∷ 0x68 ∷ []) ≡ with_root (None) (reached ([]) (wrong kind.ScRoot 8 0 0 0))
 
 streams : Streams
-unfolding one followed charge_at item_at both_at attribute_value_at declaration_at name_value_at name_at name_under known_at local_at indexed_at literal_at missed_at hit_at charged_at value_at chars_at in_set_at char_code_at is_xml_char text_charge code_at second_at member_at part_at times below_at field_at unsigned_at narrow_groups_at groups_at number_at value_of bits number_bits le_value width_from
+unfolding one followed charge_at item_at both_at attribute_value_at declaration_at declared_under name_value_at name_at name_under known_at local_at indexed_at literal_at missed_at hit_at charged_at value_at chars_at in_set_at char_code_at is_xml_char text_charge code_at second_at member_at part_at times below_at field_at unsigned_at narrow_groups_at groups_at number_at value_of bits number_bits le_value width_from
 streams = record {
   empty_element = refl;
   one_text = refl;

@@ -22,7 +22,7 @@ use Rattle.exi_text.specs.Literals.{chars_at}
 use Rattle.exi_typed.specs.Courses.{Course, Courser, at_spot_of, failing}
 use Rattle.exi_typed.specs.Items.{Tabled, item_at, qualified, string}
 use Rattle.exi_typed.specs.NameValues.{name_value_at}
-use Rattle.exi_typed.specs.Strings.{Declaration, Growth, Named, Partition, charged_at, declaration_at, hit_at, indexed_at, known_at, listed, literal_at, local_at, missed_at, name_at, name_under, no_growth, own_values, place_in, placed_at, prefix_at, told_prefix, uri_at, value_at}
+use Rattle.exi_typed.specs.Strings.{Declaration, Growth, Named, Partition, charged_at, declaration_at, declared_under, hit_at, indexed_at, known_at, listed, literal_at, local_at, missed_at, name_at, name_under, no_growth, own_values, place_in, placed_at, prefix_at, told_prefix, uri_at, value_at}
 use Rattle.exi_typed.proofs.CourseItems.{beside, bind_told, course, told, told_is}
 
 -- so many texts to each list of a kind
@@ -287,7 +287,7 @@ module _ (a : Align) where
   declared_as uri prefix flag = record { uri = uri; prefix = prefix; element = eqb flag 1 }
 
   pub declaration_up : Grows {X = Declaration} one_declaration (declaration_at a)
-  unfolding declaration_at
+  unfolding declaration_at declared_under
   declaration_up = chained_up one_uri one_prefix (uri_at a)
       (λ uri c. indexed_at a (prefixes c.beside.tables (space_of uri c)) (λ p. with_prefix p (space_of uri c)) c >>= λ prefix. failing prefix.1.beside.meter (below_at 2 a kind.BadPlace prefix.1.spot) >>= λ flag. told {X = Declaration × Course} (declared_as uri prefix.0 flag.0, at_spot_of prefix.1 flag.1))
       (uri_up a)

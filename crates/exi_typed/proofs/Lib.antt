@@ -6,6 +6,7 @@ pub mod Agree
 pub mod Worked
 pub mod Goings
 pub mod Standing
+pub mod NewSpaces
 pub mod Limits
 pub mod ItemLaws
 pub mod Meters

@@ -15,7 +15,7 @@ use Rattle.exi_text.specs.Literals.{char_at, chars_at}
 use Rattle.exi_typed.specs.Courses.{Course, Courser, Failure, at_spot_of, failing}
 use Rattle.exi_typed.specs.Limits.{EndsWithin, IsWithin, StaysWithin}
 use Rattle.exi_typed.specs.NameValues.{name_value_at, with_meter}
-use Rattle.exi_typed.specs.Strings.{Declaration, Growth, Named, Partition, charged_at, declaration_at, hit_at, indexed_at, known_at, listed, literal_at, local_at, missed_at, name_at, name_under, own_values, place_in, placed_at, prefix_at, told_prefix, uri_at, value_at}
+use Rattle.exi_typed.specs.Strings.{Declaration, Growth, Named, Partition, charged_at, declaration_at, declared_under, hit_at, indexed_at, known_at, listed, literal_at, local_at, missed_at, name_at, name_under, own_values, place_in, placed_at, prefix_at, told_prefix, uri_at, value_at}
 
 -- ---- put together
 fine_bind : {X Y : Type 0} (limits : Bounds) (r : Result (X × Course) Failure) (two : X → Courser Y) → EndsWithin limits r → ((x : X) → StaysWithin (two x)) → EndsWithin limits (r >>= λ x. two x.0 x.1)
@@ -169,7 +169,7 @@ flag_within : (a : Align) (uri prefix : List ℕ) → StaysWithin {X = Declarati
 flag_within a uri prefix limits d w = fine_behind limits d (below_at 2 a kind.BadPlace d.spot) (λ (flag : ℕ) e. Ok (declared uri prefix flag, e)) w (λ flag. within_given (declared uri prefix flag))
 
 pub declaration_within : (a : Align) → StaysWithin (declaration_at a)
-unfolding declaration_at
+unfolding declaration_at declared_under
 declaration_within a =
     within_bind (uri_at a)
     (λ uri c. indexed_at a (prefixes_of c.beside.tables (place_in (uris c.beside.tables) uri)) (λ p. with_prefix p (place_in (uris c.beside.tables) uri)) c >>= λ prefix. failing prefix.1.beside.meter (below_at 2 a kind.BadPlace prefix.1.spot) >>= λ flag. Ok (declared uri prefix.0 flag.0, at_spot_of prefix.1 flag.1))

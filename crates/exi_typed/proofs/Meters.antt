@@ -17,7 +17,7 @@ use Rattle.exi_typed.specs.Courses.{Course, Courser, Failure, at_spot_of, failin
 use Rattle.exi_typed.specs.Items.{Tabled, item_at, qualified, string}
 use Rattle.exi_typed.specs.Metered.{Charge, IsMetered, Metered, ReadingsAreMetered, Unmetered, charging, metered}
 use Rattle.exi_typed.specs.NameValues.{name_value_at, with_meter}
-use Rattle.exi_typed.specs.Strings.{Declaration, Growth, Named, Partition, charged_at, declaration_at, hit_at, indexed_at, known_at, listed, literal_at, local_at, missed_at, name_at, name_under, own_values, place_in, placed_at, prefix_at, told_prefix, uri_at, value_at}
+use Rattle.exi_typed.specs.Strings.{Declaration, Growth, Named, Partition, charged_at, declaration_at, declared_under, hit_at, indexed_at, known_at, listed, literal_at, local_at, missed_at, name_at, name_under, own_values, place_in, placed_at, prefix_at, told_prefix, uri_at, value_at}
 use Rattle.exi_typed.proofs.CourseItems.{beside, charged, course, fine, told}
 
 -- ---- under `do`
@@ -205,7 +205,7 @@ module _ (a : Align) where
   declared_as uri prefix flag = record { uri = uri; prefix = prefix; element = eqb flag 1 }
 
   pub declaration_metered : IsMetered (declaration_at a)
-  unfolding declaration_at
+  unfolding declaration_at declared_under
   declaration_metered = bind_metered (uri_at a)
       (λ uri c. indexed_at a (prefixes c.beside.tables (space_of uri c.beside.tables)) (λ q. with_prefix q (space_of uri c.beside.tables)) c >>= λ prefix. failing prefix.1.beside.meter (below_at 2 a kind.BadPlace prefix.1.spot) >>= λ flag. told {X = Declaration × Course} (declared_as uri prefix.0 flag.0, at_spot_of prefix.1 flag.1))
       (uri_metered a)

@@ -16,7 +16,7 @@ use Rattle.exi_typed.specs.Courses.{Beside, Course, at_spot_of, failing}
 use Rattle.exi_typed.specs.Laws.{Spelling}
 use Rattle.exi_typed.specs.NameValues.{SpellsNameValue, name_value_at}
 use Rattle.exi_typed.specs.Spelled.{IsHit, IsNothing, SpellsDeclaration, SpellsFlag, SpellsKnown, SpellsLocal, SpellsName, SpellsNameUnder, SpellsNewPrefix, SpellsPrefix, SpellsUri}
-use Rattle.exi_typed.specs.Strings.{Declaration, Named, declaration_at, hit_at, indexed_at, known_at, listed, local_at, name_at, name_under, place_in, placed_at, prefix_at, told_prefix, uri_at}
+use Rattle.exi_typed.specs.Strings.{Declaration, Named, declaration_at, declared_under, hit_at, indexed_at, known_at, listed, local_at, name_at, name_under, place_in, placed_at, prefix_at, told_prefix, uri_at}
 use Rattle.exi_typed.proofs.CourseItems.{Behind, Chained, CourseItem, IsPure, IsTold, MadeBeside, PaysFirst, at_start, behind, chained, in_words, made, paying, placed, pure, some_is, told}
 use Rattle.exi_typed.proofs.Texts.{Below, below_fits, indexed_in, item_hit, item_local, item_uri}
 
@@ -336,7 +336,7 @@ module _ (a : Align) where
   space_at uri w = place_in (uris w.tables) uri
 
   pub item_declaration : CourseItem {X = Declaration} a (declaration_at a) (SpellsDeclaration a)
-  unfolding declaration_at
+  unfolding declaration_at declared_under
   item_declaration = in_words a (declaration_at a) DeclarationBits (SpellsDeclaration a) to_declaration from_declaration
       (chained a (uri_at a)
       (λ uri c. indexed_at a (prefixes c.beside.tables (space_at uri c.beside)) (λ p. with_prefix p (space_at uri c.beside)) c >>= λ prefix. failing prefix.1.beside.meter (below_at 2 a kind.BadPlace prefix.1.spot) >>= λ flag. told {X = Declaration × Course} (declared uri prefix.0 (eqb flag.0 1), at_spot_of prefix.1 flag.1))

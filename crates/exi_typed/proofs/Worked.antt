@@ -15,7 +15,7 @@ use Rattle.exi_names.specs.declared.names.NameId.{NameId}
 use Rattle.exi_tables.specs.Partitions.{Partitions, first_partitions, locals, name_value_at, prefixes, values, with_local, with_prefix, with_uri, with_value}
 use Rattle.exi_text.specs.Literals.{chars_at, code_at}
 use Rattle.exi_typed.specs.Courses.{Beside, Course, Failure}
-use Rattle.exi_typed.specs.Strings.{Named, charged_at, declaration_at, hit_at, indexed_at, known_at, literal_at, local_at, missed_at, name_at, name_under, value_at}
+use Rattle.exi_typed.specs.Strings.{Named, charged_at, declaration_at, declared_under, hit_at, indexed_at, known_at, literal_at, local_at, missed_at, name_at, name_under, value_at}
 
 abbrev at_bit : List ℕ → ℕ → Beside → Course
 at_bit bytes place w = record { spot = record { bytes = bytes; place = place }; beside = w }
@@ -165,7 +165,7 @@ name_in_u = refl
 
 -- 100 is the place 3 of the URIs, 01 70 spells the prefix out where there is none yet, and 1 says that it is that of the element
 declared : declaration_at align.Bits (at_bit one_declaration 45 (after 2 with_u)) ≡ Ok (record { uri = u_text; prefix = p_text; element = true }, at_bit one_declaration 65 (after 4 (with_prefix with_u 3 p_text)))
-unfolding declaration_at missed_at literal_at indexed_at charged_at below_at field_at unsigned_at narrow_groups_at groups_at number_at value_of bits number_bits width_from text_charge chars_at times code_at is_xml_char
+unfolding declaration_at declared_under missed_at literal_at indexed_at charged_at below_at field_at unsigned_at narrow_groups_at groups_at number_at value_of bits number_bits width_from text_charge chars_at times code_at is_xml_char
 declared = refl
 
 p_stands : prefixes (with_prefix with_u 3 p_text) 3 ≡ p_text ∷ []

@@ -51,8 +51,12 @@ GoesOrStops view m (Ok x) read = read ≡ Ok (view x)
 GoesOrStops view m (Err stop.Memory) read = Unit {0}
 GoesOrStops view m (Err (stop.Fault f)) read = read ≡ Err (record { fault = f; meter = m })
 
+-- the tables are as they were, or have one URI more
+abbrev pub MayHaveUri : Partitions → Partitions → Type 0
+MayHaveUri old new = (new ≡ old) ⊎ ((uri : List ℕ) × (new ≡ with_uri old uri))
+
 -- after a fault the tables are as they were; where memory ran out they may have one URI more
 abbrev pub Leaves : {X : Type 0} → Result X Stop → Partitions → Partitions → Type 0
 Leaves (Ok x) old new = Unit {0}
-Leaves (Err stop.Memory) old new = (new ≡ old) ⊎ ((uri : List ℕ) × (new ≡ with_uri old uri))
+Leaves (Err stop.Memory) old new = MayHaveUri old new
 Leaves (Err (stop.Fault f)) old new = new ≡ old

@@ -1,10 +1,12 @@
 -- What the answers of readers stand for: names, declarations and strings by their places in the string tables.
-use Rattle.std.specs.Prelude.{◌<◌, ℕ, List, [], length, get_or, Option, Some, None, option_map}
+use Rattle.std.specs.Prelude.{◌≡◌, ◌<◌, ℕ, List, [], length, get_or, Option, Some, None, option_map}
 use Rattle.exi_names.specs.declared.names.NameId.{NameId}
 use Rattle.exi_tables.specs.Partitions.{IsName, Partitions, locals, prefixes, uris, with_local, with_prefix, with_uri, with_value}
-use Rattle.exi_typed.specs.Strings.{Declaration, Named}
+use Rattle.exi_typed.specs.Strings.{Declaration, Named, place_in}
 use Rattle.exi_typed.specs.declared.declarations.DeclarationAt.{DeclarationAt}
+use Rattle.exi_typed.specs.declared.declarations.DeclarationRead.{DeclarationRead}
 use Rattle.exi_typed.specs.declared.names.NameAt.{NameAt}
+use Rattle.exi_typed.specs.declared.parts.NameRead.{NameRead}
 use Rattle.exi_typed.specs.declared.spaces.Space.{Space}
 use Rattle.exi_typed.specs.declared.spaces.Spelled.{Spelled}
 use Rattle.exi_typed.specs.declared.spaces.Spelled.TheVariants as spelled
@@ -89,3 +91,42 @@ with_spelled_local p uri (spelled.Missed text) = with_local p uri text
 abbrev pub with_spelled_prefix : Partitions → ℕ → Spelled → Partitions
 with_spelled_prefix p uri (spelled.Placed place) = p
 with_spelled_prefix p uri (spelled.Missed text) = with_prefix p uri text
+
+-- the tables once the texts of a name are added, where they were missed
+abbrev pub with_name : Partitions → NameRead → Partitions
+with_name p r = with_spelled_local (with_space p r.space) r.space.place r.local
+
+-- the name
+abbrev pub name_of : Partitions → NameRead → Named
+name_of p r = record {
+  id = record { uri = r.space.place; local = place_in (locals (with_name p r) r.space.place) (spelled_text (locals (with_space p r.space) r.space.place) r.local) };
+  name = record {
+    uri = space_text p r.space;
+    local = spelled_text (locals (with_space p r.space) r.space.place) r.local;
+    prefix = option_map (text_in (prefixes (with_name p r) r.space.place)) r.prefix;
+  };
+}
+
+-- the URI stands at its place, once it is added
+pub record IsSpace (p : Partitions) (s : Space) : Type 0 where
+  pub within : s.place < length (uris (with_space p s))
+  pub text_is : text_in (uris (with_space p s)) s.place ≡ space_text p s
+
+-- so does the URI of a name, and the places under it exist
+pub record IsNameRead (p : Partitions) (r : NameRead) : Type 0 where
+  pub space : IsSpace p r.space
+  pub local : IsSpelledIn (locals (with_space p r.space) r.space.place) r.local
+  pub prefix : IsPlaceIn (prefixes (with_name p r) r.space.place) r.prefix
+
+-- the tables once the texts of a declaration are added, where they were missed
+abbrev pub with_declaration : Partitions → DeclarationRead → Partitions
+with_declaration p r = with_spelled_prefix (with_space p r.space) r.space.place r.prefix
+
+-- the declaration
+abbrev pub declaration_of : Partitions → DeclarationRead → Declaration
+declaration_of p r = record { uri = space_text p r.space; prefix = spelled_text (prefixes (with_space p r.space) r.space.place) r.prefix; element = r.element }
+
+-- its URI stands at its place, once it is added, and its prefix is one of the URI's or new
+pub record IsDeclarationRead (p : Partitions) (r : DeclarationRead) : Type 0 where
+  pub space : IsSpace p r.space
+  pub prefix : IsSpelledIn (prefixes (with_space p r.space) r.space.place) r.prefix

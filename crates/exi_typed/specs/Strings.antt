@@ -151,13 +151,18 @@ pub record Declaration : Type 0 where
 abbrev is_one : ℕ → Bool
 is_one n = n == 1
 
--- a URI, a prefix in that URI's partition, told as a URI is, and one bit (7.1.7, section 4)
+-- the prefix of a declaration under a URI, told as a URI is, and one bit
+unfoldable pub declared_under : Align → ℕ → List ℕ → Courser Declaration
+declared_under a uri text c = do
+  prefix ← indexed_at a (prefixes c.beside.tables uri) (λ p. with_prefix p uri) c
+  flag ← failing prefix.1.beside.meter (below_at 2 a kind.BadPlace prefix.1.spot)
+  Ok (record { uri = text; prefix = prefix.0; element = is_one flag.0 }, at_spot_of prefix.1 flag.1)
+
+-- a URI, a prefix in that URI's partition, and one bit (7.1.7, section 4)
 unfoldable pub declaration_at : Align → Courser Declaration
 declaration_at a c = do
   uri ← uri_at a c
-  prefix ← indexed_at a (prefixes uri.1.beside.tables (place_in (uris uri.1.beside.tables) uri.0)) (λ p. with_prefix p (place_in (uris uri.1.beside.tables) uri.0)) uri.1
-  flag ← failing prefix.1.beside.meter (below_at 2 a kind.BadPlace prefix.1.spot)
-  Ok (record { uri = uri.0; prefix = prefix.0; element = is_one flag.0 }, at_spot_of prefix.1 flag.1)
+  declared_under a (place_in (uris uri.1.beside.tables) uri.0) uri.0 uri.1
 
 -- ---- values
 -- a string value under a name: 0 is a hit among the name's own values and 1 a hit among all, each with its place;

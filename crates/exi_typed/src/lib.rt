@@ -104,6 +104,7 @@ mod charge;
 mod declarations;
 pub mod laws;
 mod names;
+mod parts;
 mod spaces;
 mod strings;
 #[cfg(test)]

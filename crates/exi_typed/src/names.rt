@@ -10,7 +10,8 @@ ghost use Rattle.exi_typed.specs.Places.{IsNameAt, IsPlaceIn, name_in, text_in};
 ghost use Rattle.exi_typed.specs.Strings.{known_at, name_at, name_under, prefix_at};
 
 use crate::charge::{charge, charge_text, told};
-use crate::spaces::{Space, add_local, read_local, read_prefix_of, read_uri};
+use crate::parts::{NameRead, read_parts, read_prefix_of, read_under};
+use crate::spaces::Space;
 use exi_bits::{Align, BitIn, Fault, Stop};
 use exi_meter::Meter;
 use exi_names::{NameId, NameRef};
@@ -64,7 +65,7 @@ pub fn read_prefix<T: Tables>(
     ensures bytes { input.new.bytes ≡ input.old.bytes }
     ensures aligned { IsAligned align input.new }
 {
-    read_prefix_of(input, keep, align, &Space::at(uri), tables, meter)
+    read_prefix_of(input, keep, align, &NameRead::under(uri), tables, meter)
 }
 
 /// Reads a name that the event's code tells: its texts are charged, and only its prefix is coded.
@@ -94,7 +95,11 @@ pub fn read_known<T: Tables>(
 {
     let bit = input.at();
     charge_text(meter, told(tables.uri_at(name.uri), bit)?, bit)?;
-    charge_text(meter, told(tables.local_at(name.uri, name.local), bit)?, bit)?;
+    charge_text(
+        meter,
+        told(tables.local_at(name.uri, name.local), bit)?,
+        bit,
+    )?;
     let prefix = read_prefix(input, keep, align, name.uri, tables, meter)?;
     Ok(NameAt { id: name, prefix })
 }
@@ -109,7 +114,6 @@ pub fn read_known<T: Tables>(
 /// - `BadPlace` at the place of a text that is not there.
 /// - `TextLimit` where a text would pass the limit: at its first character, or behind its place.
 /// - `Memory` where memory is refused.
-#[tactic(auto, unfolding(crate::specs::Strings::name_under))]
 pub fn read_name_under<T: Tables>(
     alloc: Global,
     input: &mut BitIn<'_>,
@@ -128,14 +132,8 @@ pub fn read_name_under<T: Tables>(
     ensures bytes { input.new.bytes ≡ input.old.bytes }
     ensures aligned { IsAligned align input.new }
 {
-    let space = Space::at(uri);
-    let local = read_local(alloc, input, align, &space, tables, meter)?;
-    let prefix = read_prefix_of(input, keep, align, &space, tables, meter)?;
-    let local = add_local(tables, uri, local)?;
-    Ok(NameAt {
-        id: NameId { uri, local },
-        prefix,
-    })
+    let read = read_under(alloc, input, keep, align, Space::at(uri), tables, meter)?;
+    Ok(read.add(tables)?)
 }
 
 /// Reads a qualified name: its URI, its local name and, where prefixes are kept, its prefix (EXI 1.0, section
@@ -150,7 +148,6 @@ pub fn read_name_under<T: Tables>(
 /// - `BadPlace` at the place of a text that is not there.
 /// - `TextLimit` where a text would pass the limit: at its first character, or behind its place.
 /// - `Memory` where memory is refused.
-#[tactic(auto, unfolding(crate::specs::Strings::name_at, crate::specs::Strings::name_under))]
 pub fn read_name<T: Tables>(
     alloc: Global,
     input: &mut BitIn<'_>,
@@ -167,15 +164,8 @@ pub fn read_name<T: Tables>(
     ensures bytes { input.new.bytes ≡ input.old.bytes }
     ensures aligned { IsAligned align input.new }
 {
-    let space = read_uri(alloc, input, align, tables, meter)?;
-    let local = read_local(alloc, input, align, &space, tables, meter)?;
-    let prefix = read_prefix_of(input, keep, align, &space, tables, meter)?;
-    let uri = space.add(tables)?;
-    let local = add_local(tables, uri, local)?;
-    Ok(NameAt {
-        id: NameId { uri, local },
-        prefix,
-    })
+    let read = read_parts(alloc, input, keep, align, tables, meter)?;
+    Ok(read.add(tables)?)
 }
 
 /// Reads a value that is a name, as that of `xsi:type` (EXI 1.0, sections 7.1.7 and 8.4.3): one unit is charged,

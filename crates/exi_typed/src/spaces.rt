@@ -1,14 +1,13 @@
-ghost use Rattle.std.specs.Prelude.{◌≡◌, ◌<◌, ◌-◌, ◌^◌, None, Some, IfOk, OnOk, OnErr, length};
+ghost use Rattle.std.specs.Prelude.{◌≡◌, ◌<◌, ◌-◌, ◌^◌, None, Some, IfOk, OnOk, OnErr, MatchResult, length};
 ghost use Rattle.std.specs.Option.{option_copied};
-ghost use Rattle.std.specs.Prelude.{option_map};
 ghost use Rattle.exi_bits.specs.Bits.{IsAligned};
+ghost use Rattle.exi_bits.specs.declared.fault.Kind.TheVariants as kind;
 ghost use Rattle.exi_tables.specs.Growth.{NoneLonger};
 ghost use Rattle.exi_tables.specs.Partitions.{live_at, locals, prefixes, uris};
-ghost use Rattle.exi_typed.specs.Courses.{Goes, GoesOrStops, Leaves, course};
+ghost use Rattle.exi_typed.specs.Courses.{GoesOrStops, course};
 ghost use Rattle.exi_typed.specs.Places.{
-  IsPlaceIn,
+  IsSpace,
   IsSpelledIn,
-  missed_or,
   space_text,
   spelled_text,
   text_in,
@@ -16,7 +15,7 @@ ghost use Rattle.exi_typed.specs.Places.{
   with_spelled_local,
   with_spelled_prefix,
 };
-ghost use Rattle.exi_typed.specs.Strings.{local_at, place_in, prefix_at, uri_at};
+ghost use Rattle.exi_typed.specs.Strings.{local_at, place_in, uri_at};
 
 use crate::charge::{charge_text, told};
 use exi_bits::{Align, BitIn, Fault, Kind, Stop};
@@ -59,16 +58,47 @@ impl Space {
     fn of<T: Tables>(tables: &T, text: Txt) -> Space
         requires few { NoneLonger (2 ^ 31) (T.held tables.now) }
         ensures text { result.missed ≡ Some text }
-        ensures place { result.place ≡ place_in (uris (with_space (T.held tables.now) result)) text }
-        ensures within { result.place < length (uris (with_space (T.held tables.now) result)) }
+        ensures least { result.place ≡ place_in (uris (with_space (T.held tables.now) result)) text }
+        ensures space { IsSpace (T.held tables.now) result }
     {
-        let place = match tables.uri_of(&text) {
-            Some(place) => place,
-            None => tables.uris(),
-        };
+        let place = tables.uri_of(&text).unwrap_or(tables.uris());
         Space {
             place,
             missed: Some(text),
+        }
+    }
+
+    /// The URI that a place tells, with its text, or `BadPlace` at the place's first bit.
+    fn told<T: Tables>(tables: &T, place: u32, bit: u64) -> Result<(Space, &Txt), Fault>
+        ensures told { MatchResult result (λ x. live_at (uris (T.held tables.now)) place ≡ Some x.1.now) (λ f. (live_at (uris (T.held tables.now)) place ≡ None) × (f ≡ record { kind = kind.BadPlace; bit = bit })) }
+        ensures missed { IfOk result (λ x. x.0.missed ≡ None) }
+        ensures text { IfOk result (λ x. space_text (T.held tables.now) x.0 ≡ x.1.now) }
+        ensures least { IfOk result (λ x. x.0.place ≡ place_in (uris (T.held tables.now)) x.1.now) }
+        ensures space { IfOk result (λ x. IsSpace (T.held tables.now) x.0) }
+    {
+        let text = told(tables.uri_at(place), bit)?;
+        Ok((Space::at(tables.least_uri(place)), text))
+    }
+
+    /// The URI itself.
+    pub fn text<'a, T: Tables>(&'a self, tables: &'a T) -> &'a Txt
+        requires { IsSpace (T.held tables.now) self.now }
+        ensures { result.now ≡ space_text (T.held tables.now) self.now }
+    {
+        match &self.missed {
+            Some(text) => text,
+            None => tables.uri_at(self.place).unwrap(),
+        }
+    }
+
+    /// The local name that was told among those of the URI, or spelled out.
+    pub fn spelled_local<'a, T: Tables>(&self, tables: &'a T, local: &'a Spelled) -> &'a Txt
+        requires { IsSpelledIn (locals (with_space (T.held tables.now) self.now) self.now.place) local.now }
+        ensures { result.now ≡ spelled_text (locals (with_space (T.held tables.now) self.now) self.now.place) local.now }
+    {
+        match local {
+            Spelled::Placed(place) => self.local_at(tables, *place).unwrap(),
+            Spelled::Missed(text) => text,
         }
     }
 
@@ -127,10 +157,14 @@ impl Space {
         ensures added { OnOk result (T.held tables.new ≡ with_space (T.held tables.old) self) }
         ensures err { OnErr result (T.held tables.new ≡ T.held tables.old) }
     {
-        if let Some(text) = self.missed {
-            tables.add_uri(text)?;
+        let Space { place, missed } = self;
+        match missed {
+            Some(text) => {
+                tables.add_uri(text)?;
+                Ok(place)
+            }
+            None => Ok(place),
         }
-        Ok(self.place)
     }
 }
 
@@ -146,8 +180,8 @@ pub fn read_uri<T: Tables>(
     requires few { NoneLonger (2 ^ 31) (T.held tables.now) }
     requires aligned { IsAligned align input.old }
     ensures read { GoesOrStops (λ s. (space_text (T.held tables.now) s, course input.new meter.new (with_space (T.held tables.now) s))) meter.new result (uri_at align (course input.old meter.old (T.held tables.now))) }
-    ensures place { IfOk result (λ s. s.place ≡ place_in (uris (with_space (T.held tables.now) s)) (space_text (T.held tables.now) s)) }
-    ensures within { IfOk result (λ s. s.place < length (uris (with_space (T.held tables.now) s))) }
+    ensures least { IfOk result (λ s. s.place ≡ place_in (uris (with_space (T.held tables.now) s)) (space_text (T.held tables.now) s)) }
+    ensures space { IfOk result (λ s. IsSpace (T.held tables.now) s) }
     ensures bytes { input.new.bytes ≡ input.old.bytes }
     ensures aligned { IsAligned align input.new }
 {
@@ -158,10 +192,9 @@ pub fn read_uri<T: Tables>(
         let text = read_chars(alloc, input, count, None, align, meter)?;
         return Ok(Space::of(tables, text));
     }
-    let place = (code - 1) as u32;
-    let text = told(tables.uri_at(place), bit)?;
+    let (space, text) = Space::told(tables, (code - 1) as u32, bit)?;
     charge_text(meter, text, input.at())?;
-    Ok(Space::at(tables.least_uri(place)))
+    Ok(space)
 }
 
 /// Reads a local name of a URI (EXI 1.0, section 7.3.2). After an `Err` the place is anything.
@@ -192,37 +225,6 @@ pub fn read_local<T: Tables>(
     Ok(Spelled::Placed(place))
 }
 
-/// Reads the prefix of a name of a URI, where prefixes are kept (EXI 1.0, section 7.1.7). After an `Err` the
-/// place is anything.
-#[tactic(auto, unfolding(crate::specs::Strings::hit_at, crate::specs::Strings::charged_at))]
-pub fn read_prefix_of<T: Tables>(
-    input: &mut BitIn<'_>,
-    keep: bool,
-    align: Align,
-    space: &Space,
-    tables: &T,
-    meter: &mut Meter,
-) -> Result<Option<u32>, Fault>
-    requires aligned { IsAligned align input.old }
-    ensures read { Goes (λ place. (option_map (text_in (prefixes (with_space (T.held tables.now) space.now) space.now.place)) place, course input.new meter.new (with_space (T.held tables.now) space.now))) meter.new result (prefix_at keep align space.now.place (course input.old meter.old (with_space (T.held tables.now) space.now))) }
-    ensures within { IfOk result (λ place. IsPlaceIn (prefixes (with_space (T.held tables.now) space.now) space.now.place) place) }
-    ensures bytes { input.new.bytes ≡ input.old.bytes }
-    ensures aligned { IsAligned align input.new }
-{
-    if !keep {
-        return Ok(None);
-    }
-    let count = space.prefixes(tables);
-    if count == 0 {
-        return Ok(None);
-    }
-    let bit = input.at();
-    let place = input.below(u64::from(count), align, Kind::BadPlace)? as u32;
-    let text = told(space.prefix_at(tables, place), bit)?;
-    charge_text(meter, text, input.at())?;
-    Ok(Some(place))
-}
-
 /// Adds a local name of a URI where it was spelled out, and gives its least place.
 pub fn add_local<T: Tables>(tables: &mut T, uri: u32, local: Spelled) -> Result<u32, AllocError>
     requires uri { uri < length (uris (T.held tables.old)) }
@@ -236,13 +238,11 @@ pub fn add_local<T: Tables>(tables: &mut T, uri: u32, local: Spelled) -> Result<
 {
     match local {
         Spelled::Placed(place) => Ok(tables.least_local(uri, place)),
-        Spelled::Missed(text) => match tables.local_of(uri, &text) {
-            Some(place) => {
-                tables.add_local(uri, text)?;
-                Ok(place)
-            }
-            None => tables.add_local(uri, text),
-        },
+        Spelled::Missed(text) => {
+            let least = tables.local_of(uri, &text);
+            let place = tables.add_local(uri, text)?;
+            Ok(least.unwrap_or(place))
+        }
     }
 }
 
@@ -258,6 +258,9 @@ pub fn add_prefix<T: Tables>(tables: &mut T, uri: u32, prefix: Spelled) -> Resul
 {
     match prefix {
         Spelled::Placed(place) => Ok(place),
-        Spelled::Missed(text) => tables.add_prefix(uri, text),
+        Spelled::Missed(text) => {
+            let place = tables.add_prefix(uri, text)?;
+            Ok(place)
+        }
     }
 }

@@ -1,18 +1,161 @@
+ghost use Rattle.std.specs.Prelude.{◌^◌, IfOk};
+ghost use Rattle.exi_tables.specs.Growth.{NoneLonger};
+
 use super::*;
-use exi_bits::{Align, BitIn, Stop};
+use exi_bits::{Align, BitIn};
 use exi_meter::{Limits, Meter};
-use exi_names::{Datatype, NameId, StartNames, Txt};
-use exi_tables::{HashTables, ListTables, Tables};
+use exi_names::{Datatype, NameId, StartNames, Txt, Val};
+use exi_tables::{HashTables, ListTables, Tables, is_name};
+use std::alloc::{AllocError, Global};
 use std::test::*;
 
-#[test]
-fn a_name_is_read_and_added(rt: HostRuntime) -> Result<(), Fail> {
-    let alloc = rt.alloc();
+/// The first tables where there is no schema.
+fn start<T: Tables>(alloc: Global) -> Result<T, AllocError>
+    ensures few { IfOk result (λ tables. NoneLonger (2 ^ 31) (T.held tables)) }
+{
     let names = StartNames::without_schema(alloc)?;
-    let mut tables = ListTables::start(alloc, &names, None, None)?;
+    let _ = names.uris();
+    T::start(alloc, &names, None, None)
+}
+
+#[test]
+fn names_are_read_by_their_places(rt: HostRuntime) -> Result<(), Fail> {
+    let alloc = rt.alloc();
+    let mut tables = start::<ListTables>(alloc)?;
     let mut meter = Meter::new(Limits::of_stream());
     let mut input = BitIn::new(&[0x40, 0x98, 0x40]);
-    let found = read_name(alloc, &mut input, false, Align::Bits, &mut tables, &mut meter);
-    assert_eq!(rt; tables.locals(0), 1);
+    let name = read_name(
+        alloc,
+        &mut input,
+        true,
+        Align::Bits,
+        &mut tables,
+        &mut meter,
+    )?;
+    let known = read_known(&mut input, true, Align::Bits, name.id, &tables, &mut meter)?;
+    let prefix = read_prefix(
+        &mut input,
+        true,
+        Align::Bits,
+        name.id.uri,
+        &tables,
+        &mut meter,
+    )?;
+    assert_eq!(rt; name, known);
+    assert_eq!(rt; prefix, Some(0));
+    let found = name_ref(&tables, name);
+    assert_eq!(rt; found.uri.as_str(), "");
+    assert_eq!(rt; found.local.as_str(), "a");
+    assert_eq!(rt; meter.used().text, 2);
+    Ok(())
+}
+
+#[test]
+fn a_name_is_read_under_a_uri(rt: HostRuntime) -> Result<(), Fail> {
+    let alloc = rt.alloc();
+    let mut tables = start::<HashTables>(alloc)?;
+    let mut meter = Meter::new(Limits::of_stream());
+    if tables.uris() > 1 {
+        let name = read_name_under(
+            alloc,
+            &mut BitIn::new(&[0x00, 0x80]),
+            false,
+            Align::Bits,
+            1,
+            &mut tables,
+            &mut meter,
+        )?;
+        assert_eq!(rt; name_ref(&tables, name).local.as_str(), "lang");
+    }
+    Ok(())
+}
+
+#[test]
+fn a_name_is_read_as_a_value(rt: HostRuntime) -> Result<(), Fail> {
+    let alloc = rt.alloc();
+    let mut tables = start::<ListTables>(alloc)?;
+    let mut meter = Meter::new(Limits::of_stream());
+    let name = read_name_value(
+        alloc,
+        &mut BitIn::new(&[0x40, 0x98, 0x40]),
+        false,
+        Align::Bits,
+        &mut tables,
+        &mut meter,
+    )?;
+    assert_eq!(rt;
+        name,
+        NameAt {
+            id: NameId { uri: 0, local: 0 },
+            prefix: None
+        }
+    );
+    assert_eq!(rt; meter.used().text, 2);
+    Ok(())
+}
+
+#[test]
+fn a_declaration_is_read_by_its_places(rt: HostRuntime) -> Result<(), Fail> {
+    let alloc = rt.alloc();
+    let mut tables = start::<ListTables>(alloc)?;
+    let mut meter = Meter::new(Limits::of_stream());
+    let declared = read_declaration(
+        alloc,
+        &mut BitIn::new(&[0x00, 0x5D, 0x40, 0x5C, 0x20]),
+        Align::Bits,
+        &mut tables,
+        &mut meter,
+    )?;
+    let (uri, prefix) = declaration_texts(&tables, declared);
+    assert_eq!(rt; uri.as_str(), "u");
+    assert_eq!(rt; prefix.as_str(), "p");
+    assert!(rt; declared.element);
+    Ok(())
+}
+
+#[test]
+fn strings_are_read(rt: HostRuntime) -> Result<(), Fail> {
+    let alloc = rt.alloc();
+    let tables = start::<HashTables>(alloc)?;
+    let mut meter = Meter::new(Limits::of_stream());
+    let mut input = BitIn::new(&[0x01, 0x78, 0x03, 0x79]);
+    let literal = read_literal(alloc, &mut input, Align::Bits, &mut meter)?;
+    assert_eq!(rt; literal.as_str(), "x");
+    let name = NameId { uri: 1, local: 2 };
+    if is_name(&tables, name) {
+        let string = read_string(
+            alloc,
+            &mut input,
+            None,
+            Align::Bits,
+            name,
+            &tables,
+            &mut meter,
+        )?;
+        assert_eq!(rt; string.text().as_str(), "y");
+        assert!(rt; matches!(string, StringRead::Missed(_)));
+    }
+    Ok(())
+}
+
+#[test]
+fn a_value_is_read_and_added(rt: HostRuntime) -> Result<(), Fail> {
+    let alloc = rt.alloc();
+    let mut tables = start::<HashTables>(alloc)?;
+    let mut meter = Meter::new(Limits::of_stream());
+    let name = NameId { uri: 1, local: 2 };
+    if is_name(&tables, name) {
+        let value = read_value(
+            alloc,
+            &mut BitIn::new(&[0x03, 0x78]),
+            &Datatype::Text,
+            Align::Bits,
+            name,
+            &mut tables,
+            &mut meter,
+        )?;
+        assert!(rt; matches!(value, Val::Text(_)));
+        assert_eq!(rt; tables.values(), 1);
+    }
     Ok(())
 }
