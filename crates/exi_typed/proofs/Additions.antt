@@ -1,12 +1,12 @@
 -- How much a reading adds to the string tables at most.
-use Rattle.std.proofs.Common.{◌≡◌, ℕ, zero, suc, ◌+◌, ◌-◌, ◌≤◌, Bool, true, false, cond, eqb, List, [], ◌∷◌, ◌++◌, length, Option, Some, None, refl, ap, subst, arith, inl, inr, length-append}
+use Rattle.std.proofs.Common.{◌≡◌, ℕ, ◌+◌, ◌-◌, ◌≤◌, Bool, true, false, cond, eqb, List, [], ◌∷◌, ◌++◌, length, Option, Some, None, refl, ap, subst, arith, inl, inr, length-append}
 use Rattle.std.proofs.lemmas.Bool.{cases_eq}
 use Rattle.std.proofs.lemmas.List.{map-append}
 use Rattle.std.specs.Prelude.{option_map, slice_get}
 use Rattle.exi_bits.specs.declared.align.Align.{Align}
 use Rattle.exi_bits.specs.declared.fault.Kind.TheVariants as kind
 use Rattle.exi_bits.specs.Bits.{Spot}
-use Rattle.exi_bits.specs.Repeat.{Reader, times}
+use Rattle.exi_bits.specs.Repeat.{Reader}
 use Rattle.exi_bits.specs.Unsigned.{◌>>=◌, below_at, unsigned_at}
 use Rattle.exi_items.specs.Charges.{Charged, after_text, text_charge}
 use Rattle.exi_meter.specs.Metering.{Metering}
@@ -16,7 +16,7 @@ use Rattle.exi_names.specs.Seen as value
 use Rattle.exi_tables.specs.Growth.{NoneLonger}
 use Rattle.exi_tables.specs.Partitions.{Namespace, Partitions, and_local, and_prefix, live_at, locals, locals_in, name_values, prefixes, prefixes_in, uris, values, with_local, with_prefix, with_uri, with_value}
 use Rattle.exi_tables.specs.Values.{changed_at}
-use Rattle.exi_tables.proofs.Growing.{changed_others, get_appended, get_changed, longer_locals, longer_prefixes, no_namespace, uris_changed}
+use Rattle.exi_tables.proofs.Growing.{changed_others, get_appended, get_changed, longer_locals, longer_prefixes, uris_changed}
 use Rattle.exi_tables.proofs.Longer.{own_longer, texts_longer}
 use Rattle.exi_text.specs.Literals.{chars_at}
 use Rattle.exi_typed.specs.Courses.{Course, Courser, at_spot_of, failing}

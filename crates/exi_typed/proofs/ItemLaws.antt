@@ -1,5 +1,5 @@
 -- Items by their representation: what is read is what is spelled, and it goes onward.
-use Rattle.std.proofs.Common.{◌≡◌, ℕ, Bool, List, None, Ok, refl, sym}
+use Rattle.std.proofs.Common.{ℕ, Bool, List, None, sym}
 use Rattle.exi_bits.specs.declared.align.Align.{Align}
 use Rattle.exi_names.specs.declared.names.NameId.{NameId}
 use Rattle.exi_names.specs.Seen.{Value}

@@ -7,7 +7,7 @@ use Rattle.exi_bits.specs.declared.fault.Kind.TheVariants as kind
 use Rattle.exi_bits.specs.Bits.{Spot}
 use Rattle.exi_bits.specs.Unsigned.{◌>>=◌, below_at, unsigned_at}
 use Rattle.exi_bits.specs.Repeat.{times}
-use Rattle.exi_items.specs.Charges.{Charged, after_text, text_charge}
+use Rattle.exi_items.specs.Charges.{Charged, text_charge}
 use Rattle.exi_meter.specs.Metering.{Bounds, Metering, text_fits, with_text}
 use Rattle.exi_names.specs.declared.names.NameId.{NameId}
 use Rattle.exi_tables.specs.Partitions.{live_at, locals, prefixes as prefixes_of, uris, values, with_local, with_prefix, with_uri, with_value}

@@ -1,12 +1,12 @@
 -- Each reading charges a list of texts, whatever the meter is.
-use Rattle.std.proofs.Common.{◌≡◌, ℕ, zero, suc, ◌+◌, ◌-◌, Bool, true, false, cond, eqb, List, [], ◌∷◌, ◌++◌, length, Option, Some, None, Result, Ok, Err, refl, sym, ap, ◌∙◌, subst}
+use Rattle.std.proofs.Common.{◌≡◌, ℕ, ◌+◌, ◌-◌, Bool, true, false, cond, eqb, List, [], ◌∷◌, ◌++◌, length, Option, Some, None, Result, Ok, Err, refl, ap, ◌∙◌}
 use Rattle.exi_bits.specs.declared.align.Align.{Align}
 use Rattle.exi_bits.specs.declared.fault.Fault.{Fault}
 use Rattle.exi_bits.specs.declared.fault.Kind.TheVariants as kind
 use Rattle.exi_bits.specs.Bits.{Spot}
 use Rattle.exi_bits.specs.Repeat.{Reader, times}
 use Rattle.exi_bits.specs.Unsigned.{◌>>=◌, below_at, unsigned_at}
-use Rattle.exi_items.specs.Charges.{Charged, after_text, text_charge}
+use Rattle.exi_items.specs.Charges.{Charged, text_charge}
 use Rattle.exi_meter.specs.Metering.{Metering, text_fits, with_text}
 use Rattle.exi_names.specs.declared.names.NameId.{NameId}
 use Rattle.exi_names.specs.Seen.{Value}
@@ -16,7 +16,7 @@ use Rattle.exi_text.specs.Literals.{char_at, chars_at}
 use Rattle.exi_typed.specs.Courses.{Course, Courser, Failure, at_spot_of, failing}
 use Rattle.exi_typed.specs.Items.{Tabled, item_at, qualified, string}
 use Rattle.exi_typed.specs.Metered.{Charge, IsMetered, Metered, ReadingsAreMetered, Unmetered, charging, metered}
-use Rattle.exi_typed.specs.NameValues.{name_value_at, with_meter}
+use Rattle.exi_typed.specs.NameValues.{name_value_at}
 use Rattle.exi_typed.specs.Strings.{Declaration, Growth, Named, Partition, charged_at, declaration_at, declared_under, hit_at, indexed_at, known_at, listed, literal_at, local_at, missed_at, name_at, name_under, own_values, place_in, placed_at, prefix_at, told_prefix, uri_at, value_at}
 use Rattle.exi_typed.proofs.CourseItems.{beside, charged, course, fine, told}
 

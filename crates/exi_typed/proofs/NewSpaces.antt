@@ -1,12 +1,12 @@
 -- URIs, local names and prefixes that were read, before and after they are added.
-use Rattle.std.proofs.Common.{◌≡◌, ℕ, zero, suc, ◌+◌, ◌-◌, ◌^◌, ◌<◌, ◌≤◌, List, [], ◌∷◌, ◌++◌, get_or, length, Option, Some, None, refl, sym, ap, ◌∙◌, subst, arith, inl, inr, ◌⊎◌, length-append}
+use Rattle.std.proofs.Common.{◌≡◌, ℕ, ◌-◌, ◌^◌, ◌<◌, ◌≤◌, List, [], ◌∷◌, ◌++◌, length, Option, Some, None, refl, sym, ap, ◌∙◌, subst, arith, inl, inr, ◌⊎◌}
 use Rattle.std.specs.Prelude.{slice_get, option_map, option_and_then, unwrap_or}
 use Rattle.std.proofs.lemmas.List.{length-map, map-append}
 use Rattle.std.proofs.lemmas.Option.{get_or_from_slice_get, slice_get-get_or, slice_get_past, slice_get_within}
-use Rattle.exi_tables.specs.Growth.{IsLeast, NoneLonger}
+use Rattle.exi_tables.specs.Growth.{NoneLonger}
 use Rattle.exi_tables.specs.Partitions.{Namespace, Partitions, and_local, and_prefix, least_place, live_at, locals, locals_in, prefixes, prefixes_in, uris, with_local, with_prefix, with_uri}
-use Rattle.exi_tables.proofs.Growing.{changed_others, changed_within, get_appended, get_changed, uris_changed}
-use Rattle.exi_tables.proofs.Least.{get_last, least_found, least_none, least_of_last}
+use Rattle.exi_tables.proofs.Growing.{changed_within, get_appended, get_changed, uris_changed}
+use Rattle.exi_tables.proofs.Least.{get_last, least_found, least_of_last}
 use Rattle.exi_typed.specs.Places.{IsDeclarationAt, IsDeclarationRead, IsNameAt, IsNameRead, declaration_in, declaration_of, name_in, name_of, space_text, spelled_text, text_in, with_missed_uri, with_declaration, with_name, with_space, with_spelled_local, with_spelled_prefix}
 use Rattle.exi_typed.specs.declared.declarations.DeclarationRead.{DeclarationRead}
 use Rattle.exi_typed.specs.declared.names.NameAt.{NameAt}

@@ -7,7 +7,6 @@ use Rattle.exi_bits.specs.declared.align.Align.{Align}
 use Rattle.exi_bits.specs.Bits.{Spot}
 use Rattle.exi_bits.specs.declared.fault.Kind.TheVariants as kind
 use Rattle.exi_bits.specs.Unsigned.{◌>>=◌, below_at, unsigned_at}
-use Rattle.exi_bits.specs.Widths.{width_for}
 use Rattle.exi_items.specs.Charges.{Charged, after_text, text_charge}
 use Rattle.exi_meter.specs.Metering.{Metering}
 use Rattle.exi_tables.specs.Growth.{IsLeast, KeepsPlaces}

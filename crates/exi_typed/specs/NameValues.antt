@@ -1,4 +1,4 @@
--- Values that are names, as that of xsi:type (W3C EXI 1.0, sections 7.1.7 and 8.4.3).
+-- Values that are names, as that of xsi:type (EXI 1.0, sections 7.1.7 and 8.4.3).
 use Rattle.std.specs.Prelude.{◌≡◌, Bool, List, []}
 use Rattle.exi_bits.specs.declared.align.Align.{Align}
 use Rattle.exi_bits.specs.Unsigned.{◌>>=◌}

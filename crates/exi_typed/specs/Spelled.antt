@@ -1,4 +1,4 @@
--- Which bits spell names and strings under the string tables (W3C EXI 1.0, sections 7.1.7, 7.1.10 and 7.3), and what
+-- Which bits spell names and strings under the string tables (EXI 1.0, sections 7.1.7, 7.1.10 and 7.3), and what
 -- stands beside afterwards: the tables grown, and the text charged. In each of these `w` stands before, and `v`
 -- after.
 --

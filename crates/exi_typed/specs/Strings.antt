@@ -1,4 +1,4 @@
--- How names and strings are read, as hits and misses in the string tables (W3C EXI 1.0, sections 7.1.7, 7.1.10 and
+-- How names and strings are read, as hits and misses in the string tables (EXI 1.0, sections 7.1.7, 7.1.10 and
 -- 7.3). A text that stands in a partition is told by its place there, any other by its length and its characters,
 -- and is then added at the partition's end.
 --
@@ -10,14 +10,13 @@
 -- Where the limit of text is passed, the fault's bit is where the text was charged: the first character, or behind
 -- the place (own). A reader of events puts the event's bit in its place.
 --
--- Where values are bounded (valueMaxLength, valuePartitionCapacity: section 7.3.3), a place under a name may be live
+-- Where values are bounded (valueMaxLength, valuePartitionCapacity: EXI 1.0, section 7.3.3), a place under a name may be live
 -- no longer: it still counts, and tells no text.
 use Rattle.std.specs.Prelude.{ℕ, ◌+◌, ◌-◌, ◌==◌, Bool, true, false, List, [], length, Option, Some, None, unwrap_or, Ok, if◌then◌else◌}
 use Rattle.exi_bits.specs.declared.align.Align.{Align}
 use Rattle.exi_bits.specs.declared.fault.Kind.TheVariants as kind
 use Rattle.exi_bits.specs.Bits.{Spot}
 use Rattle.exi_bits.specs.Unsigned.{◌>>=◌, fault_at, below_at, unsigned_at}
-use Rattle.exi_bits.specs.Widths.{width_for}
 use Rattle.exi_items.specs.Charges.{after_text, text_charge}
 use Rattle.exi_names.specs.declared.names.NameId.{NameId}
 use Rattle.exi_names.specs.declared.names.QName.{QName}
@@ -70,7 +69,7 @@ missed_at set a grow count c = do
   text ← failing (after_text c.beside.meter count) (chars_at set a count (record { spot = c.spot; meter = c.beside.meter }))
   Ok (text.0, record { spot = text.1.spot; beside = record { meter = text.1.meter; tables = grow c.beside.tables text.0 } })
 
--- a literal: its length in characters, and its characters (7.1.10)
+-- a literal: its length in characters, and its characters (EXI 1.0, section 7.1.10)
 unfoldable pub literal_at : Align → Growth → Courser (List ℕ)
 literal_at a grow c = do
   count ← failing c.beside.meter (unsigned_at c.spot)
@@ -83,11 +82,11 @@ indexed_at a texts grow c = do
   if code.0 == 0 then literal_at a grow (at_spot_of c code.1) else placed_at c.spot (live_at texts (code.0 - 1)) (at_spot_of c code.1)
 
 -- ---- names
--- a URI (7.3.2)
+-- a URI (EXI 1.0, section 7.3.2)
 abbrev pub uri_at : Align → Courser (List ℕ)
 uri_at a c = indexed_at a (uris c.beside.tables) with_uri c
 
--- a local name under a URI: 0 is a hit, and the place follows; n is a miss of n - 1 characters (7.3.3)
+-- a local name under a URI: 0 is a hit, and the place follows; n is a miss of n - 1 characters (EXI 1.0, section 7.3.3)
 unfoldable pub local_at : Align → ℕ → Courser (List ℕ)
 local_at a uri c = do
   code ← failing c.beside.meter (unsigned_at c.spot)
@@ -100,7 +99,7 @@ told_prefix a texts c = do
   Ok (Some text.0, text.1)
 
 -- the prefix of a name under a URI, where prefixes are kept: a place among the URI's prefixes. Where it has
--- none, nothing is coded and the name has no prefix (7.1.7)
+-- none, nothing is coded and the name has no prefix (EXI 1.0, section 7.1.7)
 abbrev pub prefix_at : Bool → Align → ℕ → Courser (Option (List ℕ))
 prefix_at true a uri c = told_prefix a (prefixes c.beside.tables uri) c
 prefix_at false a uri c = Ok (None, c)
@@ -127,7 +126,7 @@ name_under keep a uri text c = do
   prefix ← prefix_at keep a uri local.1
   Ok (named uri text local.0 prefix.0 prefix.1.beside.tables, prefix.1)
 
--- a qualified name: its URI, its local name and, where prefixes are kept, its prefix (7.1.7)
+-- a qualified name: its URI, its local name and, where prefixes are kept, its prefix (EXI 1.0, section 7.1.7)
 unfoldable pub name_at : Bool → Align → Courser Named
 name_at keep a c = do
   uri ← uri_at a c
@@ -158,7 +157,7 @@ declared_under a uri text c = do
   flag ← failing prefix.1.beside.meter (below_at 2 a kind.BadPlace prefix.1.spot)
   Ok (record { uri = text; prefix = prefix.0; element = is_one flag.0 }, at_spot_of prefix.1 flag.1)
 
--- a URI, a prefix in that URI's partition, and one bit (7.1.7, section 4)
+-- a URI, a prefix in that URI's partition, and one bit (EXI 1.0, sections 4 and 7.1.7)
 unfoldable pub declaration_at : Align → Courser Declaration
 declaration_at a c = do
   uri ← uri_at a c
@@ -166,7 +165,7 @@ declaration_at a c = do
 
 -- ---- values
 -- a string value under a name: 0 is a hit among the name's own values and 1 a hit among all, each with its place;
--- n is a miss of n - 2 characters, with a set of characters or without (7.3.3, 7.1.10)
+-- n is a miss of n - 2 characters, with a set of characters or without (EXI 1.0, sections 7.1.10 and 7.3.3)
 unfoldable pub value_at : Option (List ℕ) → Align → NameId → Courser (List ℕ)
 value_at set a name c = do
   code ← failing c.beside.meter (unsigned_at c.spot)

@@ -94,12 +94,10 @@ pub fn read_known<T: Tables>(
     ensures aligned { IsAligned align input.new }
 {
     let bit = input.at();
-    charge_text(meter, told(tables.uri_at(name.uri), bit)?, bit)?;
-    charge_text(
-        meter,
-        told(tables.local_at(name.uri, name.local), bit)?,
-        bit,
-    )?;
+    let uri = told(tables.uri_at(name.uri), bit)?;
+    charge_text(meter, uri, bit)?;
+    let local = told(tables.local_at(name.uri, name.local), bit)?;
+    charge_text(meter, local, bit)?;
     let prefix = read_prefix(input, keep, align, name.uri, tables, meter)?;
     Ok(NameAt { id: name, prefix })
 }

@@ -1,4 +1,4 @@
-use Rattle.std.proofs.Common.{◌≡◌, refl}
+use Rattle.std.proofs.Common.{refl}
 use Rattle.exi_tables.specs.Partitions.{locals}
 use Rattle.exi_typed.proofs.NewSpaces.{local_ends, told_in}
 use Rattle.exi_typed.proofs.spaces.add_local.Goals as goal

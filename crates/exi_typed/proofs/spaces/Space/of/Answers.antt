@@ -1,6 +1,3 @@
-use Rattle.std.proofs.Common.{◌≡◌, length}
-use Rattle.std.specs.Prelude.{unwrap_or}
-use Rattle.exi_tables.specs.Partitions.{least_place, uris}
 use Rattle.exi_typed.proofs.NewSpaces.{uri_ends}
 use Rattle.exi_typed.proofs.spaces.Space.of.Goals as goal
 

@@ -1,4 +1,4 @@
-use Rattle.std.proofs.Common.{◌≡◌, ◌∙◌, refl, sym}
+use Rattle.std.proofs.Common.{◌∙◌, refl, sym}
 use Rattle.exi_tables.specs.Partitions.{uris}
 use Rattle.exi_typed.proofs.NewSpaces.{told_at}
 use Rattle.exi_typed.proofs.spaces.Space.told.Goals as goal
