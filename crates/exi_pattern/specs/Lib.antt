@@ -1,0 +1,6 @@
+pub mod Sets
+pub mod Escapes
+pub mod Groups
+pub mod Quantities
+pub mod Patterns
+pub mod Readings
