@@ -1,0 +1,3 @@
+pub mod Marks
+pub mod Backs
+pub mod Worked

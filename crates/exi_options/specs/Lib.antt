@@ -1,0 +1,5 @@
+pub mod Document
+pub mod Reading
+pub mod Writing
+pub mod Spelled
+pub mod Laws
