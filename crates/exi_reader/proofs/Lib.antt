@@ -1,5 +1,6 @@
 mod Bodies
 mod ClosedUp
+mod CodeParts
 mod CodePlaces
 mod CodeRefusals
 mod Endings
@@ -10,6 +11,7 @@ mod Fitting
 mod InStep
 mod Learns
 mod Metering
+mod Names
 mod PlanFacts
 mod Reached
 mod Readings
@@ -21,6 +23,11 @@ mod Soundness
 mod SpliceRuns
 mod Splicing
 mod Standing
+mod Steady
+mod StepParts
+mod Steppers
+mod Stepping
 mod Steps
+mod Turning
 mod Withins
 mod Worked

@@ -152,7 +152,7 @@ module _ (g : Setting) (bytes : List ℕ) where
 
   -- ---- how many turns there are
   -- the turns that give events are within the limit, and there are no more others than the fragments have
-  leads_count : (c last : Config) (turns : List (Option Happening)) → Leads g bytes c turns last → events c ≤ c.meter.limits.events → (events c + length (events_of turns) ≤ c.meter.limits.events) × (length turns + weights last ≤ length (events_of turns) + weights c + 3 * fragments_in (events_of turns))
+  pub leads_count : (c last : Config) (turns : List (Option Happening)) → Leads g bytes c turns last → events c ≤ c.meter.limits.events → (events c + length (events_of turns) ≤ c.meter.limits.events) × (length turns + weights last ≤ length (events_of turns) + weights c + 3 * fragments_in (events_of turns))
   leads_count c last [] l le = (omega (arith, le), let n : weights c ≡ weights last = ap (λ (z : Config). weights z) l in omega (arith, n))
   leads_count c last (None ∷ turns) l le =
       let s = goes_is c None l.0 l.1 in
@@ -204,7 +204,7 @@ one_sequence j start limits es fs d e m n p q =
       p.3 ∙ ap (λ (z : List (Option Happening)). length z) same.0 ∙ sym q.3,
     )
 
-first_weight : (j : Job) (s : Start) (limits : Bounds) → weights (first j s limits) ≤ 3 * fragments_at s
+pub first_weight : (j : Job) (s : Start) (limits : Bounds) → weights (first j s limits) ≤ 3 * fragments_at s
 first_weight j start.Body limits = body_weight (fragment j.setting.options)
   where
     body_weight : (b : Bool) → weight (body_outer b) + 0 ≤ 0

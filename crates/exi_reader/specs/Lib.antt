@@ -3,13 +3,16 @@ pub mod Configurations
 pub mod Contents
 pub mod Fews
 pub mod Fragments
+pub mod Handing
 pub mod Laws
 pub mod Metered
 pub mod OneEvent
 pub mod Plans
+pub mod Reading
 pub mod Refused
 pub mod Rules
 pub mod Runs
 pub mod Sound
 pub mod Spelled
 pub mod Splices
+pub mod Stacks

@@ -19,11 +19,31 @@
 //! first fault, and the run. [`laws`] has what is proved of them.
 #![tactic(auto)]
 
+mod alone;
+mod aside;
+mod charges;
+mod codes;
+mod contents;
+mod elements;
 mod end;
+mod ends;
 mod frames;
+mod halt;
+mod job;
 pub mod laws;
+mod parts;
+mod read;
+mod reader;
+mod rule;
 mod start;
+mod step;
+mod stepper;
+mod turn;
 
 pub use end::End;
 pub use frames::{Element, Outer, State};
+pub use job::Job;
+pub use read::read_from;
+pub use reader::Reader;
 pub use start::Start;
+pub use turn::{ReadStop, Turn};

@@ -1,0 +1,14 @@
+use Rattle.std.proofs.Common.{Some}
+use Rattle.exi_names.specs.Events as event
+use Rattle.exi_reader.specs.Handing.{alone_of, leading_to}
+use Rattle.exi_reader.specs.Plans.{comment_plan}
+use Rattle.exi_reader.proofs.StepParts.{made_by}
+use Rattle.exi_reader.proofs.stepper.Stepper.comment.Goals as goal
+
+pub returns-clause-hands : goal.returns-clause-hands
+returns-clause-hands g c = (
+  Some (event.cm c.in_ok-text.text),
+  rw (← c.self.view_is, c.go_to.ensures.elements, c.go_to.ensures.outer)
+      (made_by _ _ (comment_plan c.self.inside.book.now (alone_of c.args.alone) (leading_to c.args.to)) _ c.in_ok-text.text _ c.in_ok-text.ensures.read c.in_ok-refuse.ensures),
+  c.in_ok-see.ensures.ok,
+)

@@ -1,0 +1,324 @@
+-- How a reader makes one event: in its own words, and in parts. The parts together are the one event of the definition.
+use Rattle.std.specs.Prelude.{◌≡◌, ◌≢◌, ◌⊎◌, ◌<◌, ◌-◌, ◌^◌, ℕ, length, Bool, true, false, List, [], ◌∷◌, Option, Some, None, Result, Ok, Err, if◌then◌else◌}
+use Rattle.exi_bits.specs.Bits.{Spot}
+use Rattle.exi_bits.specs.declared.fault.Fault.{Fault}
+use Rattle.exi_bits.specs.declared.fault.Kind.{Kind}
+use Rattle.exi_bits.specs.declared.fault.Kind.TheVariants as kind
+use Rattle.exi_bits.specs.declared.fault.Stop.{Stop}
+use Rattle.exi_bits.specs.declared.fault.Stop.TheVariants as stop
+use Rattle.exi_bits.specs.Unsigned.{◌>>=◌}
+use Rattle.exi_builtin.specs.declared.learnable.Learned.{Learned}
+use Rattle.exi_builtin.specs.declared.learnable.Room.{Room}
+use Rattle.exi_builtin.specs.Learning.{IsRoom, Learning, learned_in}
+use Rattle.exi_gram.specs.Books.{IsStateOf}
+use Rattle.exi_gram.specs.Codes.{Productions, code_at}
+use Rattle.exi_gram.specs.Switches.{align_of}
+use Rattle.exi_gram.specs.Terminals as symbol
+use Rattle.exi_meter.specs.Metering.{Metering}
+use Rattle.exi_names.specs.Events.{Happening}
+use Rattle.exi_names.specs.Events as event
+use Rattle.exi_names.specs.Seen as value
+use Rattle.exi_names.specs.declared.names.NameId.{NameId}
+use Rattle.exi_names.specs.declared.names.QName.{QName}
+use Rattle.exi_names.specs.declared.stops.PushStop.{PushStop}
+use Rattle.exi_names.specs.declared.stops.PushStop.TheVariants as push
+use Rattle.exi_tables.specs.Growth.{NoneLonger}
+use Rattle.exi_tables.specs.Partitions.{IsName, Partitions}
+use Rattle.exi_typed.specs.Courses.{Failure}
+use Rattle.exi_typed.specs.Strings.{Named, value_at}
+use Rattle.exi_reader.specs.Changes as changes
+use Rattle.exi_reader.specs.Changes.{has_level, innermost, put_aside, room_in, root_in}
+use Rattle.exi_reader.specs.Configurations.{Body, Config, Setting, body_outer, course_in, reached, rules_of, spot_in}
+use Rattle.exi_reader.specs.Contents.{attribute_value_at}
+use Rattle.exi_reader.specs.OneEvent.{behind, event_charge, level_charge, remembered, unless}
+use Rattle.exi_reader.specs.Plans.{Given, Plan, barred_in, is_event, no_element, wrong_element}
+use Rattle.exi_reader.specs.Plans as plans
+use Rattle.exi_reader.specs.Rules.{Rule, Telling, Terminal, attribute, characters, comment, declaration, document_type, element, end_document, end_element, entity, informed, instruction, known, self_contained, spelled, start_document}
+use Rattle.exi_reader.specs.Runs.{Job}
+use Rattle.exi_reader.specs.declared.alone.Alone.{Alone}
+use Rattle.exi_reader.specs.declared.alone.Alone.TheVariants as alone
+use Rattle.exi_reader.specs.declared.charges.Charges.{Charges}
+use Rattle.exi_reader.specs.declared.frames.Element.{Element}
+use Rattle.exi_reader.specs.declared.frames.Outer.{Outer}
+use Rattle.exi_reader.specs.declared.frames.Outer.TheVariants as outer
+use Rattle.exi_reader.specs.declared.frames.State.{State}
+use Rattle.exi_reader.specs.declared.frames.State.TheVariants as state
+use Rattle.exi_reader.specs.declared.halt.Halt.{Halt}
+use Rattle.exi_reader.specs.declared.halt.Halt.TheVariants as halt
+use Rattle.exi_reader.specs.declared.rule.Content.{Content}
+use Rattle.exi_reader.specs.declared.rule.Content.TheVariants as content
+use Rattle.exi_reader.specs.declared.rule.Rule.{Rule as Kept}
+use Rattle.exi_reader.specs.declared.start.Start.{Start}
+use Rattle.exi_reader.specs.declared.start.Start.TheVariants as start
+
+-- what a reader stands for: what is read by, what is read, and how far
+pub record Standing : Type 0 where
+  pub setting : Setting
+  pub bytes : List ℕ
+  pub config : Config
+
+abbrev pub with_config : Standing → Config → Standing
+with_config s c = record s { config = c }
+
+-- ---- its words
+abbrev pub alone_of : Alone → plans.Alone
+alone_of alone.Nowhere = plans.nowhere
+alone_of alone.AtStart = plans.at_start
+alone_of alone.AtFirst = plans.at_first
+alone_of alone.AtEnd = plans.at_end
+
+abbrev pub telling_of : Option NameId → Telling
+telling_of None = spelled
+telling_of (Some id) = known id
+
+-- what only a schema has is all one
+abbrev pub terminal_in : Content → Terminal
+terminal_in content.StartDocument = start_document
+terminal_in content.EndDocument = end_document
+terminal_in (content.Element name) = element (telling_of name)
+terminal_in (content.Attribute name) = attribute (telling_of name)
+terminal_in content.Characters = characters
+terminal_in content.EndElement = end_element
+terminal_in content.Declaration = declaration
+terminal_in content.SelfContained = self_contained
+terminal_in content.Comment = comment
+terminal_in content.Instruction = instruction
+terminal_in content.DocumentType = document_type
+terminal_in content.Entity = entity
+terminal_in content.Informed = informed symbol.at_any
+
+abbrev pub known_terminal : Terminal → Terminal
+known_terminal (informed sort) = informed symbol.at_any
+known_terminal start_document = start_document
+known_terminal end_document = end_document
+known_terminal (element t) = element t
+known_terminal (attribute t) = attribute t
+known_terminal characters = characters
+known_terminal end_element = end_element
+known_terminal declaration = declaration
+known_terminal self_contained = self_contained
+known_terminal comment = comment
+known_terminal instruction = instruction
+known_terminal document_type = document_type
+known_terminal entity = entity
+
+abbrev pub rule_in : Kept → Rule
+rule_in r = record { on = terminal_in r.on; to = r.to; inner = r.inner }
+
+abbrev pub known_rule : Rule → Rule
+known_rule r = record r { on = known_terminal r.on }
+
+-- a rule of which only the state that follows counts
+abbrev pub leading_to : ℕ → Rule
+leading_to to = record { on = end_element; to = to; inner = None }
+
+-- ---- what is charged before the content
+abbrev pub charges_on : plans.Alone → Bool → Terminal → Charges
+charges_on a after start_document = record { barred = barred_in a; counted = is_event a; misplaced = None; entered = false }
+charges_on a after end_document = record { barred = None; counted = is_event a; misplaced = None; entered = false }
+charges_on a after (element t) = record { barred = barred_in a; counted = is_event a; misplaced = None; entered = is_event a }
+charges_on a after (attribute t) = record { barred = barred_in a; counted = true; misplaced = None; entered = false }
+charges_on a after characters = record { barred = barred_in a; counted = true; misplaced = None; entered = false }
+charges_on a after end_element = record { barred = barred_in a; counted = true; misplaced = None; entered = false }
+charges_on a after declaration = record { barred = barred_in a; counted = true; misplaced = None; entered = false }
+charges_on a after self_contained = record { barred = barred_in a; counted = true; misplaced = if after then None else Some kind.ScPlace; entered = false }
+charges_on a after comment = record { barred = barred_in a; counted = true; misplaced = None; entered = false }
+charges_on a after instruction = record { barred = barred_in a; counted = true; misplaced = None; entered = false }
+charges_on a after document_type = record { barred = barred_in a; counted = true; misplaced = None; entered = false }
+charges_on a after entity = record { barred = barred_in a; counted = true; misplaced = None; entered = false }
+charges_on a after (informed sort) = record { barred = Some kind.NoCode; counted = true; misplaced = None; entered = false }
+
+unfoldable pub charged_at : ℕ → Charges → Metering → Result Metering Failure
+charged_at bit k m = do
+  free ← unless k.barred bit m
+  counted ← event_charge k.counted bit free
+  placed ← unless k.misplaced bit counted
+  level_charge k.entered bit placed
+
+-- what a reader answers to that
+abbrev pub Pays : Result (Unit {0}) Fault → Metering → Result Metering Failure → Type 0
+Pays (Ok x) m read = read ≡ Ok m
+Pays (Err f) m read = read ≡ Err (record { fault = f; meter = m })
+
+-- ---- the content, and what is made of it
+unfoldable pub making : List ℕ → ℕ → Plan → Config → Result Given Failure
+making bytes bit p c = do
+  found ← p.read (course_in bytes c.meter c)
+  free ← unless (p.refused found.0) bit found.1.beside.meter
+  Ok (remembered (p.make found.0 (reached (behind p.padded found.1) c)))
+
+-- the value of an attribute whose name is read
+unfoldable pub value_made : Setting → List ℕ → ℕ → plans.Alone → Named → Config → Result Given Failure
+value_made g bytes bit a name c = do
+  found ← attribute_value_at g name.id (course_in bytes c.meter c)
+  free ← unless (no_element a) bit found.1.beside.meter
+  Ok (Some (event.at name.name found.0), record (reached found.1 c) { after_start = false })
+
+-- the same, where it is a string
+unfoldable pub string_made : Setting → List ℕ → ℕ → plans.Alone → Named → Config → Result Given Failure
+string_made g bytes bit a name c = do
+  found ← value_at None (align_of g.options) name.id (course_in bytes c.meter c)
+  free ← unless (no_element a) bit found.1.beside.meter
+  Ok (Some (event.at name.name (value.text found.0)), record (reached found.1 c) { after_start = false })
+
+-- ---- what is handed on
+abbrev pub listed : Option Happening → List Happening
+listed None = []
+listed (Some e) = e ∷ []
+
+abbrev pub stop_halt : Stop → Halt
+stop_halt (stop.Fault f) = halt.Fault f
+stop_halt stop.Memory = halt.Memory
+
+abbrev pub push_halt : PushStop → Halt
+push_halt push.Memory = halt.Memory
+push_halt push.Stopped = halt.Stopped
+
+-- The event was handed on, or there was none; or the content is at fault, with all charges before; or memory was refused,
+-- before or behind the event; or the event stopped what takes the events.
+abbrev pub Hands : {T : Type 0} → (T → List Happening → T → Type 0) → (T → Happening → T → Type 0) → Result (Unit {0}) Halt → Config → Result Given Failure → T → T → Type 0
+Hands took broke (Ok x) new read before after = (e : Option Happening) × (read ≡ Ok (e, new)) × took before (listed e) after
+Hands took broke (Err (halt.Fault f)) new read before after = (read ≡ Err (record { fault = f; meter = new.meter })) × took before [] after
+Hands took broke (Err halt.Memory) new read before after = took before [] after ⊎ ((e : Happening) × (next : Config) × (read ≡ Ok (Some e, next)) × took before (e ∷ []) after)
+Hands took broke (Err halt.Stopped) new read before after = (e : Happening) × (next : Config) × (read ≡ Ok (Some e, next)) × broke before e after
+
+-- SC, with the byte at which the fragment begins: the body is put aside
+abbrev pub HandsFragment : {T : Type 0} → (T → List Happening → T → Type 0) → (T → Happening → T → Type 0) → Result ℕ Halt → Standing → Result Given Failure → T → T → Type 0
+HandsFragment took broke (Ok byte) new read before after = (read ≡ Ok (Some (event.sc byte), put_aside new.setting new.config)) × took before (event.sc byte ∷ []) after
+HandsFragment took broke (Err (halt.Fault f)) new read before after = (read ≡ Err (record { fault = f; meter = new.config.meter })) × took before [] after
+HandsFragment took broke (Err halt.Memory) new read before after = took before [] after ⊎ ((e : Happening) × (next : Config) × (read ≡ Ok (Some e, next)) × took before (e ∷ []) after)
+HandsFragment took broke (Err halt.Stopped) new read before after = (e : Happening) × (next : Config) × (read ≡ Ok (Some e, next)) × broke before e after
+
+-- what holds at a fault
+abbrev pub OnFault : {X : Type 0} → Result X Halt → Type 0 → Type 0
+OnFault (Ok x) P = Unit {0}
+OnFault (Err (halt.Fault f)) P = P
+OnFault (Err halt.Memory) P = Unit {0}
+OnFault (Err halt.Stopped) P = Unit {0}
+
+-- a rule of which the state that follows and the grammar that is opened count
+abbrev pub opening_to : ℕ → Option ℕ → Rule
+opening_to to inner = record { on = end_element; to = to; inner = inner }
+
+-- ---- what has to stand
+-- the state that learns, if one does, is one of a grammar that was made, and no state learned much
+pub record CanLearn (o : Option Room) (l : Learning) : Type 0 where
+  pub there : (r : Room) → o ≡ Some r → IsRoom l r
+  pub few : (r : Room) → length (learned_in l r) < 2 ^ 31
+
+-- the name that a code told stands in the tables
+pub record IsTold (telling : Option NameId) (p : Partitions) : Type 0 where
+  pub known : (id : NameId) → telling ≡ Some id → IsName p id
+
+-- what is learned from the use of a name
+abbrev pub learned_by : Telling → Option Room → Learned → Learning → Learning
+learned_by spelled o u l = changes.learned_in o u l
+learned_by (known id) o u l = l
+
+-- the root of a fragment, where its element is to come, is the one that was put aside; or where reading began there it is
+-- any, and is kept
+abbrev pub root_at : plans.Alone → List Body → QName → Option QName → Option QName
+root_at plans.nowhere aside name root = root
+root_at plans.at_start aside name root = root
+root_at plans.at_first aside name root = root_in aside name root
+root_at plans.at_end aside name root = root
+
+abbrev pub Meets : Result (Unit {0}) Stop → plans.Alone → List Body → QName → Option QName → Option QName → ℕ → Type 0
+Meets (Ok x) a aside name old new bit = (wrong_element a aside name ≡ None) × (new ≡ root_at a aside name old)
+Meets (Err (stop.Fault f)) a aside name old new bit = (wrong_element a aside name ≡ Some kind.ScRoot) × (f ≡ record { kind = kind.ScRoot; bit = bit }) × (new ≡ old)
+Meets (Err stop.Memory) a aside name old new bit = Unit {0}
+
+-- ---- the code
+-- the production that a code tells; what only a schema has is all one
+abbrev pub known_at_code : Setting → Productions Rule → Spot → Result (Rule × Spot) Fault
+known_at_code g p s = code_at (align_of g.options) p s >>= λ x. Ok (known_rule x.0, x.1)
+
+-- further on, at this bit
+abbrev pub with_place : Standing → ℕ → Standing
+with_place s place = record s { config = record s.config { place = place } }
+
+-- reading a code moves the place; at a fault it stays
+abbrev pub Picks : Result Kept Fault → Standing → Standing → Productions Rule → Type 0
+Picks (Ok r) old new p = (known_at_code old.setting p (spot_in old.bytes old.config) ≡ Ok (rule_in r, spot_in old.bytes new.config)) × (new ≡ with_place old new.config.place)
+Picks (Err f) old new p = (known_at_code old.setting p (spot_in old.bytes old.config) ≡ Err f) × (new ≡ old)
+
+-- the state exists
+abbrev pub IsThere : Setting → Outer → Type 0
+IsThere g (outer.Book grammar state) = IsStateOf g grammar state
+IsThere g outer.FragmentStart = Unit {0}
+IsThere g outer.FragmentContent = Unit {0}
+IsThere g outer.AloneStart = Unit {0}
+IsThere g outer.AloneFirst = Unit {0}
+IsThere g outer.AloneOver = Unit {0}
+IsThere g outer.Ended = Unit {0}
+
+abbrev pub IsThereIn : Setting → Learning → State → Type 0
+IsThereIn g l (state.BuiltIn r) = IsRoom l r
+IsThereIn g l (state.Informed grammar number empty) = IsStateOf g grammar number
+
+abbrev pub AreThere : Setting → Learning → List Element → Type 0
+AreThere g l [] = Unit {0}
+AreThere g l (e ∷ es) = IsThereIn g l e.state
+
+-- ---- the start, and where a fragment waits
+abbrev pub standing : Job → Config → Standing
+standing j c = record { setting = j.setting; bytes = j.bytes; config = c }
+
+abbrev pub first_outer_of : Bool → Start → Outer
+first_outer_of is_fragment start.Body = body_outer is_fragment
+first_outer_of is_fragment (start.Fragment byte) = outer.AloneStart
+
+-- behind SC the body is put aside
+abbrev pub fragment_in : Bool → Setting → Config → Config
+fragment_in true g c = put_aside g c
+fragment_in false g c = c
+
+-- either
+abbrev pub HandsAny : {T : Type 0} → (T → List Happening → T → Type 0) → (T → Happening → T → Type 0) → Result (Option ℕ) Halt → Standing → Result Given Failure → T → T → Type 0
+HandsAny took broke (Ok None) new read before after = Hands took broke (Ok tt) new.config read before after
+HandsAny took broke (Ok (Some byte)) new read before after = HandsFragment took broke (Ok byte) new read before after
+HandsAny took broke (Err h) new read before after = Hands took broke (Err h) new.config read before after
+
+-- ---- what a step needs, and sequential processing keeps
+-- the name that a code tells
+abbrev pub told_id : Telling → Option NameId
+told_id spelled = None
+told_id (known id) = Some id
+
+abbrev pub code_name : Terminal → Option NameId
+code_name (element t) = told_id t
+code_name (attribute t) = told_id t
+code_name start_document = None
+code_name end_document = None
+code_name characters = None
+code_name end_element = None
+code_name declaration = None
+code_name self_contained = None
+code_name comment = None
+code_name instruction = None
+code_name document_type = None
+code_name entity = None
+code_name (informed sort) = None
+
+-- the names that a production needs stand in the tables
+pub record HasNames (c : Config) (t : Terminal) : Type 0 where
+  pub known : (id : NameId) → code_name t ≡ Some id → IsName c.tables id
+  pub inside : t ≡ characters → IsName c.tables (innermost c.elements)
+
+-- levels that are left were entered
+pub record HasLevels (c : Config) : Type 0 where
+  pub aside : c.aside ≢ [] → 0 < c.meter.level
+  pub inside : has_level c.elements c.outer ≡ true → 0 < c.meter.level
+
+-- there is not much yet, and what learns stands
+pub record HasRoom (c : Config) : Type 0 where
+  pub few : NoneLonger (2 ^ 31 - 2) c.tables
+  pub learns : CanLearn (room_in c.elements c.outer) c.learned
+  pub grammars : length c.learned.grammars < 2 ^ 31
+
+pub record IsSteady (s : Standing) : Type 0 where
+  pub there : IsThere s.setting s.config.outer
+  pub elements : AreThere s.setting s.config.learned s.config.elements
+  pub room : HasRoom s.config
+  pub levels : HasLevels s.config
+  pub names : (r : Rule) (t : Spot) → known_at_code s.setting (rules_of s.setting s.config) (spot_in s.bytes s.config) ≡ Ok (r, t) → HasNames s.config r.on

@@ -1,0 +1,99 @@
+-- What the calls of a reader promise, in the words of sequential processing.
+use Rattle.std.specs.Prelude.{◌≡◌, ◌⊎◌, ◌≤◌, ◌^◌, ◌*◌, ◌+◌, ℕ, Bool, true, false, List, [], ◌∷◌, ◌++◌, length, Option, Some, None, Result, Ok, Err}
+use Rattle.exi_bits.specs.Bits.{IsAligned}
+use Rattle.exi_gram.specs.Books.{IsBook}
+use Rattle.exi_gram.specs.Switches.{align_of}
+use Rattle.exi_meter.specs.Metering.{Bounds, IsWithinStream}
+use Rattle.exi_names.specs.Events.{Happening}
+use Rattle.exi_names.specs.Events as event
+use Rattle.exi_names.specs.StartTables.{IsStart}
+use Rattle.exi_reader.specs.Configurations.{Config, Setting, first_config}
+use Rattle.exi_reader.specs.Handing.{listed}
+use Rattle.exi_reader.specs.Runs.{Job, IsSequence, Leads, Turn, ends, first, goes, turn}
+use Rattle.exi_reader.specs.declared.end.End.{End}
+use Rattle.exi_reader.specs.declared.job.Job.{Job as Told}
+use Rattle.exi_reader.specs.declared.start.Start.{Start}
+use Rattle.exi_reader.specs.declared.start.Start.TheVariants as start
+use Rattle.exi_reader.specs.declared.turn.ReadStop.{ReadStop}
+use Rattle.exi_reader.specs.declared.turn.ReadStop.TheVariants as stop
+use Rattle.exi_reader.specs.declared.turn.Turn.{Turn as Made}
+use Rattle.exi_reader.specs.declared.turn.Turn.TheVariants as told
+
+-- ---- a job
+-- what a `Job` stands for
+abbrev pub job_of : Told → Job
+job_of j = record { setting = j.book.now; bytes = j.bytes.now; body = j.body }
+
+-- the input is not long, and the body begins in it; in a byte-aligned stream at a whole byte
+pub record IsJob (j : Job) : Type 0 where
+  pub few : length j.bytes ≤ 2 ^ 26
+  pub within : j.body ≤ 8 * length j.bytes
+  pub aligned : IsAligned (align_of j.setting.options) (record { bytes = j.bytes; place = j.body })
+  -- the book is without a schema
+  pub plain : j.setting.schema.known ≡ false
+
+-- reading begins in the input
+abbrev pub IsStartIn : Job → Start → Type 0
+IsStartIn j start.Body = Unit {0}
+IsStartIn j (start.Fragment byte) = byte ≤ length j.bytes
+
+-- ---- a reader
+-- what a reader stands for: what is read by, what is read, how far, and whether the fragment at which it stands is to be
+-- entered or spliced
+pub record Reading : Type 0 where
+  pub setting : Setting
+  pub bytes : List ℕ
+  pub config : Config
+  pub waits : Bool
+
+abbrev pub reading : Job → Config → Bool → Reading
+reading j c waits = record { setting = j.setting; bytes = j.bytes; config = c; waits = waits }
+
+-- turns lead from the first configuration of a job to where the reader is
+pub record IsReached (r : Reading) : Type 0 where
+  pub body : ℕ
+  pub start : Start
+  pub limits : Bounds
+  pub within : IsWithinStream limits
+  pub book : IsBook r.setting
+  pub names : IsStart r.setting.schema.names
+  pub turns : List (Option Happening)
+  pub leads : Leads r.setting r.bytes (first_config r.setting body start limits) turns r.config
+
+-- ---- a turn
+abbrev pub event_of : Turn → Option Happening
+event_of (goes e next) = e
+event_of (ends e end) = e
+
+-- The turn of the definition was made, and its event handed on, if there is one; or memory was refused, before or behind
+-- the event; or the event stopped what takes the events
+abbrev pub Turns : {T : Type 0} → (T → List Happening → T → Type 0) → (T → Happening → T → Type 0) → Result Made ReadStop → Reading → Reading → T → T → Type 0
+Turns took broke (Ok told.Went) old new before after = (e : Option Happening) × (turn old.setting old.bytes old.config ≡ goes e new.config) × (new.waits ≡ false) × took before (listed e) after
+Turns took broke (Ok (told.AtFragment byte)) old new before after = (turn old.setting old.bytes old.config ≡ goes (Some (event.sc byte)) new.config) × (new.waits ≡ true) × took before (event.sc byte ∷ []) after
+Turns took broke (Ok (told.Ended end)) old new before after = (e : Option Happening) × (turn old.setting old.bytes old.config ≡ ends e end) × took before (listed e) after
+Turns took broke (Err stop.Memory) old new before after = took before [] after ⊎ ((e : Happening) × (event_of (turn old.setting old.bytes old.config) ≡ Some e) × took before (e ∷ []) after)
+Turns took broke (Err stop.Stopped) old new before after = (e : Happening) × (event_of (turn old.setting old.bytes old.config) ≡ Some e) × broke before e after
+
+-- where reading goes on, turns lead there too
+abbrev pub StaysReached : Result Made ReadStop → Reading → Type 0
+StaysReached (Ok told.Went) r = IsReached r
+StaysReached (Ok (told.AtFragment byte)) r = IsReached r
+StaysReached (Ok (told.Ended end)) r = Unit {0}
+StaysReached (Err e) r = Unit {0}
+
+-- ---- all of it
+-- a front of the events of sequential processing, some, all or none
+pub record IsFront (j : Job) (start : Start) (limits : Bounds) (es : List Happening) : Type 0 where
+  pub events : List Happening
+  pub end : End
+  pub count : ℕ
+  pub sequence : IsSequence j start limits events end count
+  pub rest : List Happening
+  pub parts : events ≡ es ++ rest
+
+-- Sequential processing: exactly its events were taken, this is its end, and so many steps were counted; or reading stopped, and
+-- what was taken is a front of its events, behind which, where the events were taken no further, is the one that stopped them
+abbrev pub Sequences : {T : Type 0} → (T → List Happening → T → Type 0) → (T → Happening → T → Type 0) → Result End ReadStop → Job → Start → Bounds → T → T → ℕ → ℕ → Type 0
+Sequences took broke (Ok end) j start limits before after old new = (es : List Happening) × (count : ℕ) × IsSequence j start limits es end count × took before es after × (new ≡ old + count)
+Sequences took broke (Err stop.Memory) j start limits before after old new = (es : List Happening) × IsFront j start limits es × took before es after
+Sequences {T} took broke (Err stop.Stopped) j start limits before after old new = (es : List Happening) × (e : Happening) × (mid : T) × IsFront j start limits (es ++ e ∷ []) × took before es mid × broke mid e after

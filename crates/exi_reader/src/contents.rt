@@ -1,0 +1,606 @@
+ghost use Rattle.std.specs.Prelude.{◌≡◌, ◌≢◌, ◌≤◌, ◌<◌, ◌-◌, ◌^◌, [], Some, true, length, IsErrOf};
+ghost use Rattle.exi_builtin.specs.Learning.{is_type};
+ghost use Rattle.exi_names.specs.Events.{Rose};
+ghost use Rattle.exi_tables.specs.Growth.{NoneLonger};
+ghost use Rattle.exi_tables.specs.Partitions.{IsName};
+ghost use Rattle.exi_typed.specs.Places.{IsNameAt, name_in};
+ghost use Rattle.exi_reader.specs.Changes.{has_level, innermost, room_in};
+ghost use Rattle.exi_reader.specs.Handing.{
+  CanLearn,
+  IsTold,
+  HandsAny,
+  OnFault,
+  alone_of,
+  leading_to,
+  making,
+  opening_to,
+  string_made,
+  telling_of,
+  value_made,
+};
+ghost use Rattle.exi_reader.specs.Plans.{
+  attribute_plan,
+  characters_plan,
+  comment_plan,
+  declaration_plan,
+  document_type_plan,
+  element_end_plan,
+  element_plan,
+  end_plan,
+  entity_plan,
+  informed_plan,
+  instruction_plan,
+  self_contained_plan,
+  start_plan,
+};
+
+use crate::alone::Alone;
+use crate::frames::Outer;
+use crate::halt::Halt;
+use crate::parts::{
+    close, go_to, innermost, is_type, learn, learn_name, meet_root, open, see_type, text,
+    told_name, type_name,
+};
+use crate::stepper::Stepper;
+use exi_builtin::Learned;
+use exi_names::{EventOut, EventRef, NameId, ValRef};
+use exi_tables::Tables;
+use exi_typed::{NameAt, StringRead, declaration_texts, name_ref, read_declaration, read_string};
+
+impl<'a, T: Tables + Drop> Stepper<'a, T> {
+    /// SD.
+    #[tactic(auto, unfolding(crate::specs::Handing::making))]
+    pub fn start_document<E: EventOut>(
+        &mut self,
+        bit: u64,
+        alone: Alone,
+        to: u32,
+        out: &mut E,
+    ) -> Result<Option<u64>, Halt>
+        ensures hands { HandsAny E.took E.broke result self.new
+            (making self.old.bytes bit (start_plan (alone_of alone) (leading_to to)) self.old.config) out.old out.new }
+        ensures setting { self.new.setting ≡ self.old.setting }
+        ensures bytes { self.new.bytes ≡ self.old.bytes }
+        ensures root { OnFault result (self.new.config.root ≡ self.old.config.root) }
+        ensures same { E.same out.old out.new }
+        ensures later { E.stops out.old ≤ E.stops out.new }
+        ensures stopped { IsErrOf result Halt.Stopped → Rose (E.stops out.old) (E.stops out.new) }
+    {
+        alone.refuse(bit)?;
+        self.after_start = false;
+        go_to(&mut self.elements, &mut self.outer, to);
+        if alone.is_event() {
+            out.see(&EventRef::Sd)?;
+            return Ok(None);
+        }
+        Ok(None)
+    }
+
+    /// ED.
+    #[tactic(auto, unfolding(crate::specs::Handing::making))]
+    pub fn end_document<E: EventOut>(
+        &mut self,
+        bit: u64,
+        alone: Alone,
+        out: &mut E,
+    ) -> Result<Option<u64>, Halt>
+        requires level { self.old.config.aside ≢ [] → 0 < self.old.config.meter.level }
+        ensures hands { HandsAny E.took E.broke result self.new
+            (making self.old.bytes bit (end_plan (alone_of alone)) self.old.config) out.old out.new }
+        ensures setting { self.new.setting ≡ self.old.setting }
+        ensures bytes { self.new.bytes ≡ self.old.bytes }
+        ensures root { OnFault result (self.new.config.root ≡ self.old.config.root) }
+        ensures same { E.same out.old out.new }
+        ensures later { E.stops out.old ≤ E.stops out.new }
+        ensures stopped { IsErrOf result Halt.Stopped → Rose (E.stops out.old) (E.stops out.new) }
+    {
+        alone.refuse(bit)?;
+        self.after_start = false;
+        if alone.is_event() {
+            self.outer = Outer::Ended;
+            out.see(&EventRef::Ed)?;
+            return Ok(None);
+        }
+        self.input.skip_to_byte();
+        match self.aside.pop() {
+            None => self.outer = Outer::Ended,
+            Some(body) => {
+                let (tables, overlay, elements, outer) = body.into_parts();
+                self.meter.leave();
+                self.tables = tables;
+                self.overlay = overlay;
+                self.elements = elements;
+                self.outer = outer;
+            }
+        }
+        Ok(None)
+    }
+
+    /// SE.
+    #[tactic(auto, unfolding(crate::specs::Handing::making))]
+    pub fn element<E: EventOut>(
+        &mut self,
+        bit: u64,
+        alone: Alone,
+        telling: Option<NameId>,
+        to: u32,
+        inner: Option<u32>,
+        out: &mut E,
+    ) -> Result<Option<u64>, Halt>
+        requires few { NoneLonger (2 ^ 31 - 2) self.old.config.tables }
+        requires known { IsTold telling self.old.config.tables }
+        requires learns { CanLearn (room_in self.old.config.elements self.old.config.outer) self.old.config.learned }
+        requires grammars { length self.old.config.learned.grammars < 2 ^ 31 }
+        ensures hands { HandsAny E.took E.broke result self.new
+            (making self.old.bytes bit (element_plan self.old.setting (alone_of alone) self.old.config.aside (telling_of telling) (opening_to to inner)) self.old.config) out.old out.new }
+        ensures setting { self.new.setting ≡ self.old.setting }
+        ensures bytes { self.new.bytes ≡ self.old.bytes }
+        ensures root { OnFault result (self.new.config.root ≡ self.old.config.root) }
+        ensures same { E.same out.old out.new }
+        ensures later { E.stops out.old ≤ E.stops out.new }
+        ensures stopped { IsErrOf result Halt.Stopped → Rose (E.stops out.old) (E.stops out.new) }
+    {
+        let name = told_name(
+            self.alloc,
+            self.book,
+            &mut self.input,
+            telling,
+            &mut self.tables,
+            &mut self.meter,
+        )?;
+        let told = name_ref(&self.tables, name);
+        meet_root(alone, &self.aside, &mut self.root, told, bit)?;
+        let used = Learned::Se(name.id);
+        learn_name(&mut self.overlay, &self.elements, self.outer, telling, used)?;
+        go_to(&mut self.elements, &mut self.outer, to);
+        open(&mut self.overlay, &mut self.elements, name.id, inner)?;
+        if alone.is_event() {
+            self.after_start = true;
+            out.see(&EventRef::Se(name_ref(&self.tables, name)))?;
+            return Ok(None);
+        }
+        self.after_start = false;
+        Ok(None)
+    }
+
+    /// CH.
+    #[tactic(auto, unfolding(crate::specs::Handing::making, exi_typed::specs::Items::item_at))]
+    pub fn characters<E: EventOut>(
+        &mut self,
+        bit: u64,
+        alone: Alone,
+        to: u32,
+        out: &mut E,
+    ) -> Result<Option<u64>, Halt>
+        requires few { NoneLonger (2 ^ 31) self.old.config.tables }
+        requires name { IsName self.old.config.tables (innermost self.old.config.elements) }
+        requires learns { CanLearn (room_in self.old.config.elements self.old.config.outer) self.old.config.learned }
+        ensures hands { HandsAny E.took E.broke result self.new
+            (making self.old.bytes bit (characters_plan self.old.setting (alone_of alone) self.old.config.elements (leading_to to)) self.old.config) out.old out.new }
+        ensures setting { self.new.setting ≡ self.old.setting }
+        ensures bytes { self.new.bytes ≡ self.old.bytes }
+        ensures root { OnFault result (self.new.config.root ≡ self.old.config.root) }
+        ensures same { E.same out.old out.new }
+        ensures later { E.stops out.old ≤ E.stops out.new }
+        ensures stopped { IsErrOf result Halt.Stopped → Rose (E.stops out.old) (E.stops out.new) }
+    {
+        let name = innermost(&self.elements);
+        let align = self.book.options().align();
+        learn(&mut self.overlay, &self.elements, self.outer, Learned::Ch)?;
+        self.after_start = false;
+        go_to(&mut self.elements, &mut self.outer, to);
+        let text = read_string(
+            self.alloc,
+            &mut self.input,
+            None,
+            align,
+            name,
+            &self.tables,
+            &mut self.meter,
+        )?;
+        alone.refuse(bit)?;
+        match text {
+            StringRead::Stands(text) => out.see(&EventRef::Ch(ValRef::Text(text)))?,
+            StringRead::Missed(text) => {
+                out.see(&EventRef::Ch(ValRef::Text(&text)))?;
+                self.tables.add_value(name, text)?;
+            }
+        }
+        Ok(None)
+    }
+
+    /// EE.
+    #[tactic(auto, unfolding(crate::specs::Handing::making))]
+    pub fn end_element<E: EventOut>(
+        &mut self,
+        bit: u64,
+        alone: Alone,
+        out: &mut E,
+    ) -> Result<Option<u64>, Halt>
+        requires learns { CanLearn (room_in self.old.config.elements self.old.config.outer) self.old.config.learned }
+        requires level { has_level self.old.config.elements self.old.config.outer ≡ true → 0 < self.old.config.meter.level }
+        ensures hands { HandsAny E.took E.broke result self.new
+            (making self.old.bytes bit (element_end_plan (alone_of alone)) self.old.config) out.old out.new }
+        ensures setting { self.new.setting ≡ self.old.setting }
+        ensures bytes { self.new.bytes ≡ self.old.bytes }
+        ensures root { OnFault result (self.new.config.root ≡ self.old.config.root) }
+        ensures same { E.same out.old out.new }
+        ensures later { E.stops out.old ≤ E.stops out.new }
+        ensures stopped { IsErrOf result Halt.Stopped → Rose (E.stops out.old) (E.stops out.new) }
+    {
+        alone.refuse(bit)?;
+        learn(&mut self.overlay, &self.elements, self.outer, Learned::Ee)?;
+        self.after_start = false;
+        close(&mut self.elements, self.outer, &mut self.meter);
+        out.see(&EventRef::Ee)?;
+        Ok(None)
+    }
+
+    /// NS.
+    #[tactic(auto, unfolding(crate::specs::Handing::making))]
+    pub fn declaration<E: EventOut>(
+        &mut self,
+        bit: u64,
+        alone: Alone,
+        to: u32,
+        out: &mut E,
+    ) -> Result<Option<u64>, Halt>
+        requires few { NoneLonger (2 ^ 31) self.old.config.tables }
+        ensures hands { HandsAny E.took E.broke result self.new
+            (making self.old.bytes bit (declaration_plan self.old.setting (alone_of alone) (leading_to to)) self.old.config) out.old out.new }
+        ensures setting { self.new.setting ≡ self.old.setting }
+        ensures bytes { self.new.bytes ≡ self.old.bytes }
+        ensures root { OnFault result (self.new.config.root ≡ self.old.config.root) }
+        ensures same { E.same out.old out.new }
+        ensures later { E.stops out.old ≤ E.stops out.new }
+        ensures stopped { IsErrOf result Halt.Stopped → Rose (E.stops out.old) (E.stops out.new) }
+    {
+        let align = self.book.options().align();
+        let declaration = read_declaration(
+            self.alloc,
+            &mut self.input,
+            align,
+            &mut self.tables,
+            &mut self.meter,
+        )?;
+        alone.refuse(bit)?;
+        self.after_start = false;
+        go_to(&mut self.elements, &mut self.outer, to);
+        let (uri, prefix) = declaration_texts(&self.tables, declaration);
+        out.see(&EventRef::Ns {
+            uri,
+            prefix,
+            element: declaration.element,
+        })?;
+        Ok(None)
+    }
+
+    /// SC. Answers the byte at which the fragment begins.
+    #[tactic(auto, unfolding(crate::specs::Handing::making))]
+    pub fn self_contained<E: EventOut>(
+        &mut self,
+        bit: u64,
+        alone: Alone,
+        out: &mut E,
+    ) -> Result<Option<u64>, Halt>
+        ensures hands { HandsAny E.took E.broke result self.new
+            (making self.old.bytes bit (self_contained_plan self.old.setting (alone_of alone) self.old.config.after_start) self.old.config) out.old out.new }
+        ensures setting { self.new.setting ≡ self.old.setting }
+        ensures bytes { self.new.bytes ≡ self.old.bytes }
+        ensures root { OnFault result (self.new.config.root ≡ self.old.config.root) }
+        ensures same { E.same out.old out.new }
+        ensures later { E.stops out.old ≤ E.stops out.new }
+        ensures stopped { IsErrOf result Halt.Stopped → Rose (E.stops out.old) (E.stops out.new) }
+    {
+        alone.refuse(bit)?;
+        self.after_start = false;
+        self.input.skip_to_byte();
+        let byte = self.input.at() / 8;
+        out.see(&EventRef::Sc { at: byte })?;
+        Ok(Some(byte))
+    }
+
+    /// CM.
+    #[tactic(auto, unfolding(crate::specs::Handing::making))]
+    pub fn comment<E: EventOut>(
+        &mut self,
+        bit: u64,
+        alone: Alone,
+        to: u32,
+        out: &mut E,
+    ) -> Result<Option<u64>, Halt>
+        ensures hands { HandsAny E.took E.broke result self.new
+            (making self.old.bytes bit (comment_plan self.old.setting (alone_of alone) (leading_to to)) self.old.config) out.old out.new }
+        ensures setting { self.new.setting ≡ self.old.setting }
+        ensures bytes { self.new.bytes ≡ self.old.bytes }
+        ensures root { OnFault result (self.new.config.root ≡ self.old.config.root) }
+        ensures same { E.same out.old out.new }
+        ensures later { E.stops out.old ≤ E.stops out.new }
+        ensures stopped { IsErrOf result Halt.Stopped → Rose (E.stops out.old) (E.stops out.new) }
+    {
+        let text = text(
+            self.alloc,
+            self.book,
+            &mut self.input,
+            &self.tables,
+            &mut self.meter,
+        )?;
+        alone.refuse(bit)?;
+        self.after_start = false;
+        go_to(&mut self.elements, &mut self.outer, to);
+        out.see(&EventRef::Cm(&text))?;
+        Ok(None)
+    }
+
+    /// PI.
+    #[tactic(auto, unfolding(crate::specs::Handing::making, crate::specs::Contents::both_at))]
+    pub fn instruction<E: EventOut>(
+        &mut self,
+        bit: u64,
+        alone: Alone,
+        to: u32,
+        out: &mut E,
+    ) -> Result<Option<u64>, Halt>
+        ensures hands { HandsAny E.took E.broke result self.new
+            (making self.old.bytes bit (instruction_plan self.old.setting (alone_of alone) (leading_to to)) self.old.config) out.old out.new }
+        ensures setting { self.new.setting ≡ self.old.setting }
+        ensures bytes { self.new.bytes ≡ self.old.bytes }
+        ensures root { OnFault result (self.new.config.root ≡ self.old.config.root) }
+        ensures same { E.same out.old out.new }
+        ensures later { E.stops out.old ≤ E.stops out.new }
+        ensures stopped { IsErrOf result Halt.Stopped → Rose (E.stops out.old) (E.stops out.new) }
+    {
+        let target = text(
+            self.alloc,
+            self.book,
+            &mut self.input,
+            &self.tables,
+            &mut self.meter,
+        )?;
+        let text = text(
+            self.alloc,
+            self.book,
+            &mut self.input,
+            &self.tables,
+            &mut self.meter,
+        )?;
+        alone.refuse(bit)?;
+        self.after_start = false;
+        go_to(&mut self.elements, &mut self.outer, to);
+        out.see(&EventRef::Pi {
+            target: &target,
+            text: &text,
+        })?;
+        Ok(None)
+    }
+
+    /// DT.
+    #[tactic(auto, unfolding(crate::specs::Handing::making, crate::specs::Contents::both_at))]
+    pub fn document_type<E: EventOut>(
+        &mut self,
+        bit: u64,
+        alone: Alone,
+        to: u32,
+        out: &mut E,
+    ) -> Result<Option<u64>, Halt>
+        ensures hands { HandsAny E.took E.broke result self.new
+            (making self.old.bytes bit (document_type_plan self.old.setting (alone_of alone) (leading_to to)) self.old.config) out.old out.new }
+        ensures setting { self.new.setting ≡ self.old.setting }
+        ensures bytes { self.new.bytes ≡ self.old.bytes }
+        ensures root { OnFault result (self.new.config.root ≡ self.old.config.root) }
+        ensures same { E.same out.old out.new }
+        ensures later { E.stops out.old ≤ E.stops out.new }
+        ensures stopped { IsErrOf result Halt.Stopped → Rose (E.stops out.old) (E.stops out.new) }
+    {
+        let name = text(
+            self.alloc,
+            self.book,
+            &mut self.input,
+            &self.tables,
+            &mut self.meter,
+        )?;
+        let public = text(
+            self.alloc,
+            self.book,
+            &mut self.input,
+            &self.tables,
+            &mut self.meter,
+        )?;
+        let system = text(
+            self.alloc,
+            self.book,
+            &mut self.input,
+            &self.tables,
+            &mut self.meter,
+        )?;
+        let text = text(
+            self.alloc,
+            self.book,
+            &mut self.input,
+            &self.tables,
+            &mut self.meter,
+        )?;
+        alone.refuse(bit)?;
+        self.after_start = false;
+        go_to(&mut self.elements, &mut self.outer, to);
+        out.see(&EventRef::Dt {
+            name: &name,
+            public: &public,
+            system: &system,
+            text: &text,
+        })?;
+        Ok(None)
+    }
+
+    /// ER.
+    #[tactic(auto, unfolding(crate::specs::Handing::making))]
+    pub fn entity<E: EventOut>(
+        &mut self,
+        bit: u64,
+        alone: Alone,
+        to: u32,
+        out: &mut E,
+    ) -> Result<Option<u64>, Halt>
+        ensures hands { HandsAny E.took E.broke result self.new
+            (making self.old.bytes bit (entity_plan self.old.setting (alone_of alone) (leading_to to)) self.old.config) out.old out.new }
+        ensures setting { self.new.setting ≡ self.old.setting }
+        ensures bytes { self.new.bytes ≡ self.old.bytes }
+        ensures root { OnFault result (self.new.config.root ≡ self.old.config.root) }
+        ensures same { E.same out.old out.new }
+        ensures later { E.stops out.old ≤ E.stops out.new }
+        ensures stopped { IsErrOf result Halt.Stopped → Rose (E.stops out.old) (E.stops out.new) }
+    {
+        let name = text(
+            self.alloc,
+            self.book,
+            &mut self.input,
+            &self.tables,
+            &mut self.meter,
+        )?;
+        alone.refuse(bit)?;
+        self.after_start = false;
+        go_to(&mut self.elements, &mut self.outer, to);
+        out.see(&EventRef::Er(&name))?;
+        Ok(None)
+    }
+
+    /// What only a schema has.
+    #[tactic(auto, unfolding(crate::specs::Handing::making))]
+    pub fn informed<E: EventOut>(
+        &mut self,
+        bit: u64,
+        alone: Alone,
+        out: &mut E,
+    ) -> Result<Option<u64>, Halt>
+        ensures hands { HandsAny E.took E.broke result self.new
+            (making self.old.bytes bit (informed_plan (alone_of alone)) self.old.config) out.old out.new }
+        ensures setting { self.new.setting ≡ self.old.setting }
+        ensures bytes { self.new.bytes ≡ self.old.bytes }
+        ensures root { OnFault result (self.new.config.root ≡ self.old.config.root) }
+        ensures same { E.same out.old out.new }
+        ensures later { E.stops out.old ≤ E.stops out.new }
+        ensures stopped { IsErrOf result Halt.Stopped → Rose (E.stops out.old) (E.stops out.new) }
+    {
+        alone.refuse(bit)?;
+        self.after_start = false;
+        Ok(None)
+    }
+
+    /// The value of an attribute that is `xsi:type`, whose name is read.
+    #[tactic(auto, unfolding(crate::specs::Handing::value_made))]
+    fn type_value<E: EventOut>(
+        &mut self,
+        bit: u64,
+        alone: Alone,
+        name: NameAt,
+        out: &mut E,
+    ) -> Result<Option<u64>, Halt>
+        requires few { NoneLonger (2 ^ 31) self.old.config.tables }
+        requires places { IsNameAt self.old.config.tables name }
+        requires typed { is_type name.id ≡ true }
+        ensures hands { HandsAny E.took E.broke result self.new
+            (value_made self.old.setting self.old.bytes bit (alone_of alone) (name_in self.old.config.tables name) self.old.config) out.old out.new }
+        ensures setting { self.new.setting ≡ self.old.setting }
+        ensures bytes { self.new.bytes ≡ self.old.bytes }
+        ensures root { OnFault result (self.new.config.root ≡ self.old.config.root) }
+        ensures same { E.same out.old out.new }
+        ensures later { E.stops out.old ≤ E.stops out.new }
+        ensures stopped { IsErrOf result Halt.Stopped → Rose (E.stops out.old) (E.stops out.new) }
+    {
+        self.after_start = false;
+        let value = type_name(
+            self.alloc,
+            self.book,
+            &mut self.input,
+            name.id,
+            &mut self.tables,
+            &mut self.meter,
+        )?;
+        alone.refuse(bit)?;
+        let value = name_ref(&self.tables, value).copy()?;
+        see_type(name_ref(&self.tables, name), value, out)?;
+        Ok(None)
+    }
+
+    /// The value of an attribute that is a string, whose name is read.
+    #[tactic(auto, unfolding(crate::specs::Handing::string_made))]
+    fn string_value<E: EventOut>(
+        &mut self,
+        bit: u64,
+        alone: Alone,
+        name: NameAt,
+        out: &mut E,
+    ) -> Result<Option<u64>, Halt>
+        requires few { NoneLonger (2 ^ 31) self.old.config.tables }
+        requires places { IsNameAt self.old.config.tables name }
+        ensures hands { HandsAny E.took E.broke result self.new
+            (string_made self.old.setting self.old.bytes bit (alone_of alone) (name_in self.old.config.tables name) self.old.config) out.old out.new }
+        ensures setting { self.new.setting ≡ self.old.setting }
+        ensures bytes { self.new.bytes ≡ self.old.bytes }
+        ensures root { OnFault result (self.new.config.root ≡ self.old.config.root) }
+        ensures same { E.same out.old out.new }
+        ensures later { E.stops out.old ≤ E.stops out.new }
+        ensures stopped { IsErrOf result Halt.Stopped → Rose (E.stops out.old) (E.stops out.new) }
+    {
+        self.after_start = false;
+        let align = self.book.options().align();
+        let text = read_string(
+            self.alloc,
+            &mut self.input,
+            None,
+            align,
+            name.id,
+            &self.tables,
+            &mut self.meter,
+        )?;
+        alone.refuse(bit)?;
+        let told = name_ref(&self.tables, name);
+        match text {
+            StringRead::Stands(text) => out.see(&EventRef::At(told, ValRef::Text(text)))?,
+            StringRead::Missed(text) => {
+                out.see(&EventRef::At(told, ValRef::Text(&text)))?;
+                self.tables.add_value(name.id, text)?;
+            }
+        }
+        Ok(None)
+    }
+
+    /// AT.
+    #[tactic(auto, unfolding(crate::specs::Handing::making, crate::specs::Contents::both_at))]
+    pub fn attribute<E: EventOut>(
+        &mut self,
+        bit: u64,
+        alone: Alone,
+        telling: Option<NameId>,
+        to: u32,
+        out: &mut E,
+    ) -> Result<Option<u64>, Halt>
+        requires few { NoneLonger (2 ^ 31 - 2) self.old.config.tables }
+        requires known { IsTold telling self.old.config.tables }
+        requires learns { CanLearn (room_in self.old.config.elements self.old.config.outer) self.old.config.learned }
+        ensures hands { HandsAny E.took E.broke result self.new
+            (making self.old.bytes bit (attribute_plan self.old.setting (alone_of alone) (telling_of telling) (leading_to to)) self.old.config) out.old out.new }
+        ensures setting { self.new.setting ≡ self.old.setting }
+        ensures bytes { self.new.bytes ≡ self.old.bytes }
+        ensures root { OnFault result (self.new.config.root ≡ self.old.config.root) }
+        ensures same { E.same out.old out.new }
+        ensures later { E.stops out.old ≤ E.stops out.new }
+        ensures stopped { IsErrOf result Halt.Stopped → Rose (E.stops out.old) (E.stops out.new) }
+    {
+        let name = told_name(
+            self.alloc,
+            self.book,
+            &mut self.input,
+            telling,
+            &mut self.tables,
+            &mut self.meter,
+        )?;
+        let used = Learned::At(name.id);
+        learn_name(&mut self.overlay, &self.elements, self.outer, telling, used)?;
+        go_to(&mut self.elements, &mut self.outer, to);
+        if is_type(name.id) {
+            return self.type_value(bit, alone, name, out);
+        }
+        self.string_value(bit, alone, name, out)
+    }
+}

@@ -1,0 +1,113 @@
+ghost use Rattle.std.specs.Prelude.{◌≡◌, ◌∷◌, [], IsTrue, ◌↔◌, OnOk, OnErr, length};
+ghost use Rattle.exi_reader.specs.Changes.{enclosing, has_level, innermost, moved_elements, moved_room, moved_state};
+ghost use Rattle.exi_reader.specs.Stacks.{first_element};
+
+use crate::frames::{Element, Outer, State};
+use exi_builtin::Room;
+use exi_names::NameId;
+use std::alloc::{AllocError, Global};
+use std::marker::Model;
+
+/// The open elements. A contract sees them as a list, the innermost first.
+#[derive(Drop)]
+pub struct Elements {
+    items: Vec<Element>,
+}
+
+impl Model for Elements {
+    ghost use Rattle.std.specs.Prelude.{List, reverse};
+    ghost use Rattle.exi_reader.specs.declared.frames.Element.{Element};
+
+    ghost Value = { List Element };
+
+    ghost view = { λ e. reverse e.items.items };
+}
+
+impl Elements {
+    /// None is open.
+    pub fn new(alloc: Global) -> Elements
+        ensures { result ≡ [] }
+    {
+        Elements {
+            items: Vec::new(alloc),
+        }
+    }
+
+    /// The innermost.
+    pub fn innermost(&self) -> Option<Element>
+        ensures { result ≡ first_element self.now }
+    {
+        self.items.last().copied()
+    }
+
+    /// How many are open.
+    pub fn len(&self) -> usize
+        ensures { result ≡ length self.now }
+    {
+        self.items.len()
+    }
+
+    /// One more is open.
+    ///
+    /// # Errors
+    ///
+    /// `AllocError` where memory is refused; nothing is then changed.
+    pub fn open(&mut self, element: Element) -> Result<(), AllocError>
+        ensures ok { OnOk result (self.new ≡ element ∷ self.old) }
+        ensures err { OnErr result (self.new ≡ self.old) }
+    {
+        self.items.push(element)?;
+        Ok(())
+    }
+
+    /// The innermost is closed.
+    pub fn close(&mut self)
+        ensures { self.new ≡ enclosing self.old }
+    {
+        self.items.pop();
+    }
+
+    /// The innermost goes to this state of its grammar.
+    pub fn move_to(&mut self, to: u32)
+        ensures { self.new ≡ moved_elements to self.old }
+    {
+        if let Some(element) = self.items.pop() {
+            self.items.push_reserved(Element {
+                name: element.name,
+                state: element.state.moved(to),
+            });
+        }
+    }
+}
+
+impl State {
+    /// The state of the same grammar with this place.
+    pub fn moved(self, to: u32) -> State
+        ensures { result ≡ moved_state to self }
+    {
+        match self {
+            State::BuiltIn(room) => State::BuiltIn(moved_room(room, to)),
+            State::Informed { grammar, empty, .. } => State::Informed {
+                grammar,
+                state: to,
+                empty,
+            },
+        }
+    }
+}
+
+/// The state of the same built-in grammar with this place.
+fn moved_room(room: Room, to: u32) -> Room
+    ensures { result ≡ moved_room to room }
+{
+    match room {
+        Room::StartTag(number) | Room::Content(number) => {
+            if to == 0 {
+                Room::StartTag(number)
+            } else {
+                Room::Content(number)
+            }
+        }
+        Room::Fragment => Room::Fragment,
+    }
+}

@@ -1,0 +1,371 @@
+ghost use Rattle.std.specs.Prelude.{◌≡◌, ◌≤◌, ◌<◌, ◌-◌, ◌^◌, [], ◌∷◌, true, length, IfOk, IsErrOf, OnOk};
+ghost use Rattle.exi_names.specs.Events as event;
+ghost use Rattle.exi_names.specs.Events.{Rose};
+ghost use Rattle.exi_bits.specs.Bits.{IsAligned};
+ghost use Rattle.exi_builtin.specs.Learning.{is_type};
+ghost use Rattle.exi_gram.specs.Switches.{align_of, prefixes, strict};
+ghost use Rattle.exi_names.specs.Seen as value;
+ghost use Rattle.exi_names.specs.Shown.{named};
+ghost use Rattle.exi_tables.specs.Growth.{KeepsAll, NoneLonger};
+ghost use Rattle.exi_typed.specs.Courses.{GoesOrStops, course};
+ghost use Rattle.exi_typed.specs.Places.{IsNameAt, name_in};
+ghost use Rattle.exi_reader.specs.Changes.{
+  enclosing,
+  has_level,
+  inner_state,
+  innermost,
+  is_alone,
+  learned_in,
+  left_level,
+  moved_elements,
+  moved_outer,
+  outer_behind,
+  room_in,
+  with_inner,
+};
+ghost use Rattle.exi_reader.specs.Contents.{attribute_value_at, text_at, told_name_at};
+ghost use Rattle.exi_reader.specs.Handing.{CanLearn, IsTold, Meets, alone_of, learned_by, telling_of};
+ghost use Rattle.exi_reader.specs.Plans.{alone_in};
+
+use crate::alone::Alone;
+use crate::aside::Asides;
+use crate::elements::Elements;
+use crate::frames::{Element, Outer, State};
+use bitflags::Flags;
+use exi_bits::{BitIn, Fault, Kind, Stop};
+use exi_builtin::{Learned, Overlay, Room};
+use exi_gram::{Book, OptionFlags, Options};
+use exi_meter::Meter;
+use exi_names::{EventOut, EventRef, NameId, NameRef, PushStop, QName, Txt, Val, ValRef};
+use exi_tables::Tables;
+use exi_typed::{NameAt, read_known, read_literal, read_name, read_name_value};
+use std::alloc::{AllocError, Global};
+
+/// Whether names keep their prefixes.
+fn keeps_prefixes(options: &Options) -> bool
+    ensures { result ≡ prefixes options.now }
+{
+    options.flags.contains(OptionFlags::PREFIXES)
+}
+
+/// Whether what a schema does not describe is refused.
+fn is_strict(options: &Options) -> bool
+    ensures { result ≡ strict options.now }
+{
+    options.flags.contains(OptionFlags::STRICT)
+}
+
+/// Whether a name is `xsi:type`, which the first string tables have at these places (EXI 1.0, appendix D).
+pub fn is_type(name: NameId) -> bool
+    ensures { result ≡ is_type name }
+{
+    name.uri == 2 && name.local == 1
+}
+
+/// Whether a fragment stands there for one element.
+fn is_alone(outer: Outer) -> bool
+    ensures { result ≡ is_alone outer }
+{
+    match outer {
+        Outer::AloneStart | Outer::AloneFirst | Outer::AloneOver => true,
+        Outer::Book { .. } | Outer::FragmentStart | Outer::FragmentContent | Outer::Ended => false,
+    }
+}
+
+/// The state outside of all elements that follows.
+fn moved_outer(outer: Outer, to: u32) -> Outer
+    ensures { result ≡ moved_outer to outer }
+{
+    match outer {
+        Outer::Book { grammar, .. } => Outer::Book { grammar, state: to },
+        Outer::FragmentStart | Outer::FragmentContent => {
+            if to == 0 {
+                Outer::FragmentStart
+            } else {
+                Outer::FragmentContent
+            }
+        }
+        Outer::AloneStart => Outer::AloneFirst,
+        Outer::AloneFirst | Outer::AloneOver => Outer::AloneOver,
+        Outer::Ended => Outer::Ended,
+    }
+}
+
+/// Where reading is in a fragment that stands for one element, outside of that.
+pub fn alone_in(elements: &Elements, outer: Outer) -> Alone
+    ensures { alone_of result ≡ alone_in elements.now outer }
+{
+    match elements.innermost() {
+        Some(_) => Alone::Nowhere,
+        None => Alone::of(outer),
+    }
+}
+
+/// The name under which characters stand.
+pub fn innermost(elements: &Elements) -> NameId
+    ensures { result ≡ innermost elements.now }
+{
+    match elements.innermost() {
+        Some(element) => element.name,
+        None => NameId { uri: 0, local: 0 },
+    }
+}
+
+/// The state that learns.
+fn room_in(elements: &Elements, outer: Outer) -> Option<Room>
+    ensures { result ≡ room_in elements.now outer }
+{
+    match elements.innermost() {
+        Some(element) => match element.state {
+            State::BuiltIn(room) => Some(room),
+            State::Informed { .. } => None,
+        },
+        None => match outer {
+            Outer::FragmentContent | Outer::AloneFirst | Outer::AloneOver => Some(Room::Fragment),
+            Outer::Book { .. } | Outer::FragmentStart | Outer::AloneStart | Outer::Ended => None,
+        },
+    }
+}
+
+/// The state learns from a use.
+pub fn learn(
+    overlay: &mut Overlay,
+    elements: &Elements,
+    outer: Outer,
+    used: Learned,
+) -> Result<(), AllocError>
+    requires learns { CanLearn (room_in elements.now outer) overlay.old }
+    ensures ok { OnOk result (overlay.new ≡ learned_in (room_in elements.now outer) used overlay.old) }
+    ensures grammars { length overlay.new.grammars ≡ length overlay.old.grammars }
+{
+    if let Some(room) = room_in(elements, outer) {
+        overlay.learn(room, used)?;
+    }
+    Ok(())
+}
+
+/// The state that follows.
+pub fn go_to(elements: &mut Elements, outer: &mut Outer, to: u32)
+    ensures elements { elements.new ≡ moved_elements to elements.old }
+    ensures outer { outer.new ≡ outer_behind to elements.old outer.old }
+{
+    if elements.innermost().is_none() {
+        *outer = moved_outer(*outer, to);
+    } else {
+        elements.move_to(to);
+    }
+}
+
+/// An element is opened.
+///
+/// # Errors
+///
+/// `AllocError` where memory is refused.
+pub fn open(
+    overlay: &mut Overlay,
+    elements: &mut Elements,
+    name: NameId,
+    inner: Option<u32>,
+) -> Result<(), AllocError>
+    requires few { length overlay.old.grammars < 2 ^ 31 }
+    ensures elements { OnOk result (elements.new ≡ record { name = name; state = inner_state overlay.old name inner } ∷ elements.old) }
+    ensures learned { OnOk result (overlay.new ≡ with_inner overlay.old name inner) }
+{
+    let state = match inner {
+        None => State::BuiltIn(Room::StartTag(overlay.grammar(name)?)),
+        Some(grammar) => State::Informed {
+            grammar,
+            state: 0,
+            empty: false,
+        },
+    };
+    elements.open(Element { name, state })
+}
+
+/// The innermost element is closed.
+pub fn close(elements: &mut Elements, outer: Outer, meter: &mut Meter)
+    requires level { has_level elements.old outer ≡ true → 0 < meter.old.level }
+    ensures elements { elements.new ≡ enclosing elements.old }
+    ensures meter { meter.new ≡ left_level (has_level elements.old outer) meter.old }
+{
+    if has_level(elements, outer) {
+        meter.leave();
+    }
+    elements.close();
+}
+
+/// Whether the innermost element has entered a level.
+fn has_level(elements: &Elements, outer: Outer) -> bool
+    ensures { result ≡ has_level elements.now outer }
+{
+    match elements.len() {
+        0 => false,
+        1 => !is_alone(outer),
+        _ => true,
+    }
+}
+
+/// The state learns from the use of a name, where the name has bits of its own.
+pub fn learn_name(
+    overlay: &mut Overlay,
+    elements: &Elements,
+    outer: Outer,
+    telling: Option<NameId>,
+    used: Learned,
+) -> Result<(), AllocError>
+    requires learns { CanLearn (room_in elements.now outer) overlay.old }
+    ensures ok { OnOk result (overlay.new ≡ learned_by (telling_of telling) (room_in elements.now outer) used overlay.old) }
+    ensures grammars { length overlay.new.grammars ≡ length overlay.old.grammars }
+{
+    match telling {
+        None => learn(overlay, elements, outer, used),
+        Some(_) => Ok(()),
+    }
+}
+
+/// The element of a fragment, where it is to come: where reading began at the fragment its name is kept, and else
+/// it has to be that of the element for which the fragment stands.
+///
+/// # Errors
+///
+/// `ScRoot` at this bit where it has another name, and `Memory` where memory is refused.
+pub fn meet_root<T: Tables + Drop>(
+    alone: Alone,
+    aside: &Asides<T>,
+    root: &mut Option<QName>,
+    name: NameRef<'_>,
+    bit: u64,
+) -> Result<(), Stop>
+    ensures { Meets result (alone_of alone) aside.now (named name.entry) root.old root.new bit }
+{
+    if alone != Alone::AtFirst {
+        return Ok(());
+    }
+    if aside.len() == 0 {
+        *root = Some(name.copy()?);
+        return Ok(());
+    }
+    if aside.refuse(name) {
+        return Err(Stop::Fault(Fault {
+            kind: Kind::ScRoot,
+            bit,
+        }));
+    }
+    Ok(())
+}
+
+/// Reads a name that has bits of its own, or that the code told.
+///
+/// # Errors
+///
+/// Those of the calls that read names. The place may then be any.
+pub fn told_name<T: Tables>(
+    alloc: Global,
+    book: &Book,
+    input: &mut BitIn<'_>,
+    telling: Option<NameId>,
+    tables: &mut T,
+    meter: &mut Meter,
+) -> Result<NameAt, Stop>
+    requires few { NoneLonger (2 ^ 31 - 2) (T.held tables.old) }
+    requires known { IsTold telling (T.held tables.old) }
+    requires aligned { IsAligned (align_of book.now.options) input.old }
+    ensures read { GoesOrStops
+        (λ n. (name_in (T.held tables.new) n, course input.new meter.new (T.held tables.new)))
+        meter.new
+        result
+        (told_name_at book.now (telling_of telling) (course input.old meter.old (T.held tables.old))) }
+    ensures places { IfOk result (λ n. IsNameAt (T.held tables.new) n) }
+    ensures few { IfOk result (λ n. NoneLonger (2 ^ 31) (T.held tables.new)) }
+    ensures bytes { input.new.bytes ≡ input.old.bytes }
+    ensures aligned { IsAligned (align_of book.now.options) input.new }
+{
+    let options = book.options();
+    let keep = keeps_prefixes(options);
+    let align = options.align();
+    match telling {
+        None => {
+            let name = read_name(alloc, input, keep, align, tables, meter)?;
+            Ok(name)
+        }
+        Some(id) => Ok(read_known(input, keep, align, id, tables, meter)?),
+    }
+}
+
+/// Reads the value of an attribute that is `xsi:type`: a name.
+///
+/// # Errors
+///
+/// Those of the calls that read names, and in a strict stream `BadType` at the value, since no type is there. The
+/// place may then be any.
+#[tactic(auto, unfolding(crate::specs::Contents::attribute_value_at, exi_typed::specs::Items::item_at))]
+pub fn type_name<T: Tables>(
+    alloc: Global,
+    book: &Book,
+    input: &mut BitIn<'_>,
+    name: NameId,
+    tables: &mut T,
+    meter: &mut Meter,
+) -> Result<NameAt, Stop>
+    requires few { NoneLonger (2 ^ 31) (T.held tables.old) }
+    requires typed { is_type name ≡ true }
+    requires aligned { IsAligned (align_of book.now.options) input.old }
+    ensures read { GoesOrStops
+        (λ n. (value.name (name_in (T.held tables.new) n).name, course input.new meter.new (T.held tables.new)))
+        meter.new
+        result
+        (attribute_value_at book.now name (course input.old meter.old (T.held tables.old))) }
+    ensures places { IfOk result (λ n. IsNameAt (T.held tables.new) n) }
+    ensures keeps { IfOk result (λ n. KeepsAll (T.held tables.old) (T.held tables.new)) }
+    ensures bytes { input.new.bytes ≡ input.old.bytes }
+    ensures aligned { IsAligned (align_of book.now.options) input.new }
+{
+    let options = book.options();
+    let bit = input.at();
+    let keep = keeps_prefixes(options);
+    let found = read_name_value(alloc, input, keep, options.align(), tables, meter)?;
+    if is_strict(options) {
+        return Err(Stop::Fault(Fault {
+            kind: Kind::BadType,
+            bit,
+        }));
+    }
+    Ok(found)
+}
+
+/// Reads a text that stands in no string table, and leaves the tables as they are.
+///
+/// # Errors
+///
+/// Those of [`read_literal`]. The place may then be any.
+pub fn text<T: Tables>(
+    alloc: Global,
+    book: &Book,
+    input: &mut BitIn<'_>,
+    tables: &T,
+    meter: &mut Meter,
+) -> Result<Txt, Stop>
+    requires aligned { IsAligned (align_of book.now.options) input.old }
+    ensures read { GoesOrStops
+        (λ t. (t, course input.new meter.new (T.held tables.now)))
+        meter.new
+        result
+        (text_at book.now (course input.old meter.old (T.held tables.now))) }
+    ensures bytes { input.new.bytes ≡ input.old.bytes }
+    ensures aligned { IsAligned (align_of book.now.options) input.new }
+{
+    read_literal(alloc, input, book.options().align(), meter)
+}
+
+/// Hands on an attribute whose value is a name.
+pub fn see_type<E: EventOut>(name: NameRef<'_>, found: QName, out: &mut E) -> Result<(), PushStop>
+    ensures ok { OnOk result (E.took out.old (event.at (named name.entry) (value.name found) ∷ []) out.new) }
+    ensures broke { IsErrOf result PushStop.Stopped → E.broke out.old (event.at (named name.entry) (value.name found)) out.new }
+    ensures memory { IsErrOf result PushStop.Memory → E.took out.old [] out.new }
+    ensures same { E.same out.old out.new }
+    ensures later { E.stops out.old ≤ E.stops out.new }
+    ensures stopped { IsErrOf result PushStop.Stopped → Rose (E.stops out.old) (E.stops out.new) }
+{
+    let value = Val::Name(found);
+    out.see(&EventRef::At(name, ValRef::Any(&value)))
+}

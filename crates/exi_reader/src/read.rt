@@ -1,0 +1,49 @@
+ghost use Rattle.std.specs.Prelude.{◌≡◌, ◌≤◌, IsErrOf};
+ghost use Rattle.exi_names.specs.Events.{Rose};
+ghost use Rattle.exi_reader.specs.Reading.{IsJob, IsStartIn, Sequences, job_of};
+
+use crate::end::End;
+use crate::job::Job;
+use crate::reader::Reader;
+use crate::start::Start;
+use crate::turn::{ReadStop, Turn};
+use exi_meter::Limits;
+use exi_names::EventOut;
+use exi_steps::Steps;
+use exi_tables::Tables;
+use std::alloc::Global;
+use std::sync::ledger::Ledger;
+
+/// Reads a body or a fragment to its end: sequential processing (EXI 1.0, section 6). `out` takes the events, and
+/// each turn counts one step.
+///
+/// # Errors
+///
+/// `ReadStop::Stopped` where `out` stopped in this call, and `ReadStop::Memory` where memory is refused. `out` then
+/// took a front of the events.
+pub fn read_from<T: Tables + Drop, E: EventOut, L: Ledger>(
+    alloc: Global,
+    job: &Job<'_>,
+    start: Start,
+    limits: Limits,
+    out: &mut E,
+    steps: &mut Steps<L>,
+) -> Result<End, ReadStop>
+    requires job { IsJob (job_of job.now) }
+    requires start { IsStartIn (job_of job.now) start }
+    ensures read { Sequences E.took E.broke result (job_of job.now) start limits out.old out.new steps.old steps.new }
+    ensures same { E.same out.old out.new }
+    ensures later { E.stops out.old ≤ E.stops out.new }
+    ensures stopped { IsErrOf result ReadStop.Stopped → Rose (E.stops out.old) (E.stops out.new) }
+{
+    let Ok(mut reader) = Reader::<T>::new(alloc, job, start, limits) else {
+        return Err(ReadStop::Memory);
+    };
+    loop {
+        match reader.turn(out, steps)? {
+            Turn::Went => {}
+            Turn::AtFragment(_) => reader.enter()?,
+            Turn::Ended(end) => return Ok(end),
+        }
+    }
+}
