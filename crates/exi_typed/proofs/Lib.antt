@@ -10,3 +10,5 @@ pub mod NewSpaces
 pub mod Limits
 pub mod ItemLaws
 pub mod Meters
+pub mod Writes
+pub mod WrittenSpelled

@@ -8,3 +8,5 @@ pub mod Onward
 pub mod Places
 pub mod Spelled
 pub mod Strings
+pub mod Written
+pub mod WrittenLaws

@@ -15,6 +15,15 @@ ghost use Rattle.exi_typed.specs.Limits.{StaysWithin};
 ghost use Rattle.exi_typed.specs.Onward.{GoesOnward, KeepsEach, NamesGoOnStanding, NamesStand};
 ghost use Rattle.exi_typed.specs.Strings.{Growth, declaration_at, known_at, literal_at, local_at, name_at, uri_at, value_at};
 ghost use Rattle.exi_typed.specs.Metered.{ReadingsAreMetered};
+ghost use Rattle.exi_typed.specs.WrittenLaws.{
+  DeclarationIsWritten,
+  LiteralIsWritten,
+  LocalIsWritten,
+  NameIsWritten,
+  StringIsWritten,
+  UriIsWritten,
+  WrittenIsRead,
+};
 ghost use Rattle.exi_typed.specs.Laws.{DeclarationsAgree, KnownNamesAgree, LiteralsAgree, LocalsAgree, NamesAgree, UrisAgree, ValuesAgree};
 
 /// A literal is its length in characters and its characters.
@@ -95,4 +104,19 @@ pub fn names_stand()
 /// Each reading charges a list of texts, whatever the meter is, and goes on without the meter.
 pub fn readings_are_metered()
     ensures law { ReadingsAreMetered }
+{}
+
+/// What is written is one of the spellings, and leaves the tables that its reading leaves.
+pub fn written_is_spelled()
+    ensures literal { LiteralIsWritten }
+    ensures uri { UriIsWritten }
+    ensures local { LocalIsWritten }
+    ensures string { StringIsWritten }
+    ensures name { NameIsWritten }
+    ensures declaration { DeclarationIsWritten }
+{}
+
+/// What is written is read back, whatever follows, and reading leaves the tables that writing left.
+pub fn written_is_read()
+    ensures law { WrittenIsRead }
 {}

@@ -90,6 +90,14 @@
 //!
 //! A missed value is added under its name and among all values; the empty text is not.
 //!
+//! # Reading and writing
+//!
+//! A name or a declaration is answered by its places in the tables ([`NameAt`], [`DeclarationAt`]), of which the
+//! caller borrows the texts, and a string by reference, or, where it was spelled out, as a text that is still to be
+//! added ([`StringRead`]). So nothing is copied, and nothing that is told by a place is looked up by its text. What
+//! is written is a hit at the least place where the text stands, for a string among the values of its name before
+//! all values, and else a miss. Reader and writer leave the same tables.
+//!
 //! # Our own choices
 //!
 //! A place that is not in its partition is the fault `BadPlace`. A text that is spelled out though it stands
@@ -105,15 +113,23 @@ mod declarations;
 pub mod laws;
 mod names;
 mod parts;
+mod put;
 mod spaces;
 mod strings;
 #[cfg(test)]
 mod tests;
 mod values;
+mod write;
+mod write_declarations;
+mod write_names;
 
 pub use declarations::{DeclarationAt, declaration_texts, read_declaration};
 pub use names::{
     NameAt, name_ref, read_known, read_name, read_name_under, read_name_value, read_prefix,
 };
+pub use put::write_literal;
 pub use strings::{StringRead, read_literal, read_string};
 pub use values::read_value;
+pub use write::{write_string, write_value};
+pub use write_declarations::write_declaration;
+pub use write_names::{write_name, write_name_under, write_prefix};

@@ -2,10 +2,11 @@ ghost use Rattle.std.specs.Prelude.{◌^◌, IfOk};
 ghost use Rattle.exi_tables.specs.Growth.{NoneLonger};
 
 use super::*;
-use exi_bits::{Align, BitIn};
+use exi_bits::{Align, BitIn, BitOut};
 use exi_meter::{Limits, Meter};
-use exi_names::{Datatype, NameId, StartNames, Txt, Val};
+use exi_names::{Datatype, NameId, QName, StartNames, Txt, Val};
 use exi_tables::{HashTables, ListTables, Tables, is_name};
+use exi_text::is_writable;
 use std::alloc::{AllocError, Global};
 use std::test::*;
 
@@ -157,5 +158,92 @@ fn a_value_is_read_and_added(rt: HostRuntime) -> Result<(), Fail> {
         assert!(rt; matches!(value, Val::Text(_)));
         assert_eq!(rt; tables.values(), 1);
     }
+    Ok(())
+}
+
+#[test]
+fn strings_are_written(rt: HostRuntime) -> Result<(), Fail> {
+    let alloc = rt.alloc();
+    let mut tables = start::<HashTables>(alloc)?;
+    let mut out = BitOut::new(alloc);
+    let text = Txt::of(alloc, "x")?;
+    let name = NameId { uri: 1, local: 2 };
+    if is_writable(&text) && is_name(&tables, name) {
+        write_literal(alloc, &mut out, &text, Align::Bits)?;
+        write_string(alloc, &mut out, &text, None, Align::Bits, name, &mut tables)?;
+    }
+    assert_eq!(rt; out.bytes(), [0x01, 0x78, 0x03, 0x78].as_slice());
+    assert_eq!(rt; tables.values(), 1);
+    Ok(())
+}
+
+#[test]
+fn a_name_is_written_and_added(rt: HostRuntime) -> Result<(), Fail> {
+    let alloc = rt.alloc();
+    let mut tables = start::<ListTables>(alloc)?;
+    let mut out = BitOut::new(alloc);
+    let name = QName {
+        uri: Txt::new(alloc),
+        local: Txt::of(alloc, "a")?,
+        prefix: None,
+    };
+    if is_writable(&name.uri) && is_writable(&name.local) {
+        let id = write_name(
+            alloc,
+            &mut out,
+            false,
+            name.as_ref(),
+            Align::Bits,
+            &mut tables,
+        )?;
+        assert_eq!(rt; id, NameId { uri: 0, local: 0 });
+    }
+    assert_eq!(rt; out.bytes(), [0x40, 0x98, 0x40].as_slice());
+    Ok(())
+}
+
+#[test]
+fn a_name_is_written_under_a_uri(rt: HostRuntime) -> Result<(), Fail> {
+    let alloc = rt.alloc();
+    let mut tables = start::<ListTables>(alloc)?;
+    let mut out = BitOut::new(alloc);
+    let local = Txt::of(alloc, "lang")?;
+    let prefix = Txt::of(alloc, "xml")?;
+    if is_writable(&local) && tables.uris() > 1 && tables.locals(1) < 8 {
+        write_prefix(&mut out, true, Some(&prefix), Align::Bits, 1, &tables)?;
+        write_name_under(
+            alloc,
+            &mut out,
+            false,
+            1,
+            &local,
+            None,
+            Align::Bits,
+            &mut tables,
+        )?;
+    }
+    assert_eq!(rt; out.bytes(), [0x00, 0x80].as_slice());
+    Ok(())
+}
+
+#[test]
+fn a_declaration_is_written(rt: HostRuntime) -> Result<(), Fail> {
+    let alloc = rt.alloc();
+    let mut tables = start::<ListTables>(alloc)?;
+    let mut out = BitOut::new(alloc);
+    let uri = Txt::of(alloc, "u")?;
+    let prefix = Txt::of(alloc, "p")?;
+    if is_writable(&uri) && is_writable(&prefix) {
+        write_declaration(
+            alloc,
+            &mut out,
+            &uri,
+            &prefix,
+            true,
+            Align::Bits,
+            &mut tables,
+        )?;
+    }
+    assert_eq!(rt; out.bytes(), [0x00, 0x5D, 0x40, 0x5C, 0x20].as_slice());
     Ok(())
 }
