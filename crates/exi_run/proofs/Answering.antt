@@ -9,19 +9,19 @@ use Rattle.exi_run.specs.declared.halt.Halt.TheVariants as halt
 use Rattle.exi_run.specs.declared.halt.Refusal.{Refusal}
 use Rattle.exi_run.specs.declared.halt.Refusal.TheVariants as refusal
 use Rattle.exi_run.specs.declared.halt.Role.{Role}
-use Rattle.exi_run.specs.declared.reader.End.{End}
-use Rattle.exi_run.specs.declared.reader.End.TheVariants as end
+use Rattle.exi_run.specs.declared.ending.Ending.{Ending}
+use Rattle.exi_run.specs.declared.ending.Ending.TheVariants as ending
 use Rattle.exi_run.specs.declared.status.Status.{Status}
 use Rattle.exi_run.specs.declared.status.Status.TheVariants as status
 use Rattle.exi_run.specs.Answers.{Answered, AnsweredBy, AreWithin, GrowsByPieces, HasLong, HasRole, IsAnswered, IsLater, IsLong, IsWithin, MayRefuse, OfFile, RefusalPut, Served, Starves, Tells, no_memory}
-use Rattle.exi_run.specs.Dues.{Due, Files, found, long, failed, OwedBy, OwedFrom, OwedOf, most_bytes, refusal_due, status_of, text_of}
+use Rattle.exi_run.specs.Dues.{Due, Files, found, long, failed, OwedBy, OwedFrom, OwedOf, most_bytes, refusal_due, text_of}
+use Rattle.exi_run.specs.Endings.{status_of}
 use Rattle.exi_run.specs.Printing.{grows_more, grows_none}
 use Rattle.exi_run.specs.Refusals.{refusal_line, refusal_status}
-use Rattle.exi_run.specs.Sequence.{IsWhole}
+use Rattle.exi_run.specs.Wholes.{IsWhole}
 use Rattle.exi_run.specs.Statuses.{Sort, told, refuses, breaks, starved, sort_of, IsOr, IsTold}
 use Rattle.exi_run.specs.Tasks.{Task, read, Need, needs, needs_of, read_file}
 use Rattle.exi_run.proofs.Owing.{text-whole}
-use Rattle.exi_run.proofs.Runs.{whole_lines}
 
 -- ---- what may be owed: a refusal's line, or what a command owes whose files were found
 abbrev AreFound : Option Files → List Need → List (List ℕ) → Type 0
@@ -95,10 +95,9 @@ put_or status.Events due old new a = inl a
 put_or status.Hints due old new a = inl a
 put_or status.TooLong due old new a = inl a
 
-told_end : (e : End) → IsTold (status_of e)
-told_end (end.Done bit) = refl
-told_end (end.Fault f) = refl
-told_end (end.NotBuilt bit) = refl
+told_end : (e : Ending) → IsTold (status_of e)
+told_end (ending.Done bit) = refl
+told_end (ending.Fault f) = refl
 
 done_told : (t : Task) (due : Due) (bs : List (List ℕ)) → OwedBy t due bs → IsTold due.status
 done_told (read file) due [] o = absurd o
@@ -135,7 +134,7 @@ tells_file name held s old new b due None is at o p = tt
 tells_file name held s old new b due (Some bytes) is at (es, e, w, d) p =
     let same : Some b ≡ Some bytes = sym at ∙ is in
     let b_is : b ≡ bytes = cc in
-    λ _. (es, e, subst (λ (x : List ℕ). IsWhole x es e) b_is w, whole_lines b es e w, sym p.0 ∙ ap (λ (x : Due). x.status) d, subst (λ (t : List ℕ). Grows old t new) (ap (λ (x : Due). text_of x.pieces) d ∙ text-whole es e) p.1)
+    λ _. (es, e, subst (λ (x : List ℕ). IsWhole x es e) b_is w, sym p.0 ∙ ap (λ (x : Due). x.status) d, subst (λ (t : List ℕ). Grows old t new) (ap (λ (x : Due). text_of x.pieces) d ∙ text-whole es e) p.1)
 
 not_told : (s : Status) (file : Option (List ℕ)) (old new : Option (List ℕ)) → (IsTold s → ⊥) → IfSome file (λ bytes. IsTold s → Tells s old new bytes)
 not_told s None old new never = tt

@@ -1,10 +1,22 @@
 -- The words of a command.
-use Rattle.std.proofs.Common.{◌≡◌, ◌≢◌, ℕ, Bool, List, [], ◌∷◌, Some, None, length, get_or, refl, ap, ◌∙◌, arith}
+use Rattle.std.proofs.Common.{◌≡◌, ◌≢◌, ℕ, Bool, List, [], ◌∷◌, Some, None, length, get_or, inl, inr, sym, refl, ap, ◌∙◌, arith}
+use Rattle.std.proofs.lemmas.Bool.{both_ways, cases_Bool, false_from_ne_true}
+use Rattle.std.proofs.lemmas.Slice.Eq.{bytes_eq-Decides}
+use Rattle.std.proofs.lemmas.Str.{encodes_same}
 use Rattle.std.proofs.Math.Utf8.{encodes, encode}
 use Rattle.std.specs.Prelude.{codes, if◌then◌else◌}
 use Rattle.std.specs.Str.{bytes_eq}
 use Rattle.exi_run.specs.Tasks.{read, task_of}
-use Rattle.exi_run.proofs.SpaceLaws.{same_by_bytes}
+
+-- a text that is one byte a character is compared alike by bytes and by characters
+pub same_by_bytes : (t a : List ℕ) → encodes a ≡ a → bytes_eq (encodes t) a ≡ bytes_eq t a
+same_by_bytes t a is =
+    let d = bytes_eq-Decides (encodes t) a in
+    let k = bytes_eq-Decides t a in
+    elim (cases_Bool (bytes_eq (encodes t) a)) [
+      | inl yes_is ↦ yes_is ∙ sym (k.1 (encodes_same t a (d.0 yes_is ∙ sym is)))
+      | inr no_is ↦ no_is ∙ sym (false_from_ne_true (bytes_eq t a) (λ h. both_ways (bytes_eq (encodes t) a) no_is (d.1 (ap encodes (k.0 h) ∙ is))))
+    ]
 
 read_is : encodes (codes "read") ≡ codes "read"
 unfolding encode

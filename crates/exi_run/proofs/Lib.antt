@@ -1,12 +1,7 @@
-pub mod SpaceLaws
-pub mod Partitions
-pub mod Steps
-pub mod Quotes
 pub mod Commands
-pub mod Runs
-pub mod Takes
+pub mod Wholes
 pub mod Printed
-pub mod Bodies
 pub mod Owing
+pub mod Bodies
 pub mod Serving
 pub mod Answering

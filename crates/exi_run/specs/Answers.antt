@@ -1,5 +1,6 @@
 -- What was done of what is owed, and what each status says of it.
-use Rattle.std.specs.Prelude.{◌≡◌, ◌≢◌, ◌⊎◌, ℕ, ◌<◌, ◌≤◌, List, [], ◌∷◌, ◌++◌, length, Option, Some, None, IfSome, Result, Ok, Err, true, codes}
+use Rattle.std.specs.Prelude.{◌≡◌, ◌≢◌, ◌⊎◌, ℕ, ◌<◌, ◌≤◌, List, [], ◌∷◌, ◌++◌, length, Option, Some, None, IfSome, Result, Ok, Err, codes}
+use Rattle.exi_evtext.specs.Lines.{lines_of}
 use Rattle.exi_names.specs.Events.{Happening, Grows}
 use Rattle.exi_ports.specs.Ports.{file_at, GrowsInPart}
 use Rattle.exi_run.specs.declared.halt.Halt.{Halt}
@@ -7,15 +8,15 @@ use Rattle.exi_run.specs.declared.halt.Halt.TheVariants as halt
 use Rattle.exi_run.specs.declared.halt.Refusal.{Refusal}
 use Rattle.exi_run.specs.declared.halt.Refusal.TheVariants as refusal
 use Rattle.exi_run.specs.declared.halt.Role.{Role}
-use Rattle.exi_run.specs.declared.reader.End.{End}
+use Rattle.exi_run.specs.declared.ending.Ending.{Ending}
 use Rattle.exi_run.specs.declared.status.Status.{Status}
 use Rattle.exi_run.specs.declared.status.Status.TheVariants as status
-use Rattle.exi_run.specs.Dues.{Due, text_of, refusal_due, Files, most_bytes, found, long, failed, IsHad, status_of, Owed}
+use Rattle.exi_run.specs.Dues.{Due, text_of, refusal_due, Files, most_bytes, found, long, failed, IsHad, Owed}
 use Rattle.exi_run.specs.Refusals.{refusal_line, refusal_status}
-use Rattle.exi_run.specs.Sequence.{IsWhole, IsFront}
+use Rattle.exi_run.specs.Wholes.{IsWhole, IsFront}
 use Rattle.exi_run.specs.Statuses.{Sort, told, refuses, breaks, starved, sort_of}
 use Rattle.exi_run.specs.Tasks.{Task, Need, needs_of}
-use Rattle.exi_run.specs.Text.{lines, last_line, has_line}
+use Rattle.exi_run.specs.Endings.{last_line, status_of}
 
 -- ---- what was done
 abbrev pub no_memory : List ℕ
@@ -70,25 +71,20 @@ Fetches files rose name role (Err halt.Write) = ⊥
 Fetches files rose name role (Err halt.Memory) = Unit {0}
 
 -- the lines of the events: all up to the end, a front of them, or first lines
-abbrev pub DidEvents : List ℕ → Result End Halt → Option (List ℕ) → Option (List ℕ) → Type 0
-DidEvents bytes (Ok e) old new = (es : List Happening) × IsWhole bytes es e × Grows old (lines es) new
+abbrev pub DidEvents : List ℕ → Result Ending Halt → Option (List ℕ) → Option (List ℕ) → Type 0
+DidEvents bytes (Ok e) old new = (es : List Happening) × IsWhole bytes es e × Grows old (lines_of es) new
 DidEvents bytes (Err (halt.Refused r)) old new = ⊥
-DidEvents bytes (Err halt.Write) old new = (es : List Happening) × IsFront bytes es × GrowsByFront old (lines es) new
-DidEvents bytes (Err halt.Memory) old new = (es : List Happening) × IsFront bytes es × Grows old (lines es) new
+DidEvents bytes (Err halt.Write) old new = (es : List Happening) × IsFront bytes es × GrowsByFront old (lines_of es) new
+DidEvents bytes (Err halt.Memory) old new = (es : List Happening) × IsFront bytes es × Grows old (lines_of es) new
 
 -- ---- what a status says, in parts
 -- a fact of the bytes of a file, where the shelf tells them
 abbrev pub OfFile : Option (List ℕ) → Option Files → (List ℕ → Type 0) → Type 0
 OfFile name files P = IfSome name (λ n. IfSome files (λ held. IfSome (file_at held n) P))
 
--- each of these events has its line
-abbrev pub HaveLines : List Happening → Type 0
-HaveLines [] = Unit {0}
-HaveLines (e ∷ es) = (has_line e ≡ true) × HaveLines es
-
 -- the sink took the whole text of these bytes, a line for each event, and the status is that of its end
 abbrev pub Tells : Status → Option (List ℕ) → Option (List ℕ) → List ℕ → Type 0
-Tells s old new bytes = (es : List Happening) × (e : End) × IsWhole bytes es e × HaveLines es × (s ≡ status_of e) × Grows old (lines es ++ last_line e) new
+Tells s old new bytes = (es : List Happening) × (e : Ending) × IsWhole bytes es e × (s ≡ status_of e) × Grows old (lines_of es ++ last_line e) new
 
 -- a file that is told is longer than the limit
 abbrev pub IsLong : Option (List ℕ) → Type 0

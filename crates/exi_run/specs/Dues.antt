@@ -1,6 +1,7 @@
 -- What the program owes for its words, its files and its stream.
 use Rattle.std.specs.Prelude.{◌≡◌, ◌⊎◌, ℕ, List, [], ◌∷◌, ◌++◌, map, Option, Some, None}
 use Rattle.std.specs.List.{flat_map}
+use Rattle.exi_evtext.specs.Lines.{line_of}
 use Rattle.exi_names.specs.Events.{Happening}
 use Rattle.exi_ports.specs.Ports.{file_at, Fetched}
 use Rattle.exi_ports.specs.declared.shelf.Fetch.TheVariants as fetch
@@ -8,14 +9,12 @@ use Rattle.exi_run.specs.declared.files.TheConstants.{MOST_BYTES}
 use Rattle.exi_run.specs.declared.halt.Refusal.{Refusal}
 use Rattle.exi_run.specs.declared.halt.Refusal.TheVariants as refusal
 use Rattle.exi_run.specs.declared.halt.Role.{Role}
-use Rattle.exi_run.specs.declared.reader.End.{End}
-use Rattle.exi_run.specs.declared.reader.End.TheVariants as end
+use Rattle.exi_run.specs.declared.ending.Ending.{Ending}
 use Rattle.exi_run.specs.declared.status.Status.{Status}
-use Rattle.exi_run.specs.declared.status.Status.TheVariants as status
 use Rattle.exi_run.specs.Refusals.{refusal_line, refusal_status}
-use Rattle.exi_run.specs.Sequence.{IsWhole}
+use Rattle.exi_run.specs.Wholes.{IsWhole}
 use Rattle.exi_run.specs.Tasks.{Task, read, Need, needs}
-use Rattle.exi_run.specs.Text.{line, last_line}
+use Rattle.exi_run.specs.Endings.{last_line, status_of}
 
 -- the pieces that are owed, each in one put, and the status behind them
 pub record Due : Type 0 where
@@ -67,18 +66,13 @@ abbrev pub OwedFrom : Option Files → Type 0 → List Need → (List (List ℕ)
 OwedFrom files rose [] rest due = rest []
 OwedFrom files rose (n ∷ ns) rest due = (h : Had) × IsHad files rose n.name h × OwedWith h n.role (λ bytes. OwedFrom files rose ns (λ others. rest (bytes ∷ others)) due) due
 
-abbrev pub status_of : End → Status
-status_of (end.Done bit) = status.Ok
-status_of (end.Fault f) = status.Fault
-status_of (end.NotBuilt bit) = status.Fault
-
 -- of events and an end: the line of each
-abbrev pub whole_due : List Happening → End → Due
-whole_due es e = record { pieces = map line es ++ last_line e ∷ []; status = status_of e }
+abbrev pub whole_due : List Happening → Ending → Due
+whole_due es e = record { pieces = map line_of es ++ last_line e ∷ []; status = status_of e }
 
 -- of `read`: the events and the end of the file's bytes
 abbrev pub OwedOf : List ℕ → Due → Type 0
-OwedOf bytes due = (es : List Happening) × (e : End) × IsWhole bytes es e × (due ≡ whole_due es e)
+OwedOf bytes due = (es : List Happening) × (e : Ending) × IsWhole bytes es e × (due ≡ whole_due es e)
 
 -- of a command whose files were found, by their bytes in their order
 abbrev pub OwedBy : Task → Due → List (List ℕ) → Type 0

@@ -3,8 +3,8 @@ use Rattle.exi_ports.specs.declared.sink.SinkStop.{SinkStop}
 use Rattle.exi_ports.specs.declared.sink.SinkStop.TheVariants as sink_stop
 use Rattle.exi_run.specs.declared.halt.Halt.{Halt}
 use Rattle.exi_run.specs.declared.halt.Halt.TheVariants as halt
-use Rattle.exi_run.specs.declared.reading.ReadStop.{ReadStop}
-use Rattle.exi_run.specs.declared.reading.ReadStop.TheVariants as read_stop
+use Rattle.exi_reader.specs.declared.turn.ReadStop.{ReadStop}
+use Rattle.exi_reader.specs.declared.turn.ReadStop.TheVariants as read_stop
 
 -- of the sink
 abbrev pub halt_of : SinkStop → Halt

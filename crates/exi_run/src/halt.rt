@@ -3,9 +3,9 @@ ghost use Rattle.exi_run.specs.Refusals.{refusal_line, refusal_status};
 ghost use Rattle.exi_run.specs.declared.halt.Halt.TheVariants.{Memory};
 ghost use Rattle.exi_run.specs.Stops.{halt_of, halt_by};
 
-use crate::reading::ReadStop;
 use crate::status::Status;
 use exi_ports::SinkStop;
+use exi_reader::ReadStop;
 use std::alloc::AllocError;
 
 /// What a file is for.

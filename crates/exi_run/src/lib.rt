@@ -1,11 +1,10 @@
 //! The program, as a call: words, files, output and gate are handed in, and a status comes back.
 //!
 //! ```text
-//!   words ──▶ run ◀── shelf: the file that the words name
+//!   words ──▶ run ◀── shelf: the files that the words name
 //!              │
 //!              ├─ header       80
-//!              ├─ body         SD, SE(*), at most one CH, EE, ED
-//!              │    reader ──▶ printer: one event, one line
+//!              ├─ body         read_from ──▶ printer: one event, one line
 //!              └─ last line    done BIT, or fault KIND BIT
 //!                                  ──▶ sink
 //! ```
@@ -14,25 +13,21 @@
 //! sequential processing gives for the file's bytes, or the part of it that the status tells.
 #![tactic(auto)]
 
+mod ending;
 mod files;
 mod halt;
 mod header;
 mod laws;
-mod names;
 mod printer;
-mod reader;
-mod reading;
-mod spaces;
 mod status;
 mod stream;
 #[cfg(test)]
 mod tests;
-mod text;
 mod top;
 mod words;
 
+pub use ending::Ending;
 pub use halt::{Refusal, Role};
-pub use laws::{first_tables, front_of_whole, one_whole};
-pub use reader::End;
+pub use laws::{front_of_whole, one_whole};
 pub use status::Status;
 pub use top::run;

@@ -2,22 +2,19 @@ ghost use Rattle.std.specs.Prelude.{◌≡◌, ◌≤◌, IsErrOf};
 ghost use Rattle.std.proofs.Common.{refl, ◌∙◌};
 ghost use Rattle.exi_names.specs.Events.{Rose};
 ghost use Rattle.exi_names.specs.Shown.{shows};
-ghost use Rattle.exi_run.specs.Text.{lines};
 ghost use Rattle.exi_run.specs.Printing.{Prints, BreaksOff, PrintsEvent, PutsLine, prints_none, prints_more};
 
-use crate::text::{is_printable, print_line};
+use exi_evtext::push_event;
 use exi_names::{EventOut, EventRef, PushStop};
 use exi_ports::{Sink, SinkStop};
 
-/// Prints each event as a line, in one put.
-///
-/// It stops where the sink fails, and at an event that has no line here.
+/// Prints each event as a line, in one put. It stops where the sink fails.
 #[derive(Drop)]
-pub struct Printer<'a, O: Sink> {
+pub(crate) struct Printer<'a, O: Sink> {
     /// Where the lines go.
     pub out: &'a mut O,
     /// Room for a line, kept from one event to the next.
-    pub line: &'a mut Vec<u8>,
+    pub line: &'a mut String,
     /// How often it stopped.
     pub stops: u64,
 }
@@ -30,10 +27,6 @@ impl<'a, O: Sink> Printer<'a, O> {
         ensures later { self.old.stops ≤ self.new.stops }
         ensures stopped { IsErrOf result PushStop.Stopped → Rose self.old.stops self.new.stops }
     {
-        if !is_printable(event) {
-            self.stops = self.stops.saturating_add(1);
-            return Err(PushStop::Stopped);
-        }
         match put_event(self.line, self.out, event) {
             Ok(()) => Ok(()),
             Err(SinkStop::Memory) => Err(PushStop::Memory),
@@ -68,11 +61,12 @@ impl<'a, O: Sink> EventOut for Printer<'a, O> {
 }
 
 /// The line of an event, in one put.
-fn put_event<O: Sink>(line: &mut Vec<u8>, out: &mut O, event: &EventRef<'_>) -> Result<(), SinkStop>
+fn put_event<O: Sink>(line: &mut String, out: &mut O, event: &EventRef<'_>) -> Result<(), SinkStop>
     ensures { PutsLine (shows event.now) result (O.taken out.old) (O.faults out.old) (O.taken out.new) (O.faults out.new) }
 {
-    let Ok(()) = print_line(line, event) else {
+    line.clear();
+    let Ok(()) = push_event(line, event) else {
         return Err(SinkStop::Memory);
     };
-    out.put(line)
+    out.put(line.as_bytes())
 }

@@ -6,7 +6,7 @@ use Rattle.exi_run.proofs.stream.read_stream.Goals as goal
 pub returns-in_err-input-clause-served : goal.returns-in_err-input-clause-served
 returns-in_err-input-clause-served g c =
     let p = err_from_is_err_and c.from_residual.result c.from_residual.ensures.1 in
-    rw (p.1, p.2) (served_none c.args.file.now (g.F.Shelf.files c.args.shelf.now) (Rose (g.F.Shelf.faults c.args.shelf.now) (g.F.Shelf.faults c.fetch_file.new.shelf)) c.in_err-input.field-0.0 (g.O.Sink.taken c.args.out.now) c.in_err-input.ensures.fetched)
+    rw (p.1, p.2) (served_none c.one_whole.ensures.there c.args.file.now (g.F.Shelf.files c.args.shelf.now) (Rose (g.F.Shelf.faults c.args.shelf.now) (g.F.Shelf.faults c.fetch_file.new.shelf)) c.in_err-input.field-0.0 (g.O.Sink.taken c.args.out.now) c.in_err-input.ensures.fetched)
 
 pub returns-clause-served : goal.returns-clause-served
 returns-clause-served g c =
