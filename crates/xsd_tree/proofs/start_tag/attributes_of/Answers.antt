@@ -1,0 +1,23 @@
+use Rattle.std.proofs.Common.{◌+◌, drop, map, sym, ◌∙◌, arith}
+use Rattle.exi_names.specs.Events.{happens}
+use Rattle.xsd_tree.specs.StartTags.{attributes_of}
+use Rattle.xsd_tree.proofs.Events.{event_at, no_event}
+use Rattle.xsd_tree.proofs.Tags.{attributes_all, attributes_end, attribute_more}
+use Rattle.xsd_tree.proofs.start_tag.attributes_of.Goals as goal
+
+pub returns-then-not-is_in_tag : goal.returns-then-not-is_in_tag
+returns-then-not-is_in_tag c =
+    attributes_end c.loop-event.attributes (happens c.event-item.result) (drop (c.loop-event.event-index + 1) (map happens c.args.events.now)) (drop c.loop-event.event-index (map happens c.args.events.now)) (attributes_of (map happens c.args.events.now))
+    (event_at c.args.events.now c.loop-event.event-index c.event-item.result c.loop-event-test.true c.event-item.is)
+    (sym c.is_in_tag.ensures ∙ c.if-not-is_in_tag.true) c.loop-event.invariant
+
+pub loop-event-preserved : goal.loop-event-preserved
+loop-event-preserved c =
+    attribute_more c.loop-event.attributes c.push_attribute.new.attributes (happens c.event-item.result) (drop (c.loop-event.event-index + 1) (map happens c.args.events.now)) (drop c.loop-event.event-index (map happens c.args.events.now)) (attributes_of (map happens c.args.events.now))
+    (event_at c.args.events.now c.loop-event.event-index c.event-item.result c.loop-event-test.true c.event-item.is)
+    (sym c.is_in_tag.ensures ∙ c.if-not-is_in_tag.false) c.in_ok-push_attribute.ensures c.loop-event.invariant
+
+pub returns : goal.returns
+returns c =
+    attributes_all c.loop-event.attributes (drop c.loop-event.event-index (map happens c.args.events.now)) (attributes_of (map happens c.args.events.now))
+    (no_event c.args.events.now c.loop-event.event-index (omega arith)) c.loop-event.invariant

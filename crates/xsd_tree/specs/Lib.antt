@@ -1,0 +1,3 @@
+pub mod StartTags
+pub mod Trees
+pub mod Reading
