@@ -11,3 +11,8 @@ pub mod Back
 pub mod Told
 pub mod Read
 pub mod Feedless
+pub mod Runs
+pub mod Dates
+pub mod Values
+pub mod LineWise
+pub mod Cursors

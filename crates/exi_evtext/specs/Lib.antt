@@ -1,5 +1,6 @@
 pub mod Lines
 pub mod Kept
 pub mod Reading
+pub mod Parsing
 pub mod Spelling
 pub mod Laws

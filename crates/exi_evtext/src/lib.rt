@@ -28,11 +28,18 @@
 //! Runs of characters that stand for themselves are copied at once.
 #![tactic(auto)]
 
+mod cursor;
 pub mod laws;
+mod parse;
 mod print;
 mod quote;
+mod read_event;
+mod read_value;
+mod scalar;
+mod stop;
 #[cfg(test)]
 mod tests;
 mod value;
 
+pub use parse::parse_events;
 pub use print::{print_event, push_event};

@@ -1,5 +1,5 @@
-use crate::{print_event, push_event};
-use exi_names::{Event, Octets, QName, Txt, Val, ValList, Whole};
+use crate::{parse_events, print_event, push_event};
+use exi_names::{Event, Octets, QName, TextStop, Txt, Val, ValList, Whole};
 use std::alloc::{AllocError, Global};
 use std::test::Fail;
 
@@ -30,5 +30,15 @@ fn events_are_lines(rt: HostRuntime) -> Result<(), Fail> {
     let comment = Event::Cm(Txt::of(rt.alloc(), "a\"\n\u{E9}\\")?);
     let text = print_event(rt.alloc(), &comment)?;
     assert_eq!(rt; text.as_str(), "CM \"a\\\"\\n\u{E9}\\\\\"");
+    Ok(())
+}
+
+#[test]
+fn lines_are_events(rt: HostRuntime) -> Result<(), Fail> {
+    let text = b"SD\nSE \"\" \"k\"\nCH text \"a\\n\"\nEE\nED\n";
+    match parse_events(rt.alloc(), text) {
+        Ok(events) => assert_eq!(rt; events.len(), 5),
+        Err(stop) => assert_eq!(rt; stop, TextStop::Syntax(0)),
+    }
     Ok(())
 }

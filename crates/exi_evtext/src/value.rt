@@ -83,7 +83,7 @@ fn hex_sign(digit: u8) -> char
 }
 
 /// Two digits in upper case for each octet.
-fn push_hex(out: &mut String, octets: &[u8]) -> Result<(), AllocError>
+pub fn push_hex(out: &mut String, octets: &[u8]) -> Result<(), AllocError>
     ensures ok { OnOk result (string_bytes out.new ≡ string_bytes out.old ++ hex_text octets.now) }
     ensures err { OnErr result (Keeps (string_bytes out.old) (string_bytes out.new)) }
 {

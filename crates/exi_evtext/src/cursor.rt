@@ -1,0 +1,245 @@
+//! The bytes of a line that are left, and the texts and names in front of them.
+
+ghost use Rattle.std.specs.Prelude.{◌≡◌, ◌<◌, ◌≤◌, length, false, option_copied, IfSome, OnOk};
+ghost use Rattle.exi_calendar.specs.Reading.{Reads, past};
+ghost use Rattle.exi_evtext.specs.Reading.{also_at, content_at, name_at, opened_at, plain_at, prefix_at, text_at, unescaped, word_at};
+ghost use Rattle.exi_evtext.specs.Parsing.{Decodes, Ends, Gives, Moves, Runs, Steps, escape_at, mark_at, run_width, stops_run};
+
+use crate::stop::LineStop;
+use exi_digits::split_at_mark;
+use exi_names::{QName, Txt};
+use std::alloc::Global;
+use std::marker::Model;
+
+/// The bytes of a line that are left. A contract sees them alone.
+#[derive(Drop)]
+pub struct Cursor<'a> {
+    pub alloc: Global,
+    pub left: &'a [u8],
+    /// Where a value's text is printed again, to be compared.
+    pub scratch: String,
+}
+
+impl<'a> Model for Cursor<'a> {
+    ghost use Rattle.std.specs.Prelude.{List, ℕ};
+
+    ghost Value = { List ℕ };
+
+    ghost view = { λ c. c.left.now };
+}
+
+/// What stands behind these marks, where the bytes begin with them.
+fn past<'a>(marks: &[u8], bytes: &'a [u8]) -> Option<&'a [u8]>
+    ensures { option_copied result ≡ past marks.now bytes.now }
+{
+    bytes.strip_prefix(marks)
+}
+
+/// Whether a byte doesn't stand for itself between quotes.
+fn stops_run(byte: u8) -> bool
+    ensures { result ≡ stops_run byte }
+{
+    matches!(byte, b'"' | b'\\' | b'\n' | b'\r' | b'\t')
+}
+
+/// How many bytes in front stand for themselves.
+fn run_width(bytes: &[u8]) -> usize
+    ensures width { result ≡ run_width bytes.now }
+    ensures within { result ≤ length bytes.now }
+{
+    for (place, byte) in bytes.iter().enumerate() {
+        if stops_run(*byte) {
+            return place;
+        }
+    }
+    bytes.len()
+}
+
+/// The byte that one behind a backslash stands for.
+fn unescaped(byte: u8) -> Option<u8>
+    ensures { result ≡ unescaped byte }
+{
+    match byte {
+        b'"' => Some(b'"'),
+        b'\\' => Some(b'\\'),
+        b'n' => Some(b'\n'),
+        b'r' => Some(b'\r'),
+        b't' => Some(b'\t'),
+        _ => None,
+    }
+}
+
+/// The byte that an escape stands for, behind its backslash, and what stands behind it.
+fn escape(bytes: &[u8]) -> Option<(u8, &[u8])>
+    ensures read { Reads result (escape_at bytes.now) }
+    ensures shorter { IfSome result (λ found. length found.1.now < length bytes.now) }
+{
+    let (byte, rest) = bytes.split_first()?;
+    Some((unescaped(*byte)?, rest))
+}
+
+/// What stands behind a quote that closes, or the byte that an escape stands for and what stands behind it.
+fn mark(bytes: &[u8]) -> Option<(Option<u8>, &[u8])>
+    ensures read { Reads result (mark_at bytes.now) }
+    ensures shorter { IfSome result (λ found. length found.1.now < length bytes.now) }
+{
+    let (mark, rest) = bytes.split_first()?;
+    match *mark {
+        b'"' => Some((None, rest)),
+        b'\\' => {
+            let (byte, rest) = escape(rest)?;
+            Some((Some(byte), rest))
+        }
+        _ => None,
+    }
+}
+
+/// The characters of bytes, where these are UTF-8.
+fn decoded(bytes: Vec<u8>) -> Result<Txt, LineStop>
+    ensures { Decodes result bytes.items }
+{
+    match String::from_utf8(bytes) {
+        Ok(text) => Ok(Txt::from_string(text)),
+        Err(_) => Err(LineStop::Form),
+    }
+}
+
+impl<'a> Cursor<'a> {
+    /// No bytes.
+    pub fn new(alloc: Global) -> Cursor<'a> {
+        Cursor {
+            alloc,
+            left: &[],
+            scratch: String::new(alloc),
+        }
+    }
+
+    /// Nothing may be left.
+    pub fn end(&self) -> Result<(), LineStop>
+        ensures { Ends result self.now }
+    {
+        match self.left.split_first() {
+            None => Ok(()),
+            Some(_) => Err(LineStop::Form),
+        }
+    }
+
+    /// Goes on behind these marks.
+    pub fn past(&mut self, marks: &[u8]) -> Result<(), LineStop>
+        ensures { Moves result (past marks.now self.old) self.new }
+    {
+        let Some(left) = past(marks, self.left) else {
+            return Err(LineStop::Form);
+        };
+        self.left = left;
+        Ok(())
+    }
+
+    /// The bytes up to the next space, and goes on behind it.
+    pub fn word(&mut self) -> Result<&'a [u8], LineStop>
+        ensures { Gives (λ word. word.now) result (word_at self.old) self.new }
+    {
+        let (word, behind) = split_at_mark(self.left, b' ');
+        let Some(left) = behind else {
+            return Err(LineStop::Form);
+        };
+        self.left = left;
+        Ok(word)
+    }
+
+    /// The bytes up to the next quote, and goes on behind it.
+    pub fn plain(&mut self) -> Result<&'a [u8], LineStop>
+        ensures { Gives (λ plain. plain.now) result (plain_at self.old) self.new }
+    {
+        let (plain, behind) = split_at_mark(self.left, b'"');
+        let Some(left) = behind else {
+            return Err(LineStop::Form);
+        };
+        self.left = left;
+        Ok(plain)
+    }
+
+    /// Takes the bytes that stand for themselves, and the quote that closes or the escape behind them; tells whether more
+    /// is to come.
+    fn run(&mut self, content: &mut Vec<u8>) -> Result<bool, LineStop>
+        ensures read { Runs result content.old.items content.new.items self.old self.new }
+        ensures shorter { OnOk result (length self.new < length self.old) }
+    {
+        let (run, rest) = self.left.split_at(run_width(self.left));
+        content.extend_from_slice(run)?;
+        let Some((byte, left)) = mark(rest) else {
+            return Err(LineStop::Form);
+        };
+        self.left = left;
+        let Some(byte) = byte else {
+            return Ok(false);
+        };
+        content.push(byte)?;
+        Ok(true)
+    }
+
+    /// The same; what was taken stands in front of what is read of the rest.
+    fn step(&mut self, content: &mut Vec<u8>) -> Result<bool, LineStop>
+        ensures read { Steps result content.old.items content.new.items self.old self.new }
+        ensures shorter { OnOk result (length self.new < length self.old) }
+    {
+        self.run(content)
+    }
+
+    /// The bytes up to the quote that closes, those behind a backslash taken back.
+    fn content(&mut self) -> Result<Vec<u8>, LineStop>
+        ensures { Gives (λ content. content.items) result (content_at false self.old) self.new }
+    {
+        let mut content = Vec::new(self.alloc);
+        while self.step(&mut content)? {}
+        Ok(content)
+    }
+
+    /// A text behind the quote that opens it.
+    #[tactic(auto, unfolding(crate::specs::Reading::decoded))]
+    fn opened(&mut self) -> Result<Txt, LineStop>
+        ensures { Gives (λ t. t) result (opened_at self.old) self.new }
+    {
+        let content = self.content()?;
+        decoded(content)
+    }
+
+    /// A text between quotes.
+    pub fn text(&mut self) -> Result<Txt, LineStop>
+        ensures { Gives (λ t. t) result (text_at self.old) self.new }
+    {
+        self.past(b"\"")?;
+        self.opened()
+    }
+
+    /// One more text, behind a space.
+    pub fn also(&mut self) -> Result<Txt, LineStop>
+        ensures { Gives (λ t. t) result (also_at self.old) self.new }
+    {
+        self.past(b" ")?;
+        self.text()
+    }
+
+    /// A prefix, where a quote comes behind a space.
+    fn prefix(&mut self) -> Result<Option<Txt>, LineStop>
+        ensures { Gives (λ p. p) result (prefix_at self.old) self.new }
+    {
+        let Some(inside) = past(b" \"", self.left) else {
+            return Ok(None);
+        };
+        self.left = inside;
+        let prefix = self.opened()?;
+        Ok(Some(prefix))
+    }
+
+    /// URI, local name, and the prefix where there is one.
+    #[tactic(auto, unfolding(crate::specs::Reading::name_at))]
+    pub fn name(&mut self) -> Result<QName, LineStop>
+        ensures { Gives (λ n. n) result (name_at self.old) self.new }
+    {
+        let uri = self.text()?;
+        let local = self.also()?;
+        let prefix = self.prefix()?;
+        Ok(QName { uri, local, prefix })
+    }
+}

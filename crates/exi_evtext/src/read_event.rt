@@ -1,0 +1,179 @@
+//! The event that a line says.
+
+ghost use Rattle.std.specs.Prelude.{◌≡◌, take, drop, length, bytes_eq, option_map, ◌^◌};
+ghost use Rattle.exi_names.specs.Events.{happens};
+ghost use Rattle.exi_evtext.specs.Parsing.{Tells};
+ghost use Rattle.exi_evtext.specs.Reading.{attribute_in, bare, characters_in, doctype_in, event_in, event_of, fragment_in, instruction_in, namespace_in, only_text, start_in, truth_of};
+
+use crate::cursor::Cursor;
+use crate::scalar::number_of;
+use crate::stop::LineStop;
+use exi_names::{Event, Txt};
+
+impl<'a> Cursor<'a> {
+    /// An event that holds nothing.
+    fn bare(&self, event: Event) -> Result<Event, LineStop>
+        ensures { Tells happens result (bare (happens event) self.now) }
+    {
+        self.end()?;
+        Ok(event)
+    }
+
+    /// The start of an element.
+    fn start(&mut self) -> Result<Event, LineStop>
+        ensures { Tells happens result (start_in self.old) }
+    {
+        self.past(b" ")?;
+        let name = self.name()?;
+        self.end()?;
+        Ok(Event::Se(name))
+    }
+
+    /// An attribute.
+    #[tactic(auto, unfolding(crate::specs::Reading::attribute_in))]
+    fn attribute(&mut self) -> Result<Event, LineStop>
+        ensures { Tells happens result (attribute_in self.old) }
+    {
+        self.past(b" ")?;
+        let name = self.name()?;
+        self.past(b" ")?;
+        let value = self.value()?;
+        self.end()?;
+        Ok(Event::At(name, value))
+    }
+
+    /// Characters.
+    fn characters(&mut self) -> Result<Event, LineStop>
+        ensures { Tells happens result (characters_in self.old) }
+    {
+        self.past(b" ")?;
+        let value = self.value()?;
+        self.end()?;
+        Ok(Event::Ch(value))
+    }
+
+    /// Whether a prefix is that of the element itself.
+    fn truth(&self) -> Result<bool, LineStop>
+        ensures { Tells (λ b. b) result (truth_of self.now) }
+    {
+        if self.left == b" true".as_slice() {
+            Ok(true)
+        } else if self.left == b" false".as_slice() {
+            Ok(false)
+        } else {
+            Err(LineStop::Form)
+        }
+    }
+
+    /// A namespace declaration.
+    #[tactic(auto, unfolding(crate::specs::Reading::namespace_in))]
+    fn namespace(&mut self) -> Result<Event, LineStop>
+        ensures { Tells happens result (namespace_in self.old) }
+    {
+        let uri = self.also()?;
+        let prefix = self.also()?;
+        let element = self.truth()?;
+        Ok(Event::Ns {
+            uri,
+            prefix,
+            element,
+        })
+    }
+
+    /// The start of a self-contained fragment, at byte 0 where none is told.
+    fn fragment(&mut self) -> Result<Event, LineStop>
+        ensures { Tells happens result (fragment_in self.old) }
+    {
+        if self.left.is_empty() {
+            return Ok(Event::Sc { at: 0 });
+        }
+        self.past(b" ")?;
+        let Some(place) = number_of(self.left) else {
+            return Err(LineStop::Form);
+        };
+        match u64::try_from(place) {
+            Ok(at) => Ok(Event::Sc { at }),
+            Err(_) => Err(LineStop::Form),
+        }
+    }
+
+    /// One text, and nothing else.
+    fn only_text(&mut self) -> Result<Txt, LineStop>
+        ensures { Tells (λ t. t) result (only_text self.old) }
+    {
+        let text = self.also()?;
+        self.end()?;
+        Ok(text)
+    }
+
+    /// A processing instruction.
+    #[tactic(auto, unfolding(crate::specs::Reading::instruction_in))]
+    fn instruction(&mut self) -> Result<Event, LineStop>
+        ensures { Tells happens result (instruction_in self.old) }
+    {
+        let target = self.also()?;
+        let text = self.only_text()?;
+        Ok(Event::Pi { target, text })
+    }
+
+    /// A document type declaration.
+    #[tactic(auto, unfolding(crate::specs::Reading::doctype_in))]
+    fn doctype(&mut self) -> Result<Event, LineStop>
+        ensures { Tells happens result (doctype_in self.old) }
+    {
+        let name = self.also()?;
+        let public = self.also()?;
+        let system = self.also()?;
+        let text = self.only_text()?;
+        Ok(Event::Dt {
+            name,
+            public,
+            system,
+            text,
+        })
+    }
+
+    /// The event of a word of two letters.
+    #[tactic(auto, unfolding(crate::specs::Reading::event_of))]
+    fn event_of(&mut self, word: &[u8]) -> Result<Event, LineStop>
+        ensures { Tells happens result (event_of word.now self.old) }
+    {
+        if word == b"SE".as_slice() {
+            self.start()
+        } else if word == b"EE".as_slice() {
+            self.bare(Event::Ee)
+        } else if word == b"CH".as_slice() {
+            self.characters()
+        } else if word == b"AT".as_slice() {
+            self.attribute()
+        } else if word == b"NS".as_slice() {
+            self.namespace()
+        } else if word == b"SC".as_slice() {
+            self.fragment()
+        } else if word == b"CM".as_slice() {
+            Ok(Event::Cm(self.only_text()?))
+        } else if word == b"PI".as_slice() {
+            self.instruction()
+        } else if word == b"DT".as_slice() {
+            self.doctype()
+        } else if word == b"ER".as_slice() {
+            Ok(Event::Er(self.only_text()?))
+        } else if word == b"SD".as_slice() {
+            self.bare(Event::Sd)
+        } else if word == b"ED".as_slice() {
+            self.bare(Event::Ed)
+        } else {
+            Err(LineStop::Form)
+        }
+    }
+
+    /// The event that a line says.
+    #[tactic(auto, unfolding(crate::specs::Reading::event_in))]
+    pub fn event(&mut self, line: &'a [u8]) -> Result<Event, LineStop>
+        ensures { Tells happens result (event_in line.now) }
+    {
+        let (word, left) = line.split_at(line.len().min(2));
+        self.left = left;
+        self.event_of(word)
+    }
+}

@@ -1,0 +1,96 @@
+//! Values in front of the bytes of a line that are left.
+
+ghost use Rattle.std.specs.Prelude.{◌≡◌, length, bytes_eq};
+ghost use Rattle.exi_names.specs.Seen.{seen, values_of, vals};
+ghost use Rattle.exi_evtext.specs.Parsing.{Counts, Gives};
+ghost use Rattle.exi_evtext.specs.Reading.{item_at, item_of, items_at, list_at, scalar_at, value_at, value_of};
+
+use crate::cursor::Cursor;
+use crate::scalar::{number_of, scalar_of};
+use crate::stop::LineStop;
+use exi_digits::split_at_mark;
+use exi_names::{Val, ValList};
+
+impl<'a> Cursor<'a> {
+    /// A value by its canonical text between quotes.
+    fn scalar(&mut self, word: &[u8]) -> Result<Val, LineStop>
+        ensures { Gives seen result (scalar_at word.now self.old) self.new }
+    {
+        self.past(b"\"")?;
+        let digits = self.plain()?;
+        scalar_of(self.alloc, &mut self.scratch, word, digits)
+    }
+
+    /// A value that is neither a list nor a name, behind its word.
+    #[tactic(auto, unfolding(crate::specs::Reading::item_of))]
+    fn item_of(&mut self, word: &[u8]) -> Result<Val, LineStop>
+        ensures { Gives seen result (item_of (word.now, self.old)) self.new }
+    {
+        if word == b"text".as_slice() {
+            let text = self.text()?;
+            Ok(Val::Text(text))
+        } else {
+            self.scalar(word)
+        }
+    }
+
+    /// A value that is neither a list nor a name.
+    fn item(&mut self) -> Result<Val, LineStop>
+        ensures { Gives seen result (item_at self.old) self.new }
+    {
+        let word = self.word()?;
+        self.item_of(word)
+    }
+
+    /// So many such values, each behind a space.
+    fn items(&mut self, count: u128) -> Result<ValList, LineStop>
+        ensures { Gives (λ list. values_of (vals list)) result (items_at count self.old) self.new }
+    {
+        let mut list = ValList::new(self.alloc);
+        for _ in 0..count {
+            self.past(b" ")?;
+            let item = self.item()?;
+            list.push(item)?;
+        }
+        Ok(list)
+    }
+
+    /// How many values, and each of them.
+    #[tactic(auto, unfolding(crate::specs::Reading::list_at))]
+    fn list(&mut self) -> Result<Val, LineStop>
+        ensures { Gives seen result (list_at self.old) self.new }
+    {
+        let count = self.count()?;
+        let list = self.items(count)?;
+        Ok(Val::Items(list))
+    }
+
+    /// The number in front of the next space, and goes on at that space.
+    fn count(&mut self) -> Result<u128, LineStop>
+        ensures { Counts result self.old self.new }
+    {
+        let (digits, _) = split_at_mark(self.left, b' ');
+        let Some(count) = number_of(digits) else {
+            return Err(LineStop::Form);
+        };
+        let (_, left) = self.left.split_at(digits.len());
+        self.left = left;
+        Ok(count)
+    }
+
+    /// A value.
+    #[tactic(auto, unfolding(crate::specs::Reading::value_of))]
+    pub fn value(&mut self) -> Result<Val, LineStop>
+        ensures { Gives seen result (value_at self.old) self.new }
+    {
+        let word = self.word()?;
+        if word == b"list".as_slice() {
+            self.list()
+        } else if word == b"name".as_slice() {
+            let name = self.name()?;
+            Ok(Val::Name(name))
+        } else {
+            self.item_of(word)
+        }
+    }
+}
