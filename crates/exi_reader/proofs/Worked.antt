@@ -100,6 +100,13 @@ book o = record { options = o; schema = without_schema; states = map (state_of o
 abbrev read : ℕ → Bounds → List ℕ → Walk
 read flags limits bytes = walk 40 (book (options flags)) bytes (first_config (book (options flags)) 8 start.Body limits)
 
+-- a body under valueMaxLength and valuePartitionCapacity
+abbrev bounded : ℕ → Option ℕ → Option ℕ → Options
+bounded flags most capacity = record (options flags) { most = most; capacity = capacity }
+
+abbrev read_bounded : ℕ → Option ℕ → Option ℕ → List ℕ → Walk
+read_bounded flags most capacity bytes = walk 40 (book (bounded flags most capacity)) bytes (first_config (book (bounded flags most capacity)) 8 start.Body stream_bounds)
+
 -- a fragment at a byte
 abbrev read_at : ℕ → ℕ → List ℕ → Walk
 read_at flags byte bytes = walk 40 (book (options flags)) bytes (first_config (book (options flags)) 8 (start.Fragment byte) stream_bounds)
@@ -222,8 +229,48 @@ pub record Streams : Type 0 where
   pub events_in_fragment : read 4 (bounds_of 4 100 100) (0x80 ∷ 0x40 ∷ 0x98 ∷ 0x5A ∷ 0x04 ∷ 0xC4 ∷ 0x80 ∷ 0x20 ∷ 0x4C ∷ 0x42 ∷ 0x00 ∷ []) ≡ reached (sd ∷ se (record { uri = []; local = codes "a"; prefix = None }) ∷ se (record { uri = []; local = codes "b"; prefix = None }) ∷ sc 7 ∷ []) (wrong kind.EventLimit 75 4 3 2)
   -- a fragment that is read by itself ends at the next whole byte, whatever follows, with the root
   pub alone : read_at 4 7 (0x80 ∷ 0x40 ∷ 0x98 ∷ 0x5A ∷ 0x04 ∷ 0xC4 ∷ 0x80 ∷ 0x20 ∷ 0x4C ∷ 0x42 ∷ 0x00 ∷ []) ≡ with_root (Some (record { uri = []; local = codes "b"; prefix = None })) (reached (ee ∷ []) (done 80 1 1 0))
-  -- a comment in the place of its element is at fault at its first byte, once it is read
-  pub alone_comment : read_at 22 1 (0x80 ∷ 0x68 ∷ []) ≡ with_root (None) (reached ([]) (wrong kind.ScRoot 8 0 0 0))
+  -- ED in the place of its element is at fault at its first bit, and no event is charged
+  pub alone_end : read_at 22 1 (0x80 ∷ 0x68 ∷ []) ≡ with_root (None) (reached ([]) (wrong kind.ScRoot 8 0 0 0))
+  -- a name that the code tells charges its URI and then its local name
+  pub text_of_known_name : read 0 (bounds_of 10 5 10) (0x80 ∷ 0x00 ∷ 0x5D ∷ 0x40 ∷ 0x98 ∷ 0x68 ∷ 0x00 ∷ []) ≡ reached (sd ∷ se (record { uri = codes "u"; local = codes "a"; prefix = None }) ∷ se (record { uri = codes "u"; local = codes "a"; prefix = None }) ∷ []) (wrong kind.TextLimit 55 4 5 3)
+  -- behind a learned code only the prefix is told
+  pub prefix_of_known_name : read 128 stream_bounds (0x80 ∷ 0x00 ∷ 0x5D ∷ 0x40 ∷ 0x98 ∷ 0x54 ∷ 0x01 ∷ 0x70 ∷ 0xA8 ∷ 0x01 ∷ 0x71 ∷ 0x38 ∷ 0x01 ∷ 0x60 ∷ []) ≡ reached (sd ∷ se (record { uri = codes "u"; local = codes "a"; prefix = None }) ∷ ns (codes "u") (codes "p") true ∷ ns (codes "u") (codes "q") false ∷ se (record { uri = codes "u"; local = codes "a"; prefix = Some (codes "q") }) ∷ se (record { uri = codes "u"; local = codes "a"; prefix = Some (codes "q") }) ∷ ee ∷ ee ∷ ee ∷ ed ∷ []) (done 112 10 12 3)
+  -- a prefix that is spelled out again has a second place, under the least place of its URI
+  pub second_prefix : read 128 stream_bounds (0x80 ∷ 0x00 ∷ 0x5D ∷ 0x40 ∷ 0x98 ∷ 0x50 ∷ 0x01 ∷ 0x75 ∷ 0x01 ∷ 0x70 ∷ 0x28 ∷ 0x01 ∷ 0x70 ∷ 0x38 ∷ 0x01 ∷ 0x80 ∷ []) ≡ reached (sd ∷ se (record { uri = codes "u"; local = codes "a"; prefix = None }) ∷ ns (codes "u") (codes "p") false ∷ ns (codes "u") (codes "p") false ∷ se (record { uri = codes "u"; local = codes "a"; prefix = Some (codes "p") }) ∷ ee ∷ ee ∷ ed ∷ []) (done 125 8 9 2)
+  -- the value of xsi:type has a prefix where prefixes are kept; the first tables have xml and xsi
+  pub prefixes_of_types : read 128 stream_bounds (0x80 ∷ 0x40 ∷ 0x98 ∷ 0x4E ∷ 0x01 ∷ 0x80 ∷ 0x08 ∷ []) ≡ reached (sd ∷ se (record { uri = []; local = codes "a"; prefix = Some [] }) ∷ at (record { uri = codes "http://www.w3.org/2001/XMLSchema-instance"; local = codes "type"; prefix = Some (codes "xsi") }) (name (record { uri = codes "http://www.w3.org/XML/1998/namespace"; local = codes "base"; prefix = Some (codes "xml") })) ∷ ee ∷ ed ∷ []) (done 56 5 93 1)
+  -- an attribute by AT(*) is learned again, where it is learned already
+  pub learned_attribute_twice : read 0 stream_bounds (0x80 ∷ 0x40 ∷ 0x98 ∷ 0x54 ∷ 0x09 ∷ 0xAC ∷ 0x0A ∷ 0xA0 ∷ 0x10 ∷ 0x28 ∷ []) ≡ reached (sd ∷ se (record { uri = []; local = codes "a"; prefix = None }) ∷ at (record { uri = []; local = codes "k"; prefix = None }) (text []) ∷ at (record { uri = []; local = codes "k"; prefix = None }) (text []) ∷ ee ∷ ed ∷ []) (done 80 6 3 1)
+  -- a value that is spelled out again has a second place
+  pub value_twice : read 0 stream_bounds (0x80 ∷ 0x40 ∷ 0x98 ∷ 0x70 ∷ 0x37 ∷ 0x8C ∷ 0x0D ∷ 0xE0 ∷ 0x00 ∷ 0xA0 ∷ []) ≡ reached (sd ∷ se (record { uri = []; local = codes "a"; prefix = None }) ∷ ch (text (codes "x")) ∷ ch (text (codes "x")) ∷ ch (text (codes "x")) ∷ ee ∷ ed ∷ []) (done 75 7 4 1)
+  -- the text of a comment stands in no partition
+  pub comment_is_no_value : read 16 stream_bounds (0x80 ∷ 0x80 ∷ 0xBC ∷ 0x10 ∷ 0x26 ∷ 0x16 ∷ 0x02 ∷ []) ≡ reached (sd ∷ cm (codes "x") ∷ se (record { uri = []; local = codes "a"; prefix = None }) ∷ []) (wrong kind.BadPlace 55 4 2 1)
+  -- SC comes directly behind SE alone; its event is charged
+  pub sc_behind_attribute : read 4 stream_bounds (0x80 ∷ 0x40 ∷ 0x98 ∷ 0x4A ∷ 0x04 ∷ 0xD6 ∷ 0x05 ∷ 0x40 ∷ []) ≡ reached (sd ∷ se (record { uri = []; local = codes "a"; prefix = None }) ∷ at (record { uri = []; local = codes "k"; prefix = None }) (text []) ∷ []) (wrong kind.ScPlace 55 4 2 1)
+  -- the SE of a fragment is no event, and SC behind it is in a wrong place
+  pub sc_in_fragment : read_at 4 1 (0x80 ∷ 0x20 ∷ 0x4C ∷ 0x48 ∷ []) ≡ with_root (Some (record { uri = []; local = codes "b"; prefix = None })) (reached [] (wrong kind.ScPlace 27 1 1 0))
+  -- a fragment in a fragment
+  pub nested_fragments : read 4 stream_bounds (0x80 ∷ 0x40 ∷ 0x98 ∷ 0x5A ∷ 0x04 ∷ 0xC4 ∷ 0x80 ∷ 0x20 ∷ 0x4C ∷ 0x4D ∷ 0x02 ∷ 0x63 ∷ 0x40 ∷ 0x20 ∷ 0x4C ∷ 0x62 ∷ 0x40 ∷ 0x00 ∷ []) ≡ reached (sd ∷ se (record { uri = []; local = codes "a"; prefix = None }) ∷ se (record { uri = []; local = codes "b"; prefix = None }) ∷ sc 7 ∷ se (record { uri = []; local = codes "c"; prefix = None }) ∷ sc 13 ∷ ee ∷ ee ∷ ee ∷ ed ∷ []) (done 137 10 5 3)
+  -- a fragment has tables of its own
+  pub tables_in_fragment : read 4 stream_bounds (0x80 ∷ 0x40 ∷ 0x98 ∷ 0x4A ∷ 0x04 ∷ 0xD6 ∷ 0x06 ∷ 0xED ∷ 0x68 ∷ 0x13 ∷ 0x12 ∷ 0x20 ∷ 0x4C ∷ 0x50 ∷ 0x04 ∷ []) ≡ reached (sd ∷ se (record { uri = []; local = codes "a"; prefix = None }) ∷ at (record { uri = []; local = codes "k"; prefix = None }) (text (codes "v")) ∷ se (record { uri = []; local = codes "b"; prefix = None }) ∷ sc 11 ∷ []) (wrong kind.BadPlace 118 6 5 2)
+  -- behind a fragment and the rest of its last byte stand the tables and the learned productions of the body, and one level is left
+  pub behind_fragment : read 4 stream_bounds (0x80 ∷ 0x40 ∷ 0x98 ∷ 0x60 ∷ 0x14 ∷ 0x81 ∷ 0x31 ∷ 0x20 ∷ 0x20 ∷ 0x4C ∷ 0x50 ∷ 0x0D ∷ 0xE1 ∷ 0x00 ∷ 0x1A ∷ 0x04 ∷ 0xC7 ∷ 0x00 ∷ 0x40 ∷ []) ≡ reached (sd ∷ se (record { uri = []; local = codes "a"; prefix = None }) ∷ ch (text []) ∷ se (record { uri = []; local = codes "b"; prefix = None }) ∷ sc 8 ∷ ch (text (codes "x")) ∷ ee ∷ se (record { uri = []; local = codes "b"; prefix = None }) ∷ se (record { uri = []; local = codes "c"; prefix = None }) ∷ []) (wrong kind.BadPlace 146 10 6 3)
+  -- the element of a fragment has the URI of the outer one too
+  pub other_uri : read 4 stream_bounds (0x80 ∷ 0x00 ∷ 0x5D ∷ 0x40 ∷ 0x98 ∷ 0x90 ∷ 0x20 ∷ 0x4C ∷ 0x42 ∷ []) ≡ reached (sd ∷ se (record { uri = codes "u"; local = codes "b"; prefix = None }) ∷ sc 6 ∷ []) (wrong kind.ScRoot 48 3 3 1)
+  -- behind the element only ED may come; the code of another is at fault
+  pub alone_two : read_at 4 1 (0x80 ∷ 0x20 ∷ 0x4C ∷ 0x40 ∷ []) ≡ with_root (Some (record { uri = []; local = codes "b"; prefix = None })) (reached (ee ∷ []) (wrong kind.ScNotOne 30 1 1 0))
+  -- of what may not come there no event is charged, and nothing is read
+  pub alone_more : read_at 20 1 (0x80 ∷ 0x10 ∷ 0x26 ∷ 0x21 ∷ 0x80 ∷ []) ≡ with_root (Some (record { uri = []; local = codes "b"; prefix = None })) (reached (ee ∷ []) (wrong kind.ScNotOne 31 1 1 0))
+  -- a fragment that stands for one element learns the element
+  pub alone_code : read_at 4 1 (0x80 ∷ 0x20 ∷ 0x4C ∷ 0x43 ∷ []) ≡ with_root (Some (record { uri = []; local = codes "b"; prefix = None })) (reached (ee ∷ []) (wrong kind.NoCode 30 1 1 0))
+  -- a comment in the place of its element is at fault at its first bit, once it is read and charged
+  pub alone_comment : read_at 22 1 (0x80 ∷ 0x80 ∷ 0x58 ∷ 0xC0 ∷ []) ≡ with_root None (reached [] (wrong kind.ScRoot 8 1 1 0))
+  -- a value that is longer than valueMaxLength is not added, and one of that length is
+  pub long_value : read_bounded 0 (Some 1) None (0x80 ∷ 0x40 ∷ 0x98 ∷ 0x70 ∷ 0x37 ∷ 0x8C ∷ 0x11 ∷ 0xE1 ∷ 0xE4 ∷ 0x00 ∷ 0x40 ∷ []) ≡ reached (sd ∷ se (record { uri = []; local = codes "a"; prefix = None }) ∷ ch (text (codes "x")) ∷ ch (text (codes "xy")) ∷ ch (text (codes "x")) ∷ ee ∷ ed ∷ []) (done 82 7 5 1)
+  -- with a capacity of 1 the second value takes the place of the first, whose place under the name tells nothing more
+  pub value_pushed_out : read_bounded 0 None (Some 1) (0x80 ∷ 0x40 ∷ 0x98 ∷ 0x70 ∷ 0x37 ∷ 0x8C ∷ 0x0D ∷ 0xE4 ∷ 0x00 ∷ 0x80 ∷ 0x20 ∷ 0x00 ∷ []) ≡ reached (sd ∷ se (record { uri = []; local = codes "a"; prefix = None }) ∷ ch (text (codes "x")) ∷ ch (text (codes "y")) ∷ ch (text (codes "y")) ∷ ch (text (codes "y")) ∷ []) (wrong kind.BadPlace 93 7 5 1)
+  -- a fragment has the bounds of the stream
+  pub bounds_in_fragment : read_bounded 4 None (Some 0) (0x80 ∷ 0x40 ∷ 0x98 ∷ 0x90 ∷ 0x20 ∷ 0x4C ∷ 0x50 ∷ 0x0D ∷ 0xE3 ∷ 0x00 ∷ []) ≡ reached (sd ∷ se (record { uri = []; local = codes "b"; prefix = None }) ∷ sc 4 ∷ ch (text (codes "x")) ∷ []) (wrong kind.BadPlace 80 5 3 1)
 
 streams : Streams
 unfolding one followed charge_at item_at both_at attribute_value_at declaration_at declared_under name_value_at name_at name_under known_at local_at indexed_at literal_at missed_at hit_at charged_at value_at chars_at in_set_at char_code_at is_xml_char text_charge code_at second_at member_at part_at times below_at field_at unsigned_at narrow_groups_at groups_at number_at value_of bits number_bits le_value width_from
@@ -271,5 +318,25 @@ streams = record {
   cut_fragment = refl;
   events_in_fragment = refl;
   alone = refl;
+  alone_end = refl;
+  text_of_known_name = refl;
+  prefix_of_known_name = refl;
+  second_prefix = refl;
+  prefixes_of_types = refl;
+  learned_attribute_twice = refl;
+  value_twice = refl;
+  comment_is_no_value = refl;
+  sc_behind_attribute = refl;
+  sc_in_fragment = refl;
+  nested_fragments = refl;
+  tables_in_fragment = refl;
+  behind_fragment = refl;
+  other_uri = refl;
+  alone_two = refl;
+  alone_more = refl;
+  alone_code = refl;
   alone_comment = refl;
+  long_value = refl;
+  value_pushed_out = refl;
+  bounds_in_fragment = refl;
 }
