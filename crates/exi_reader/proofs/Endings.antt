@@ -8,8 +8,8 @@ use Rattle.exi_meter.specs.declared.tally.Tally.{Tally}
 use Rattle.exi_names.specs.Events.{Happening}
 use Rattle.exi_names.specs.Events as happening
 use Rattle.exi_names.specs.declared.names.QName.{QName}
-use Rattle.exi_typed.specs.Courses.{Failure}
-use Rattle.exi_typed.proofs.CourseItems.{told}
+use Rattle.exi_typed.specs.ReadStates.{Failure}
+use Rattle.exi_typed.proofs.ContextItems.{told}
 use Rattle.exi_reader.specs.Changes.{is_alone, outer_behind, resumed}
 use Rattle.exi_reader.specs.Configurations.{Body, Config, Setting, body_outer, reached}
 use Rattle.exi_reader.specs.Laws.{EndIs, EndsAtEd, EndsBehind, EndsIn}
@@ -179,7 +179,7 @@ one_leaves g bytes c given h e =
     let t = u.rest_is in
     let a : Alone = alone_in c.elements c.outer in
     let p : Plan = plan_of g c u.rule in
-    let k : Config = reached (behind p.padded t.course) (record c { place = u.spot.place }) in
+    let k : Config = reached (behind p.padded t.read_state) (record c { place = u.spot.place }) in
     let l = plan_leaves g c u.rule a u.rule.on t.item k (record { going = h.going; grounded = h.grounded; body = h.body }) refl t.charged.free in
     let s = made_stays g a c u.rule u.rule.on t.item k in
     subst (λ (z : Given). LeavesBody z) (sym t.is) (record { leaves = record { last = l.last; grounded = l.grounded }; body = s.start ∙ h.body })

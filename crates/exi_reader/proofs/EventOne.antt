@@ -12,9 +12,9 @@ use Rattle.exi_gram.specs.Codes.{code_at}
 use Rattle.exi_gram.specs.Switches.{align_of}
 use Rattle.exi_gram.proofs.CodeLaws.{spelled_item}
 use Rattle.exi_meter.specs.Metering.{Metering, event_fits, level_fits, with_event, with_level}
-use Rattle.exi_typed.specs.Courses.{Beside, Course, Failure, failing}
-use Rattle.exi_typed.proofs.CourseItems.{CourseItem, bind_told, fine, not_failing, told, told_is}
-use Rattle.exi_reader.specs.Configurations.{Config, Setting, course_in, reached, rules_of, spot_in}
+use Rattle.exi_typed.specs.ReadStates.{Context, ReadState, Failure, failing}
+use Rattle.exi_typed.proofs.ContextItems.{ContextItem, bind_told, fine, not_failing, told, told_is}
+use Rattle.exi_reader.specs.Configurations.{Config, Setting, read_state_in, reached, rules_of, spot_in}
 use Rattle.exi_reader.specs.OneEvent.{at_event, behind, charge_at, event_charge, followed, level_charge, one, remembered, unless}
 use Rattle.exi_reader.specs.Plans.{Given, Plan, alone_in, plan_of}
 use Rattle.exi_reader.specs.Rules.{Rule}
@@ -135,20 +135,20 @@ to_byte a s le =
       aligned = λ e. omega arith;
     }
 
-padded_by : (b : Bool) (a : Align) (k : Course) → k.spot.place ≤ 8 * length k.spot.bytes → IsAligned a k.spot → Padded b a k.spot (behind b k).spot
+padded_by : (b : Bool) (a : Align) (k : ReadState) → k.spot.place ≤ 8 * length k.spot.bytes → IsAligned a k.spot → Padded b a k.spot (behind b k).spot
 padded_by true a k le al = to_byte a k.spot le
 padded_by false a k le al = record { text = []; padding = refl; front = record { parts = refl; bytes = refl; place = omega arith }; aligned = al }
 
-behind_beside : (b : Bool) (k : Course) → (behind b k).beside ≡ k.beside
-behind_beside true k = refl
-behind_beside false k = refl
+behind_context : (b : Bool) (k : ReadState) → (behind b k).context ≡ k.context
+behind_context true k = refl
+behind_context false k = refl
 
 -- the place behind the padding
-padded_place : (b : Bool) (s : Spot) (w : Beside) (text : List Bool) → IsPadding b s.place text → (behind b (record { spot = s; beside = w })) ≡ record { spot = moved s (length text); beside = w }
-padded_place true s w text h = ap (λ (p : ℕ). record { spot = record { bytes = s.bytes; place = p }; beside = w }) (sym h)
+padded_place : (b : Bool) (s : Spot) (w : Context) (text : List Bool) → IsPadding b s.place text → (behind b (record { spot = s; context = w })) ≡ record { spot = moved s (length text); context = w }
+padded_place true s w text h = ap (λ (p : ℕ). record { spot = record { bytes = s.bytes; place = p }; context = w }) (sym h)
 padded_place false s w text h =
     let e : s.place ≡ s.place + length text = omega (arith, ap (λ (t : List Bool). length t) h) in
-    ap (λ (p : ℕ). record { spot = record { bytes = s.bytes; place = p }; beside = w }) e
+    ap (λ (p : ℕ). record { spot = record { bytes = s.bytes; place = p }; context = w }) e
 
 -- ---- what stands behind a code
 pub same_spot : (s t : Spot) → s.bytes ≡ t.bytes → s.place ≡ t.place → s ≡ t
@@ -165,24 +165,24 @@ pub record Parted (bytes : List ℕ) (p : Plan) (c : Config) (given : Given) : T
   pub meter : Metering
   pub charged : IsCharged p c.meter meter
   pub item : p.Item
-  pub course : Course
-  pub read : p.read (course_in bytes meter c) ≡ told (item, course)
+  pub read_state : ReadState
+  pub read : p.read (read_state_in bytes meter c) ≡ told (item, read_state)
   pub free : p.refused item ≡ None
-  pub is : given ≡ remembered (p.make item (reached (behind p.padded course) c))
+  pub is : given ≡ remembered (p.make item (reached (behind p.padded read_state) c))
 
 pub parted : (bytes : List ℕ) (bit : ℕ) (p : Plan) (c : Config) (given : Given) → followed bytes bit p c ≡ told given → Parted bytes p c given
 unfolding followed
 parted bytes bit p c given h =
-    let u = bind_told (charge_at bit p c.meter) (λ (m : Metering). at_event bit (p.read (course_in bytes m c)) >>= λ found. unless (p.refused found.0) bit found.1.beside.meter >>= λ free. told (remembered (p.make found.0 (reached (behind p.padded found.1) c)))) given h in
-    let v = bind_told (at_event bit (p.read (course_in bytes u.0 c))) (λ (found : p.Item × Course). unless (p.refused found.0) bit found.1.beside.meter >>= λ free. told (remembered (p.make found.0 (reached (behind p.padded found.1) c)))) given u.2 in
-    let w = bind_told (unless (p.refused v.0.0) bit v.0.1.beside.meter) (λ (free : Metering). told (remembered (p.make v.0.0 (reached (behind p.padded v.0.1) c)))) given v.2 in
+    let u = bind_told (charge_at bit p c.meter) (λ (m : Metering). at_event bit (p.read (read_state_in bytes m c)) >>= λ found. unless (p.refused found.0) bit found.1.context.meter >>= λ free. told (remembered (p.make found.0 (reached (behind p.padded found.1) c)))) given h in
+    let v = bind_told (at_event bit (p.read (read_state_in bytes u.0 c))) (λ (found : p.Item × ReadState). unless (p.refused found.0) bit found.1.context.meter >>= λ free. told (remembered (p.make found.0 (reached (behind p.padded found.1) c)))) given u.2 in
+    let w = bind_told (unless (p.refused v.0.0) bit v.0.1.context.meter) (λ (free : Metering). told (remembered (p.make v.0.0 (reached (behind p.padded v.0.1) c)))) given v.2 in
     record {
       meter = u.0;
       charged = charge_is bit p c.meter u.0 u.1;
       item = v.0.0;
-      course = v.0.1;
-      read = at_event_is bit (p.read (course_in bytes u.0 c)) v.0 v.1;
-      free = (unless_is (p.refused v.0.0) bit v.0.1.beside.meter w.0 w.1).0;
+      read_state = v.0.1;
+      read = at_event_is bit (p.read (read_state_in bytes u.0 c)) v.0 v.1;
+      free = (unless_is (p.refused v.0.0) bit v.0.1.context.meter w.0 w.1).0;
       is = sym (told_is (remembered (p.make v.0.0 (reached (behind p.padded v.0.1) c))) given w.2);
     }
 
@@ -193,13 +193,13 @@ module _ (b : Align) (bytes : List ℕ) (fits : IsBytes bytes) where
     pub front : Front (spot_in bytes c) text (spot_in bytes given.1)
     pub aligned : IsAligned b (spot_in bytes given.1)
 
-  further_is : (c : Config) (k : Course) (w : Beside) (n : ℕ) → k.spot.place ≡ c.place + n → k.beside ≡ w → reached k c ≡ further c n w
-  further_is c k w n e f = ap (λ (z : ℕ). record c { place = z; meter = k.beside.meter; tables = k.beside.tables }) e ∙ ap (λ (z : Beside). further c n z) f
+  further_is : (c : Config) (k : ReadState) (w : Context) (n : ℕ) → k.spot.place ≡ c.place + n → k.context ≡ w → reached k c ≡ further c n w
+  further_is c k w n e f = ap (λ (z : ℕ). record c { place = z; meter = k.context.meter; tables = k.context.tables }) e ∙ ap (λ (z : Context). further c n z) f
 
-  pub followed_takes : (p : Plan) → CourseItem {X = p.Item} b p.read p.Spells → Keeps p → (c : Config) (given : Given) → c.place ≤ 8 * length bytes → IsAligned b (spot_in bytes c) → Parted bytes p c given → Taken p c given
+  pub followed_takes : (p : Plan) → ContextItem {X = p.Item} b p.read p.Spells → Keeps p → (c : Config) (given : Given) → c.place ≤ 8 * length bytes → IsAligned b (spot_in bytes c) → Parted bytes p c given → Taken p c given
   followed_takes p item keeps c given le al h =
-      let k : Course = h.course in
-      let t = item.takes h.item (course_in bytes h.meter c) k fits al h.read in
+      let k : ReadState = h.read_state in
+      let t = item.takes h.item (read_state_in bytes h.meter c) k fits al h.read in
       let in_bytes : k.spot.bytes ≡ bytes = t.front.bytes in
       let within : k.spot.place ≤ 8 * length k.spot.bytes = subst (λ (z : List ℕ). k.spot.place ≤ 8 * length z) (sym in_bytes) (front_within (spot_in bytes c) k.spot t.text t.front le) in
       let pad = padded_by p.padded b k within t.aligned in
@@ -216,28 +216,28 @@ module _ (b : Align) (bytes : List ℕ) (fits : IsBytes bytes) where
           content = t.text;
           padding = pad.text;
           parts = refl;
-          after = k.beside;
+          after = k.context;
           spelled = t.spelled;
           free = h.free;
           padded = subst (λ (z : ℕ). IsPadding p.padded z pad.text) t.front.place pad.padding;
-          is = h.is ∙ ap (λ (z : Config). remembered (p.make h.item z)) (further_is c (behind p.padded k) k.beside (length (t.text ++ pad.text)) front.place (behind_beside p.padded k));
+          is = h.is ∙ ap (λ (z : Config). remembered (p.make h.item z)) (further_is c (behind p.padded k) k.context (length (t.text ++ pad.text)) front.place (behind_context p.padded k));
         };
         front = subst (λ (s : Spot). Front (spot_in bytes c) (t.text ++ pad.text) s) same front;
         aligned = subst (λ (s : Spot). IsAligned b s) same pad.aligned;
       }
 
-  pub followed_again : (bit : ℕ) (p : Plan) → CourseItem {X = p.Item} b p.read p.Spells → (c : Config) (given : Given) (text more : List Bool) → IsAligned b (spot_in bytes c) → IsFollowed p c given text → rest (spot_in bytes c) ≡ text ++ more → followed bytes bit p c ≡ told given
+  pub followed_again : (bit : ℕ) (p : Plan) → ContextItem {X = p.Item} b p.read p.Spells → (c : Config) (given : Given) (text more : List Bool) → IsAligned b (spot_in bytes c) → IsFollowed p c given text → rest (spot_in bytes c) ≡ text ++ more → followed bytes bit p c ≡ told given
   unfolding followed
   followed_again bit p item c given text more al h e =
-      let w : Beside = record { meter = h.meter; tables = c.tables } in
+      let w : Context = record { meter = h.meter; tables = c.tables } in
       let parts : rest (spot_in bytes c) ≡ h.content ++ (h.padding ++ more) = e ∙ ap (λ (x : List Bool). x ++ more) h.parts ∙ append_assoc h.content h.padding more in
       let r1 : charge_at bit p c.meter ≡ told h.meter = charge_again bit p c.meter h.meter h.charged in
-      let at_item : Course = record { spot = moved (spot_in bytes c) (length h.content); beside = h.after } in
-      let r2 : p.read (course_in bytes h.meter c) ≡ told (h.item, at_item) = item.again h.item (spot_in bytes c) w h.after h.content (h.padding ++ more) fits al h.spelled parts in
-      let far : behind p.padded at_item ≡ record { spot = moved (moved (spot_in bytes c) (length h.content)) (length h.padding); beside = h.after } = padded_place p.padded (moved (spot_in bytes c) (length h.content)) h.after h.padding h.padded in
+      let at_item : ReadState = record { spot = moved (spot_in bytes c) (length h.content); context = h.after } in
+      let r2 : p.read (read_state_in bytes h.meter c) ≡ told (h.item, at_item) = item.again h.item (spot_in bytes c) w h.after h.content (h.padding ++ more) fits al h.spelled parts in
+      let far : behind p.padded at_item ≡ record { spot = moved (moved (spot_in bytes c) (length h.content)) (length h.padding); context = h.after } = padded_place p.padded (moved (spot_in bytes c) (length h.content)) h.after h.padding h.padded in
       let count : length text ≡ length h.content + length h.padding = ap (λ (x : List Bool). length x) h.parts ∙ length-append h.content h.padding in
-      let place : (behind p.padded at_item).spot.place ≡ c.place + length text = ap (λ (z : Course). z.spot.place) far ∙ omega (arith, count) in
-      let there : reached (behind p.padded at_item) c ≡ further c (length text) h.after = further_is c (behind p.padded at_item) h.after (length text) place (ap (λ (z : Course). z.beside) far) in
+      let place : (behind p.padded at_item).spot.place ≡ c.place + length text = ap (λ (z : ReadState). z.spot.place) far ∙ omega (arith, count) in
+      let there : reached (behind p.padded at_item) c ≡ further c (length text) h.after = further_is c (behind p.padded at_item) h.after (length text) place (ap (λ (z : ReadState). z.context) far) in
       rw (r1, r2, h.free) (ap (λ (z : Config). told (remembered (p.make h.item z))) there ∙ ap (λ (z : Given). told z) (sym h.is))
 
 -- ---- one event

@@ -18,13 +18,13 @@ use Rattle.exi_names.specs.Seen.{Value}
 use Rattle.exi_tables.specs.Growth.{NoneLonger}
 use Rattle.exi_tables.specs.Partitions.{Partitions}
 use Rattle.exi_tables.proofs.Firsts.{few_first}
-use Rattle.exi_typed.specs.Courses.{Course, Courser, Failure}
+use Rattle.exi_typed.specs.ReadStates.{ReadState, ContextReader, Failure}
 use Rattle.exi_typed.specs.Items.{item_at, string}
 use Rattle.exi_typed.specs.Strings.{Named, declaration_at, no_growth}
 use Rattle.exi_typed.proofs.Additions.{Adding, Grows, Up, Within, chained_up, declaration_up, few_up, grows_within, item_up, known_up, literal_up, name_up, no_growth_up, none_added, nothing_within, one_declaration, one_item, one_name, plus, told_up, up_same, up_within}
-use Rattle.exi_typed.proofs.CourseItems.{bind_told, told, told_is}
+use Rattle.exi_typed.proofs.ContextItems.{bind_told, told, told_is}
 use Rattle.exi_reader.specs.Changes.{innermost, learned_in, resumed, room_in, texts_of, with_inner}
-use Rattle.exi_reader.specs.Configurations.{Body, Config, Setting, course_in, first_tables, reached}
+use Rattle.exi_reader.specs.Configurations.{Body, Config, Setting, read_state_in, first_tables, reached}
 use Rattle.exi_reader.specs.Contents.{attribute_at, attribute_value_at, both_at, four_texts_at, is_missing, nothing_at, represented_by, text_at, told_name_at, two_texts_at}
 use Rattle.exi_reader.specs.Fews.{Few, FewAfterTurns, FewAside, FewGrammars, FewLearned}
 use Rattle.exi_reader.specs.OneEvent.{behind, one, remembered}
@@ -53,30 +53,30 @@ declaration_two = record { uris = omega arith; locals = omega arith; prefixes = 
 attribute_two : Within (plus one_name one_item) two
 attribute_two = record { uris = omega arith; locals = omega arith; prefixes = omega arith; values = omega arith }
 
-both_up : {X Y : Type 0} (m n : Adding) (read : Courser X) (next : X → Courser Y) → Grows m read → ((x : X) → Grows n (next x)) → Grows {X = X × Y} (plus m (plus n none_added)) (both_at read next)
+both_up : {X Y : Type 0} (m n : Adding) (read : ContextReader X) (next : X → ContextReader Y) → Grows m read → ((x : X) → Grows n (next x)) → Grows {X = X × Y} (plus m (plus n none_added)) (both_at read next)
 unfolding both_at
-both_up {X} {Y} m n read next f g = chained_up m (plus n none_added) read (λ x c. next x c >>= λ y. told {X = (X × Y) × Course} ((x, y.0), y.1)) f (λ x. chained_up n none_added (next x) (λ y c. told {X = (X × Y) × Course} ((x, y), c)) (g x) (λ y. told_up (λ c. (x, y))))
+both_up {X} {Y} m n read next f g = chained_up m (plus n none_added) read (λ x c. next x c >>= λ y. told {X = (X × Y) × ReadState} ((x, y.0), y.1)) f (λ x. chained_up n none_added (next x) (λ y c. told {X = (X × Y) × ReadState} ((x, y), c)) (g x) (λ y. told_up (λ c. (x, y))))
 
 told_name_up : (g : Setting) (t : Telling) → Grows {X = Named} one_name (told_name_at g t)
 told_name_up g spelled x c d r = name_up (prefixes g.options) (align_of g.options) x c d r
-told_name_up g (known id) x c d r = up_within none_added one_name c.beside.tables d.beside.tables (nothing_within one_name) (known_up (prefixes g.options) (align_of g.options) id x c d r)
+told_name_up g (known id) x c d r = up_within none_added one_name c.context.tables d.context.tables (nothing_within one_name) (known_up (prefixes g.options) (align_of g.options) id x c d r)
 
 module _ (g : Setting) (name : NameId) where
-  abbrev item : Courser Value
+  abbrev item : ContextReader Value
   item c = item_at (represented_by g name) (align_of g.options) name c
 
-  abbrev no_type : Course → Value × Course → Result (Value × Course) Failure
-  no_type c found = Err (record { fault = record { kind = kind.BadType; bit = c.spot.place }; meter = found.1.beside.meter })
+  abbrev no_type : ReadState → Value × ReadState → Result (Value × ReadState) Failure
+  no_type c found = Err (record { fault = record { kind = kind.BadType; bit = c.spot.place }; meter = found.1.context.meter })
 
-  lax : (b : Bool) (c : Course) (p q : Value × Course) → cond b (no_type c p) (told p) ≡ told q → p ≡ q
+  lax : (b : Bool) (c : ReadState) (p q : Value × ReadState) → cond b (no_type c p) (told p) ≡ told q → p ≡ q
   lax true c p q e = absurd cc
   lax false c p q e = told_is p q e
 
   attribute_value_up : Grows {X = Value} one_item (attribute_value_at g name)
   unfolding attribute_value_at
   attribute_value_up x c d r =
-      let u = bind_told (item c) (λ (found : Value × Course). cond (is_missing g name) (no_type c found) (told found)) (x, d) r in
-      subst (λ (z : Value × Course). Up one_item c.beside.tables z.1.beside.tables) (lax (is_missing g name) c u.0 (x, d) u.2) (item_up (represented_by g name) (align_of g.options) name u.0.0 c u.0.1 u.1)
+      let u = bind_told (item c) (λ (found : Value × ReadState). cond (is_missing g name) (no_type c found) (told found)) (x, d) r in
+      subst (λ (z : Value × ReadState). Up one_item c.context.tables z.1.context.tables) (lax (is_missing g name) c u.0 (x, d) u.2) (item_up (represented_by g name) (align_of g.options) name u.0.0 c u.0.1 u.1)
 
 nothing_up : Grows {X = Unit {0}} two nothing_at
 nothing_up = grows_within none_added two nothing_at no_more (told_up (λ c. tt))
@@ -282,7 +282,7 @@ made_few n g a c r entity x k first b = record { tables = b.tables; learned = gr
 made_few n g a c r (informed symbol) x k first b = record { tables = b.tables; learned = grammars_later n k.learned b.learned; aside = asides n k b }
 
 -- ---- one event, and the next
-read_behind : (n : ℕ) (b : Bool) (j : Course) (c : Config) → Read n (reached j c) → Read n (reached (behind b j) c)
+read_behind : (n : ℕ) (b : Bool) (j : ReadState) (c : Config) → Read n (reached j c) → Read n (reached (behind b j) c)
 read_behind n true j c f = record { tables = f.tables; learned = f.learned; aside = f.aside }
 read_behind n false j c f = f
 
@@ -295,11 +295,11 @@ one_few n g bytes c given first f h =
     let t = u.rest_is in
     let a : Alone = alone_in c.elements c.outer in
     let on : Config = at_place c u.spot.place in
-    let up : Up two c.tables t.course.beside.tables = plan_up g a c u.rule u.rule.on t.item (course_in bytes t.meter on) t.course t.read in
-    let few : NoneLonger (2 ^ 30 + 2 * (n + 1)) t.course.beside.tables = few_up (2 ^ 30 + 2 * n) 2 (2 ^ 30 + 2 * (n + 1)) two c.tables t.course.beside.tables (omega arith) (omega arith) (omega arith) (omega arith) (omega arith) up f.tables in
+    let up : Up two c.tables t.read_state.context.tables = plan_up g a c u.rule u.rule.on t.item (read_state_in bytes t.meter on) t.read_state t.read in
+    let few : NoneLonger (2 ^ 30 + 2 * (n + 1)) t.read_state.context.tables = few_up (2 ^ 30 + 2 * n) 2 (2 ^ 30 + 2 * (n + 1)) two c.tables t.read_state.context.tables (omega arith) (omega arith) (omega arith) (omega arith) (omega arith) up f.tables in
     let p = plan_of g c u.rule in
-    let b : Read n (reached (behind p.padded t.course) on) = read_behind n p.padded t.course on (record { tables = few; learned = f.learned; aside = f.aside }) in
-    subst (λ (z : Given). Few (n + 1) z.1) (sym t.is) (remembered_few (n + 1) (p.make t.item (reached (behind p.padded t.course) on)) (made_few n g a c u.rule u.rule.on t.item (reached (behind p.padded t.course) on) first b))
+    let b : Read n (reached (behind p.padded t.read_state) on) = read_behind n p.padded t.read_state on (record { tables = few; learned = f.learned; aside = f.aside }) in
+    subst (λ (z : Given). Few (n + 1) z.1) (sym t.is) (remembered_few (n + 1) (p.make t.item (reached (behind p.padded t.read_state) on)) (made_few n g a c u.rule u.rule.on t.item (reached (behind p.padded t.read_state) on) first b))
 
 led_few : (n : ℕ) (g : Setting) (bytes : List ℕ) (turns : List (Option Happening)) (c last : Config) → NoneLonger (2 ^ 30) (first_tables g) → Few n c → Leads g bytes c turns last → Few (n + length turns) last
 led_few n g bytes [] c last first f l = let e : n ≡ n + 0 = omega arith in subst (λ (z : ℕ). Few z last) e (subst (λ (z : Config). Few n z) l f)

@@ -8,10 +8,10 @@ use Rattle.exi_gram.specs.Switches.{align_of, prefixes}
 use Rattle.exi_gram.proofs.CodeLaws.{spelled_item}
 use Rattle.exi_meter.specs.Metering.{Metering, with_text}
 use Rattle.exi_names.specs.declared.names.QName.{QName}
-use Rattle.exi_typed.specs.Courses.{Course}
-use Rattle.exi_typed.proofs.CourseItems.{fine, told, told_is}
+use Rattle.exi_typed.specs.ReadStates.{ReadState}
+use Rattle.exi_typed.proofs.ContextItems.{fine, told, told_is}
 use Rattle.exi_reader.specs.Changes.{moved_elements, outer_behind, root_in}
-use Rattle.exi_reader.specs.Configurations.{Body, Config, Setting, course_in, rules_of, spot_in}
+use Rattle.exi_reader.specs.Configurations.{Body, Config, Setting, read_state_in, rules_of, spot_in}
 use Rattle.exi_reader.specs.OneEvent.{one}
 use Rattle.exi_reader.specs.Plans.{Alone, Given, alone_in, at_first, at_start, plan_on}
 use Rattle.exi_reader.specs.Rules.{Rule, Telling, Terminal, attribute, characters, comment, declaration, document_type, element, end_document, end_element, entity, informed, instruction, known, self_contained, spelled, start_document}
@@ -56,8 +56,8 @@ none_some x e = absurd cc
 
 module _ (g : Setting) (bytes : List ℕ) where
   -- nothing is read
-  same_course : (k d : Course) (x : Unit {0}) → told {X = Unit {0} × Course} (tt, k) ≡ told (x, d) → k ≡ d
-  same_course k d x e = ap (λ (z : Unit {0} × Course). z.1) (told_is (tt, k) (x, d) e)
+  same_state : (k d : ReadState) (x : Unit {0}) → told {X = Unit {0} × ReadState} (tt, k) ≡ told (x, d) → k ≡ d
+  same_state k d x e = ap (λ (z : Unit {0} × ReadState). z.1) (told_is (tt, k) (x, d) e)
 
   moved_none : (to : ℕ) (es : List Element) → es ≡ [] → moved_elements to es ≡ []
   moved_none to [] e = refl
@@ -65,15 +65,15 @@ module _ (g : Setting) (bytes : List ℕ) where
 
   start_parted : (f : Config) (r : Rule) (t : Terminal) (place : ℕ) (given : Given) → Begins f → FitsStart t r.to → Parted bytes (plan_on g at_start f r t) (at_place f place) given → Started f given place
   start_parted f r start_document place given b fit t =
-      let course_is : course_in bytes t.meter (at_place f place) ≡ t.course = same_course (course_in bytes t.meter (at_place f place)) t.course t.item t.read in
+      let read_state_is : read_state_in bytes t.meter (at_place f place) ≡ t.read_state = same_state (read_state_in bytes t.meter (at_place f place)) t.read_state t.item t.read in
       record {
         none = ap (λ (z : Given). z.0) t.is;
         elements = ap (λ (z : Given). z.1.elements) t.is ∙ moved_none r.to f.elements b.elements;
         outer_is = ap (λ (z : Given). z.1.outer) t.is ∙ ap (λ (z : List Element). outer_behind r.to z f.outer) b.elements ∙ ap (λ (z : Outer). outer_behind r.to [] z) b.outer_is;
         aside = ap (λ (z : Given). z.1.aside) t.is ∙ b.aside;
         root = ap (λ (z : Given). z.1.root) t.is ∙ b.root;
-        place_is = ap (λ (z : Given). z.1.place) t.is ∙ ap (λ (z : Course). z.spot.place) (sym course_is);
-        meter = ap (λ (z : Given). z.1.meter) t.is ∙ ap (λ (z : Course). z.beside.meter) (sym course_is) ∙ t.charged.after;
+        place_is = ap (λ (z : Given). z.1.place) t.is ∙ ap (λ (z : ReadState). z.spot.place) (sym read_state_is);
+        meter = ap (λ (z : Given). z.1.meter) t.is ∙ ap (λ (z : ReadState). z.context.meter) (sym read_state_is) ∙ t.charged.after;
       }
   start_parted f r end_document place given b fit t = absurd fit
   start_parted f r (element y) place given b fit t = absurd fit
@@ -107,10 +107,10 @@ module _ (g : Setting) (bytes : List ℕ) where
     pub outer_is : f.outer ≡ outer.AloneFirst
     pub aside : f.aside ≡ []
 
-  element_rooted : (f : Config) (r : Rule) (tl : Telling) (place : ℕ) (given : Given) → IsBytes bytes → prefixes g.options ≡ false → IsAligned (align_of g.options) (spot_in bytes (at_place f place)) → IsFirst f → (t : Parted bytes (plan_on g at_first f r (element tl)) (at_place f place) given) → given.0 ≡ None → given.1.root ≡ root_in f.aside t.item.name f.root → given.1.outer ≡ outer_behind r.to f.elements f.outer → given.1.aside ≡ f.aside → given.1.meter ≡ t.course.beside.meter → Rooted f given
+  element_rooted : (f : Config) (r : Rule) (tl : Telling) (place : ℕ) (given : Given) → IsBytes bytes → prefixes g.options ≡ false → IsAligned (align_of g.options) (spot_in bytes (at_place f place)) → IsFirst f → (t : Parted bytes (plan_on g at_first f r (element tl)) (at_place f place) given) → given.0 ≡ None → given.1.root ≡ root_in f.aside t.item.name f.root → given.1.outer ≡ outer_behind r.to f.elements f.outer → given.1.aside ≡ f.aside → given.1.meter ≡ t.read_state.context.meter → Rooted f given
   element_rooted f r tl place given octets plain al b t none root out aside meter =
-      let k = (name_reads g tl).item.takes t.item (course_in bytes t.meter (at_place f place)) t.course octets al t.read in
-      let text : t.course.beside.meter ≡ with_text t.meter (length t.item.name.uri + length t.item.name.local) = told_text g tl t.item (course_in bytes t.meter (at_place f place)).beside t.course.beside k.text plain k.spelled in
+      let k = (name_reads g tl).item.takes t.item (read_state_in bytes t.meter (at_place f place)) t.read_state octets al t.read in
+      let text : t.read_state.context.meter ≡ with_text t.meter (length t.item.name.uri + length t.item.name.local) = told_text g tl t.item (read_state_in bytes t.meter (at_place f place)).context t.read_state.context k.text plain k.spelled in
       record {
         none = none;
         name = t.item.name;

@@ -12,11 +12,11 @@ use Rattle.exi_meter.specs.Metering.{Metering, without_level}
 use Rattle.exi_meter.specs.declared.tally.Tally.{Tally}
 use Rattle.exi_names.specs.declared.names.QName.{QName}
 use Rattle.exi_tables.specs.Partitions.{Partitions}
-use Rattle.exi_typed.specs.Courses.{Failure, failing}
+use Rattle.exi_typed.specs.ReadStates.{Failure, failing}
 use Rattle.exi_typed.specs.Metered.{Unmetered, charging}
-use Rattle.exi_typed.proofs.CourseItems.{beside, course, told}
+use Rattle.exi_typed.proofs.ContextItems.{context, read_state, told}
 use Rattle.exi_reader.specs.Changes.{enclosing, has_level, is_alone, left_level, outer_behind, resumed, same_texts}
-use Rattle.exi_reader.specs.Configurations.{Body, Config, Setting, course_in, reached, rules_of, spot_in}
+use Rattle.exi_reader.specs.Configurations.{Body, Config, Setting, read_state_in, reached, rules_of, spot_in}
 use Rattle.exi_reader.specs.Metered.{Outcome, outcome, paying, with_meter}
 use Rattle.exi_reader.specs.OneEvent.{at_event, behind, charge_at, followed, one, remembered, unless}
 use Rattle.exi_reader.specs.Plans.{Alone, Given, Plan, alone_in, at_end, at_first, at_start, element_plan, no_element, nowhere, plan_of, plan_on, wrong_element}
@@ -306,10 +306,10 @@ module _ (base : Config) (b : Body) (bs : List Body) where
           behind_it = λ z. (let q = lev.behind_it (λ y. z (h ∙ y)) in omega (arith, q, le));
         }
 
-        read_steps : (pad : Bool) (x : on.Item) (s : Spot) (q : Partitions) (n : Metering) → c.meter.level ≤ n.level → Step (answer (refusals false x) n (on.make x (reached (behind pad (course s (beside n q))) (conf false)))) (answer (refusals true x) (shifted_meter base.meter n) (on.make x (reached (behind pad (course s (beside (shifted_meter base.meter n) q))) (conf true))))
+        read_steps : (pad : Bool) (x : on.Item) (s : Spot) (q : Partitions) (n : Metering) → c.meter.level ≤ n.level → Step (answer (refusals false x) n (on.make x (reached (behind pad (read_state s (context n q))) (conf false)))) (answer (refusals true x) (shifted_meter base.meter n) (on.make x (reached (behind pad (read_state s (context (shifted_meter base.meter n) q))) (conf true))))
         unfolding shifted
-        read_steps true x s q n le = let k : Config = reached (behind true (course s (beside n q))) (conf false) in plan_steps a r.on x k refl fit nests rt (levels_on k refl refl refl le)
-        read_steps false x s q n le = let k : Config = reached (behind false (course s (beside n q))) (conf false) in plan_steps a r.on x k refl fit nests rt (levels_on k refl refl refl le)
+        read_steps true x s q n le = let k : Config = reached (behind true (read_state s (context n q))) (conf false) in plan_steps a r.on x k refl fit nests rt (levels_on k refl refl refl le)
+        read_steps false x s q n le = let k : Config = reached (behind false (read_state s (context n q))) (conf false) in plan_steps a r.on x k refl fit nests rt (levels_on k refl refl refl le)
 
         made : (x : on.Item) (k : Config) → Makes on.make x k
         made x k = makes g c r a r.on x k
@@ -323,10 +323,10 @@ module _ (base : Config) (b : Body) (bs : List Body) where
             (subst (λ (z : Result Given Failure). Step (at_event bit (charging [] n (Ok found)) >>= last bit on refusals conf made false) z) other_way (read_steps on.padded found.0 found.1.0 found.1.1 n le))
         inner_steps (Err e) n le = refl
 
-        same_course : (i : Bool) (m : Metering) → course_in bytes m (conf i) ≡ course_in bytes m (at_place c place)
+        same_state : (i : Bool) (m : Metering) → read_state_in bytes m (conf i) ≡ read_state_in bytes m (at_place c place)
         unfolding shifted
-        same_course false m = refl
-        same_course true m = refl
+        same_state false m = refl
+        same_state true m = refl
 
         -- the same fault, or the same reading
         either_steps : (h : Unmetered on.Item) (rest : Bool → Result Outcome Fault) → ((i : Bool) → rest i ≡ rest_of bit on refusals conf made h i) ⊎ ((f : Fault) × ((i : Bool) → rest i ≡ Err f)) → (n : Metering) → c.meter.level ≤ n.level → Step (outcome n (rest false)) (outcome (shifted_meter base.meter n) (rest true))
@@ -345,7 +345,7 @@ module _ (base : Config) (b : Body) (bs : List Body) where
         followed_steps : Fair tally (followed bytes bit on (at_place c place)) → Step (followed bytes bit on (at_place c place)) (followed bytes bit (plan_on g a (shifted c) r r.on) (at_place (shifted c) place))
         followed_steps fair =
             let metered = (plan_reads g a c r r.on).metered in
-            let h = followed_paid {I = Bool} bit on refusals conf made bytes (at_place c place) same_course metered in
+            let h = followed_paid {I = Bool} bit on refusals conf made bytes (at_place c place) same_state metered in
             let one_way : followed bytes bit on (at_place c place) ≡ paying bit h.dues c.meter (h.rest false) = as_same bytes a r.on (at_place c place) ∙ h.is false c.meter in
             let other_way : followed bytes bit (plan_on g a (shifted c) r r.on) (at_place (shifted c) place) ≡ paying bit h.dues (shifted_meter base.meter c.meter) (h.rest true) = as_other bytes a r.on (at_place (shifted c) place) ∙ ap (λ (z : Config). followed_as bytes bit on (refusals true) z) (sym true_is) ∙ h.is true (shifted_meter base.meter c.meter) in
             subst (λ (z : Result Given Failure). Step z (followed bytes bit (plan_on g a (shifted c) r r.on) (at_place (shifted c) place))) (sym one_way)

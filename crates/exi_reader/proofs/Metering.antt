@@ -10,11 +10,11 @@ use Rattle.exi_gram.specs.Switches.{align_of}
 use Rattle.exi_meter.specs.Metering.{Metering, event_fits, level_fits, text_fits, with_event, with_level, with_text}
 use Rattle.exi_names.specs.Events.{Happening}
 use Rattle.exi_tables.specs.Partitions.{Partitions}
-use Rattle.exi_typed.specs.Courses.{Course, Failure, failing}
+use Rattle.exi_typed.specs.ReadStates.{ReadState, Failure, failing}
 use Rattle.exi_typed.specs.Metered.{Charge, IsMetered, Unmetered, charging}
-use Rattle.exi_typed.proofs.CourseItems.{beside, course, told}
+use Rattle.exi_typed.proofs.ContextItems.{context, read_state, told}
 use Rattle.exi_reader.specs.Changes.{has_level, left_level, resumed}
-use Rattle.exi_reader.specs.Configurations.{Body, Config, Setting, course_in, reached, rules_of, spot_in}
+use Rattle.exi_reader.specs.Configurations.{Body, Config, Setting, read_state_in, reached, rules_of, spot_in}
 use Rattle.exi_reader.specs.Metered.{Due, IsPaid, OneIsMetered, Outcome, event, level, outcome, paying, text, with_meter}
 use Rattle.exi_reader.specs.OneEvent.{at_event, behind, charge_at, event_charge, failed, followed, is_start, level_charge, moved_limit, one, remembered, unless}
 use Rattle.exi_reader.specs.Plans.{Alone, Given, Plan, alone_in, at_end, at_first, at_start, nowhere, plan_of, plan_on}
@@ -123,9 +123,9 @@ texts ks = map (λ k. text k.units) ks
 
 -- so far, with any meter
 abbrev came : Bool → Spot → Partitions → Config → Config
-came b s q c = record (reached (behind b (course s (beside c.meter q))) c) { meter = c.meter }
+came b s q c = record (reached (behind b (read_state s (context c.meter q))) c) { meter = c.meter }
 
-reached_came : (b : Bool) (s : Spot) (q : Partitions) (c : Config) (m : Metering) → reached (behind b (course s (beside m q))) c ≡ with_meter m (came b s q c)
+reached_came : (b : Bool) (s : Spot) (q : Partitions) (c : Config) (m : Metering) → reached (behind b (read_state s (context m q))) c ≡ with_meter m (came b s q c)
 reached_came true s q c m = refl
 reached_came false s q c m = refl
 
@@ -138,17 +138,17 @@ remembered_outcome o = record o { next = record o.next { after_start = is_start 
 
 -- what a plan does, with other things that it refuses
 unfoldable pub followed_as : List ℕ → ℕ → (p : Plan) → (p.Item → Option Kind) → Config → Result Given Failure
-followed_as bytes bit p refused c = charge_at bit p c.meter >>= λ m. at_event bit (p.read (course_in bytes m c)) >>= λ found. unless (refused found.0) bit found.1.beside.meter >>= λ free. told (remembered (p.make found.0 (reached (behind p.padded found.1) c)))
+followed_as bytes bit p refused c = charge_at bit p c.meter >>= λ m. at_event bit (p.read (read_state_in bytes m c)) >>= λ found. unless (refused found.0) bit found.1.context.meter >>= λ free. told (remembered (p.make found.0 (reached (behind p.padded found.1) c)))
 
 module _ {I : Type 0} (bit : ℕ) (p : Plan) (refused : I → p.Item → Option Kind) (conf : I → Config) (made : (x : p.Item) (k : Config) → Makes p.make x k) where
-  abbrev pub last : I → p.Item × Course → Result Given Failure
-  last i found = unless (refused i found.0) bit found.1.beside.meter >>= λ free. told (remembered (p.make found.0 (reached (behind p.padded found.1) (conf i))))
+  abbrev pub last : I → p.Item × ReadState → Result Given Failure
+  last i found = unless (refused i found.0) bit found.1.context.meter >>= λ free. told (remembered (p.make found.0 (reached (behind p.padded found.1) (conf i))))
 
   abbrev pub rest_of : Unmetered p.Item → I → Result Outcome Fault
   rest_of (Ok found) i = by_refusal bit (refused i found.0) (remembered_outcome (made found.0 (came p.padded found.1.0 found.1.1 (conf i))).made)
   rest_of (Err f) i = Err (moved_limit bit f)
 
-  last_is : (i : I) (x : p.Item) (s : Spot) (q : Partitions) (m : Metering) (o : Option Kind) → (unless o bit m >>= λ free. told (remembered (p.make x (reached (behind p.padded (course s (beside m q))) (conf i))))) ≡ outcome m (by_refusal bit o (remembered_outcome (made x (came p.padded s q (conf i))).made))
+  last_is : (i : I) (x : p.Item) (s : Spot) (q : Partitions) (m : Metering) (o : Option Kind) → (unless o bit m >>= λ free. told (remembered (p.make x (reached (behind p.padded (read_state s (context m q))) (conf i))))) ≡ outcome m (by_refusal bit o (remembered_outcome (made x (came p.padded s q (conf i))).made))
   last_is i x s q m None =
       let h = made x (came p.padded s q (conf i)) in
       ap (λ (z : Config). told (remembered (p.make x z))) (reached_came p.padded s q (conf i) m) ∙ ap (λ (z : Given). told (remembered z)) (h.is m)
@@ -168,15 +168,15 @@ module _ {I : Type 0} (bit : ℕ) (p : Plan) (refused : I → p.Item → Option 
       by_fit e false = refl
 
   -- configurations at the same place, with the same tables
-  pub followed_paid : (bytes : List ℕ) (c : Config) → ((i : I) (m : Metering) → course_in bytes m (conf i) ≡ course_in bytes m c) → (metered : IsMetered {X = p.Item} p.read) → AllPaid {I = I} bit (rest_of (metered (spot_in bytes c) c.tables).rest) (λ i m. followed_as bytes bit p (refused i) (with_meter m (conf i)))
+  pub followed_paid : (bytes : List ℕ) (c : Config) → ((i : I) (m : Metering) → read_state_in bytes m (conf i) ≡ read_state_in bytes m c) → (metered : IsMetered {X = p.Item} p.read) → AllPaid {I = I} bit (rest_of (metered (spot_in bytes c) c.tables).rest) (λ i m. followed_as bytes bit p (refused i) (with_meter m (conf i)))
   unfolding followed_as
   followed_paid bytes c same metered =
       let h = metered (spot_in bytes c) c.tables in
-      charge_paid bit (rest_of h.rest) p (λ i m. at_event bit (p.read (course_in bytes m (conf i))) >>= last i)
+      charge_paid bit (rest_of h.rest) p (λ i m. at_event bit (p.read (read_state_in bytes m (conf i))) >>= last i)
       (record {
         dues = texts h.charges;
         rest = rest_of h.rest;
-        is = λ i m. (ap (λ (z : Course). at_event bit (p.read z) >>= last i) (same i m) ∙ ap (λ (z : Result (p.Item × Course) Failure). at_event bit z >>= last i) (h.is m) ∙ texts_paid i h.rest h.charges m);
+        is = λ i m. (ap (λ (z : ReadState). at_event bit (p.read z) >>= last i) (same i m) ∙ ap (λ (z : Result (p.Item × ReadState) Failure). at_event bit z >>= last i) (h.is m) ∙ texts_paid i h.rest h.charges m);
         either = inl (λ i. refl);
       })
 

@@ -5,18 +5,18 @@ use Rattle.std.proofs.lemmas.Option.{get_or_from_slice_get, slice_get-get_or, sl
 use Rattle.exi_bits.specs.declared.align.Align.{Align}
 use Rattle.exi_tables.specs.Growth.{KeepsAll, KeepsPlaces, NoneLonger}
 use Rattle.exi_tables.specs.Partitions.{IsName, Partitions, locals, prefixes, uris}
-use Rattle.exi_typed.specs.Courses.{Course}
+use Rattle.exi_typed.specs.ReadStates.{ReadState}
 use Rattle.exi_typed.specs.NameValues.{name_value_at}
 use Rattle.exi_typed.specs.Places.{IsNameAt, IsPlaceIn, name_in, text_in}
 use Rattle.exi_typed.specs.Strings.{Named, name_at}
 use Rattle.exi_typed.specs.declared.names.NameAt.{NameAt}
 use Rattle.exi_typed.proofs.Additions.{few_up, name_up, one_name}
-use Rattle.exi_typed.proofs.CourseItems.{told}
+use Rattle.exi_typed.proofs.ContextItems.{told}
 use Rattle.exi_typed.proofs.Goings.{name_value_goes}
 use Rattle.exi_names.specs.declared.names.QName.{QName}
 
-pub name_few : (keep : Bool) (a : Align) (x : Named) (c d : Course) → name_at keep a c ≡ told (x, d) → NoneLonger (2 ^ 31 - 2) c.beside.tables → NoneLonger (2 ^ 31) d.beside.tables
-name_few keep a x c d e few = few_up (2 ^ 31 - 2) 1 (2 ^ 31) one_name c.beside.tables d.beside.tables (omega arith) (omega arith) (omega arith) (omega arith) (omega arith) (name_up keep a x c d e) few
+pub name_few : (keep : Bool) (a : Align) (x : Named) (c d : ReadState) → name_at keep a c ≡ told (x, d) → NoneLonger (2 ^ 31 - 2) c.context.tables → NoneLonger (2 ^ 31) d.context.tables
+name_few keep a x c d e few = few_up (2 ^ 31 - 2) 1 (2 ^ 31) one_name c.context.tables d.context.tables (omega arith) (omega arith) (omega arith) (omega arith) (omega arith) (name_up keep a x c d e) few
 
 pub still_few : (p : Partitions) → NoneLonger (2 ^ 31 - 2) p → NoneLonger (2 ^ 31) p
 still_few p few = record {
@@ -27,7 +27,7 @@ still_few p few = record {
   few_own = λ name. omega (arith, few.few_own name);
 }
 
-pub name_value_keeps : (keep : Bool) (a : Align) (x : Named) (c d : Course) → name_value_at keep a c ≡ told (x, d) → KeepsAll c.beside.tables d.beside.tables
+pub name_value_keeps : (keep : Bool) (a : Align) (x : Named) (c d : ReadState) → name_value_at keep a c ≡ told (x, d) → KeepsAll c.context.tables d.context.tables
 name_value_keeps keep a x c d e = (name_value_goes keep a x c d e).keeps
 
 -- ---- a name that stands

@@ -7,14 +7,14 @@ use Rattle.exi_bits.specs.Unsigned.{◌>>=◌}
 use Rattle.exi_gram.specs.Switches.{align_of, prefixes}
 use Rattle.exi_names.specs.declared.names.NameId.{NameId}
 use Rattle.exi_names.specs.Seen.{Value}
-use Rattle.exi_typed.specs.Courses.{Beside, Course, Courser, Failure}
+use Rattle.exi_typed.specs.ReadStates.{Context, ReadState, ContextReader, Failure}
 use Rattle.exi_typed.specs.Items.{item_at, string}
 use Rattle.exi_typed.specs.Laws.{Spelling}
 use Rattle.exi_typed.specs.Metered.{IsMetered}
-use Rattle.exi_typed.specs.Onward.{GoesOnward, Onward}
+use Rattle.exi_typed.specs.Continues.{ReadsOn, Continues}
 use Rattle.exi_typed.specs.Spelled.{Follows, SpellsDeclaration}
 use Rattle.exi_typed.specs.Strings.{Declaration, Named, declaration_at, no_growth}
-use Rattle.exi_typed.proofs.CourseItems.{Chained, CourseItem, IsPure, MadeBeside, Went, bind_told, chained, course, in_words, made, pure, told, told_is}
+use Rattle.exi_typed.proofs.ContextItems.{Chained, ContextItem, IsPure, MadeInContext, Went, bind_told, chained, read_state, in_words, made, pure, told, told_is}
 use Rattle.exi_typed.proofs.Goings.{chained_goes, declaration_goes, known_goes, literal_goes, name_goes, same_keeps, told_goes}
 use Rattle.exi_typed.proofs.ItemLaws.{item_goes, item_item}
 use Rattle.exi_typed.proofs.Meters.{bind_metered, declaration_metered, item_metered, known_metered, literal_metered, name_metered, pure_metered}
@@ -25,9 +25,9 @@ use Rattle.exi_reader.specs.Contents.{SpellsAttribute, SpellsAttributeValue, Spe
 use Rattle.exi_reader.specs.Rules.{Telling, known, spelled}
 
 -- what is known of a reading
-pub record Reads {X : Type 0} (a : Align) (read : Courser X) (Spells : Spelling X) : Type 0 where
-  pub item : CourseItem a read Spells
-  pub goes : GoesOnward read
+pub record Reads {X : Type 0} (a : Align) (read : ContextReader X) (Spells : Spelling X) : Type 0 where
+  pub item : ContextItem a read Spells
+  pub goes : ReadsOn read
   pub metered : IsMetered read
 
 -- ---- nothing
@@ -42,14 +42,14 @@ nothing_reads a = record {
 }
 
 -- ---- one behind the other
-module _ {X Y : Type 0} (a : Align) (one : Courser X) (two : X → Courser Y) (One : Spelling X) (Two : X → Spelling Y) where
-  abbrev in_pair : X → Y → Beside → X × Y
+module _ {X Y : Type 0} (a : Align) (one : ContextReader X) (two : X → ContextReader Y) (One : Spelling X) (Two : X → Spelling Y) where
+  abbrev in_pair : X → Y → Context → X × Y
   in_pair x y b = (x, y)
 
   abbrev Pairs : Spelling (X × Y)
-  Pairs = Chained One (λ x. MadeBeside (in_pair x) (Two x))
+  Pairs = Chained One (λ x. MadeInContext (in_pair x) (Two x))
 
-  to_pair : (p : X × Y) (w v : Beside) (text : List Bool) → Pairs p w v text → SpellsBoth One Two p w v text
+  to_pair : (p : X × Y) (w v : Context) (text : List Bool) → Pairs p w v text → SpellsBoth One Two p w v text
   to_pair p w v text z = subst (λ (q : X × Y). Follows (One q.0) (Two q.0 q.1) w v text) z.spelled.behind.is (record {
     between = z.spelled.between;
     first = z.spelled.first;
@@ -59,24 +59,24 @@ module _ {X Y : Type 0} (a : Align) (one : Courser X) (two : X → Courser Y) (O
     behind = z.spelled.behind.spelled;
   })
 
-  from_pair : (p : X × Y) (w v : Beside) (text : List Bool) → SpellsBoth One Two p w v text → Pairs p w v text
+  from_pair : (p : X × Y) (w v : Context) (text : List Bool) → SpellsBoth One Two p w v text → Pairs p w v text
   from_pair p w v text h = record {
     from = p.0;
     spelled = record { between = h.between; first = h.first; second = h.second; parts = h.parts; front = h.front; behind = record { from = p.1; is = refl; spelled = h.behind } };
   }
 
-  both_item : CourseItem a one One → ((x : X) → CourseItem a (two x) (Two x)) → CourseItem {X = X × Y} a (both_at one two) (SpellsBoth One Two)
+  both_item : ContextItem a one One → ((x : X) → ContextItem a (two x) (Two x)) → ContextItem {X = X × Y} a (both_at one two) (SpellsBoth One Two)
   unfolding both_at
   both_item i j = in_words a (both_at one two) Pairs (SpellsBoth One Two) to_pair from_pair
-      (chained a one (λ x c. two x c >>= λ y. told {X = (X × Y) × Course} ((x, y.0), y.1)) One (λ x. MadeBeside (in_pair x) (Two x)) i (λ x. made a (two x) (in_pair x) (Two x) (j x)))
+      (chained a one (λ x c. two x c >>= λ y. told {X = (X × Y) × ReadState} ((x, y.0), y.1)) One (λ x. MadeInContext (in_pair x) (Two x)) i (λ x. made a (two x) (in_pair x) (Two x) (j x)))
 
-  both_goes : GoesOnward one → ((x : X) → GoesOnward (two x)) → GoesOnward {X = X × Y} (both_at one two)
+  both_goes : ReadsOn one → ((x : X) → ReadsOn (two x)) → ReadsOn {X = X × Y} (both_at one two)
   unfolding both_at
-  both_goes f g = chained_goes one (λ x c. two x c >>= λ y. told {X = (X × Y) × Course} ((x, y.0), y.1)) f (λ x. chained_goes (two x) (λ y c. told {X = (X × Y) × Course} ((x, y), c)) (g x) (λ y. told_goes (λ c. (x, y))))
+  both_goes f g = chained_goes one (λ x c. two x c >>= λ y. told {X = (X × Y) × ReadState} ((x, y.0), y.1)) f (λ x. chained_goes (two x) (λ y c. told {X = (X × Y) × ReadState} ((x, y), c)) (g x) (λ y. told_goes (λ c. (x, y))))
 
   both_metered : IsMetered one → ((x : X) → IsMetered (two x)) → IsMetered {X = X × Y} (both_at one two)
   unfolding both_at
-  both_metered f g = bind_metered one (λ x c. two x c >>= λ y. told {X = (X × Y) × Course} ((x, y.0), y.1)) f (λ x. bind_metered (two x) (λ y c. told {X = (X × Y) × Course} ((x, y), c)) (g x) (λ y. pure_metered (x, y)))
+  both_metered f g = bind_metered one (λ x c. two x c >>= λ y. told {X = (X × Y) × ReadState} ((x, y.0), y.1)) f (λ x. bind_metered (two x) (λ y c. told {X = (X × Y) × ReadState} ((x, y), c)) (g x) (λ y. pure_metered (x, y)))
 
   pub both_reads : Reads a one One → ((x : X) → Reads a (two x) (Two x)) → Reads {X = X × Y} a (both_at one two) (SpellsBoth One Two)
   both_reads r s = record { item = both_item r.item (λ x. (s x).item); goes = both_goes r.goes (λ x. (s x).goes); metered = both_metered r.metered (λ x. (s x).metered) }
@@ -91,27 +91,27 @@ module _ (g : Setting) (name : NameId) where
   abbrev a : Align
   a = align_of g.options
 
-  abbrev item : Courser Value
+  abbrev item : ContextReader Value
   item c = item_at (represented_by g name) a name c
 
-  no_type : Course → Value × Course → Result (Value × Course) Failure
-  no_type c found = Err (record { fault = record { kind = kind.BadType; bit = c.spot.place }; meter = found.1.beside.meter })
+  no_type : ReadState → Value × ReadState → Result (Value × ReadState) Failure
+  no_type c found = Err (record { fault = record { kind = kind.BadType; bit = c.spot.place }; meter = found.1.context.meter })
 
-  lax : (b : Bool) (c : Course) (p q : Value × Course) → cond b (no_type c p) (told p) ≡ told q → (b ≡ false) × (p ≡ q)
+  lax : (b : Bool) (c : ReadState) (p q : Value × ReadState) → cond b (no_type c p) (told p) ≡ told q → (b ≡ false) × (p ≡ q)
   unfolding no_type
   lax true c p q e = absurd cc
   lax false c p q e = (refl, told_is p q e)
 
-  value_item : CourseItem {X = Value} a (attribute_value_at g name) (SpellsAttributeValue g name)
+  value_item : ContextItem {X = Value} a (attribute_value_at g name) (SpellsAttributeValue g name)
   unfolding attribute_value_at no_type
   value_item = record { takes = taking; again = reading; whole = λ x w v text h. (item_item (represented_by g name) a name).whole x w v text h.spelled }
     where
-      taking : (x : Value) (c d : Course) → IsBytes c.spot.bytes → IsAligned a c.spot → attribute_value_at g name c ≡ told (x, d) → Went a (SpellsAttributeValue g name x) c d
+      taking : (x : Value) (c d : ReadState) → IsBytes c.spot.bytes → IsAligned a c.spot → attribute_value_at g name c ≡ told (x, d) → Went a (SpellsAttributeValue g name x) c d
       taking x c d fits al r =
-          let u = bind_told (item c) (λ (found : Value × Course). cond (is_missing g name) (no_type c found) (told found)) (x, d) r in
+          let u = bind_told (item c) (λ (found : Value × ReadState). cond (is_missing g name) (no_type c found) (told found)) (x, d) r in
           let e = lax (is_missing g name) c u.0 (x, d) u.2 in
           let k = (item_item (represented_by g name) a name).takes u.0.0 c u.0.1 fits al u.1 in
-          subst (λ (z : Value × Course). Went a (SpellsAttributeValue g name z.0) c z.1) e.1 (record {
+          subst (λ (z : Value × ReadState). Went a (SpellsAttributeValue g name z.0) c z.1) e.1 (record {
             text = k.text;
             spelled = record { there = e.0; spelled = k.spelled };
             front = k.front;
@@ -119,23 +119,23 @@ module _ (g : Setting) (name : NameId) where
             fits = k.fits;
           })
 
-      reading : (x : Value) (s : Spot) (w v : Beside) (text more : List Bool) → IsBytes s.bytes → IsAligned a s → SpellsAttributeValue g name x w v text → rest s ≡ text ++ more → attribute_value_at g name (course s w) ≡ told (x, course (moved s (length text)) v)
+      reading : (x : Value) (s : Spot) (w v : Context) (text more : List Bool) → IsBytes s.bytes → IsAligned a s → SpellsAttributeValue g name x w v text → rest s ≡ text ++ more → attribute_value_at g name (read_state s w) ≡ told (x, read_state (moved s (length text)) v)
       reading x s w v text more fits al h e =
           let r = (item_item (represented_by g name) a name).again x s w v text more fits al h.spelled e in
           rw (r, h.there) refl
 
-  value_goes : GoesOnward {X = Value} (attribute_value_at g name)
+  value_goes : ReadsOn {X = Value} (attribute_value_at g name)
   unfolding attribute_value_at no_type
   value_goes x c d r =
-      let u = bind_told (item c) (λ (found : Value × Course). cond (is_missing g name) (no_type c found) (told found)) (x, d) r in
+      let u = bind_told (item c) (λ (found : Value × ReadState). cond (is_missing g name) (no_type c found) (told found)) (x, d) r in
       let e = lax (is_missing g name) c u.0 (x, d) u.2 in
-      subst (λ (z : Value × Course). Onward c z.1) e.1 (item_goes (represented_by g name) a name u.0.0 c u.0.1 u.1)
+      subst (λ (z : Value × ReadState). Continues c z.1) e.1 (item_goes (represented_by g name) a name u.0.0 c u.0.1 u.1)
 
   value_metered : IsMetered {X = Value} (attribute_value_at g name)
   unfolding attribute_value_at no_type
-  value_metered s p = bind_metered (item) (λ found k. cond (is_missing g name) (Err (record { fault = record { kind = kind.BadType; bit = s.place }; meter = k.beside.meter })) (told {X = Value × Course} (found, k))) (item_metered (represented_by g name) a name) (λ found. by_missing found (is_missing g name)) s p
+  value_metered s p = bind_metered (item) (λ found k. cond (is_missing g name) (Err (record { fault = record { kind = kind.BadType; bit = s.place }; meter = k.context.meter })) (told {X = Value × ReadState} (found, k))) (item_metered (represented_by g name) a name) (λ found. by_missing found (is_missing g name)) s p
     where
-      by_missing : (found : Value) (b : Bool) → IsMetered {X = Value} (λ k. cond b (Err (record { fault = record { kind = kind.BadType; bit = s.place }; meter = k.beside.meter })) (told {X = Value × Course} (found, k)))
+      by_missing : (found : Value) (b : Bool) → IsMetered {X = Value} (λ k. cond b (Err (record { fault = record { kind = kind.BadType; bit = s.place }; meter = k.context.meter })) (told {X = Value × ReadState} (found, k)))
       by_missing found true t q = record { charges = []; rest = Err (record { kind = kind.BadType; bit = s.place }); is = λ m. refl }
       by_missing found false t q = pure_metered found t q
 

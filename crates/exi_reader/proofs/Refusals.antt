@@ -11,9 +11,9 @@ use Rattle.exi_gram.specs.Codes.{code_at}
 use Rattle.exi_gram.specs.Switches.{align_of}
 use Rattle.exi_gram.proofs.CodeLaws.{spelled_item}
 use Rattle.exi_meter.specs.Metering.{Metering, event_fits, level_fits, with_event, with_level}
-use Rattle.exi_typed.specs.Courses.{Beside, Course, Failure, failing}
-use Rattle.exi_typed.proofs.CourseItems.{CourseItem, fine, told, told_is}
-use Rattle.exi_reader.specs.Configurations.{Config, Setting, course_in, reached, rules_of, spot_in}
+use Rattle.exi_typed.specs.ReadStates.{Context, ReadState, Failure, failing}
+use Rattle.exi_typed.proofs.ContextItems.{ContextItem, fine, told, told_is}
+use Rattle.exi_reader.specs.Configurations.{Config, Setting, read_state_in, reached, rules_of, spot_in}
 use Rattle.exi_reader.specs.OneEvent.{at_event, behind, charge_at, event_charge, followed, level_charge, moved_limit, one, remembered, unless}
 use Rattle.exi_reader.specs.Plans.{Given, Plan, alone_in, plan_of}
 use Rattle.exi_reader.specs.Refused.{FaultIsRefused, HasOne, HasRefusal, IsBehindCode, IsPlanRefused, IsRefusedBefore, OneSpelledOrOneFault, RefusedIsFault, failure_of}
@@ -99,35 +99,35 @@ event_fault bit (Ok x) e h = absurd (no_told x e h)
 event_fault {X} bit (Err f) e h = (f, refl, sym (fails_is {X = X} (with_limit_at bit f) e h))
 
 module _ (b : Align) (bytes : List ℕ) (octets : IsBytes bytes) where
-  plan_refused : (bit : ℕ) (p : Plan) → CourseItem {X = p.Item} b p.read p.Spells → (c : Config) (e : Failure) → IsAligned b (spot_in bytes c) → followed bytes bit p c ≡ fails e → IsPlanRefused bytes bit p c e
+  plan_refused : (bit : ℕ) (p : Plan) → ContextItem {X = p.Item} b p.read p.Spells → (c : Config) (e : Failure) → IsAligned b (spot_in bytes c) → followed bytes bit p c ≡ fails e → IsPlanRefused bytes bit p c e
   unfolding followed
-  plan_refused bit p item c e al h = elim (bind_fails (charge_at bit p c.meter) (λ (m : Metering). at_event bit (p.read (course_in bytes m c)) >>= λ found. unless (p.refused found.0) bit found.1.beside.meter >>= λ free. told (remembered (p.make found.0 (reached (behind p.padded found.1) c)))) e h) [
+  plan_refused bit p item c e al h = elim (bind_fails (charge_at bit p c.meter) (λ (m : Metering). at_event bit (p.read (read_state_in bytes m c)) >>= λ found. unless (p.refused found.0) bit found.1.context.meter >>= λ free. told (remembered (p.make found.0 (reached (behind p.padded found.1) c)))) e h) [
     | inl u ↦ inl (before_refused bit p c.meter e u)
     | inr u ↦ reading u.0 (charge_is bit p c.meter u.0 u.1) u.2
   ]
     where
-      ending : (m : Metering) → IsCharged p c.meter m → (found : p.Item × Course) → p.read (course_in bytes m c) ≡ told found → (unless (p.refused found.0) bit found.1.beside.meter >>= λ free. told (remembered (p.make found.0 (reached (behind p.padded found.1) c)))) ≡ fails e → IsPlanRefused bytes bit p c e
-      ending m charged found r l = elim (bind_fails (unless (p.refused found.0) bit found.1.beside.meter) (λ (free : Metering). told (remembered (p.make found.0 (reached (behind p.padded found.1) c)))) e l) [
+      ending : (m : Metering) → IsCharged p c.meter m → (found : p.Item × ReadState) → p.read (read_state_in bytes m c) ≡ told found → (unless (p.refused found.0) bit found.1.context.meter >>= λ free. told (remembered (p.make found.0 (reached (behind p.padded found.1) c)))) ≡ fails e → IsPlanRefused bytes bit p c e
+      ending m charged found r l = elim (bind_fails (unless (p.refused found.0) bit found.1.context.meter) (λ (free : Metering). told (remembered (p.make found.0 (reached (behind p.padded found.1) c)))) e l) [
         | inl u ↦ (
-            let k = unless_fails (p.refused found.0) bit found.1.beside.meter e u in
-            let t = item.takes found.0 (course_in bytes m c) found.1 octets al r in
-            inr (inr (record { meter = m; charged = charged; item = found.0; content = t.text; more = rest found.1.spot; stands = t.front.parts; after = found.1.beside; spelled = t.spelled; kind = k.0; refused = k.1; is = k.2 }))
+            let k = unless_fails (p.refused found.0) bit found.1.context.meter e u in
+            let t = item.takes found.0 (read_state_in bytes m c) found.1 octets al r in
+            inr (inr (record { meter = m; charged = charged; item = found.0; content = t.text; more = rest found.1.spot; stands = t.front.parts; after = found.1.context; spelled = t.spelled; kind = k.0; refused = k.1; is = k.2 }))
             )
         | inr u ↦ absurd (no_told (remembered (p.make found.0 (reached (behind p.padded found.1) c))) e u.2)
       ]
 
-      reading : (m : Metering) → IsCharged p c.meter m → (at_event bit (p.read (course_in bytes m c)) >>= λ found. unless (p.refused found.0) bit found.1.beside.meter >>= λ free. told (remembered (p.make found.0 (reached (behind p.padded found.1) c)))) ≡ fails e → IsPlanRefused bytes bit p c e
-      reading m charged l = elim (bind_fails (at_event bit (p.read (course_in bytes m c))) (λ (found : p.Item × Course). unless (p.refused found.0) bit found.1.beside.meter >>= λ free. told (remembered (p.make found.0 (reached (behind p.padded found.1) c)))) e l) [
-        | inl u ↦ (let k = event_fault bit (p.read (course_in bytes m c)) e u in inr (inl (record { meter = m; charged = charged; failure = k.0; refused = k.1; is = k.2 })))
-        | inr u ↦ ending m charged u.0 (at_event_is bit (p.read (course_in bytes m c)) u.0 u.1) u.2
+      reading : (m : Metering) → IsCharged p c.meter m → (at_event bit (p.read (read_state_in bytes m c)) >>= λ found. unless (p.refused found.0) bit found.1.context.meter >>= λ free. told (remembered (p.make found.0 (reached (behind p.padded found.1) c)))) ≡ fails e → IsPlanRefused bytes bit p c e
+      reading m charged l = elim (bind_fails (at_event bit (p.read (read_state_in bytes m c))) (λ (found : p.Item × ReadState). unless (p.refused found.0) bit found.1.context.meter >>= λ free. told (remembered (p.make found.0 (reached (behind p.padded found.1) c)))) e l) [
+        | inl u ↦ (let k = event_fault bit (p.read (read_state_in bytes m c)) e u in inr (inl (record { meter = m; charged = charged; failure = k.0; refused = k.1; is = k.2 })))
+        | inr u ↦ ending m charged u.0 (at_event_is bit (p.read (read_state_in bytes m c)) u.0 u.1) u.2
       ]
 
-  plan_again : (bit : ℕ) (p : Plan) → CourseItem {X = p.Item} b p.read p.Spells → (c : Config) (e : Failure) → IsAligned b (spot_in bytes c) → IsPlanRefused bytes bit p c e → followed bytes bit p c ≡ fails e
+  plan_again : (bit : ℕ) (p : Plan) → ContextItem {X = p.Item} b p.read p.Spells → (c : Config) (e : Failure) → IsAligned b (spot_in bytes c) → IsPlanRefused bytes bit p c e → followed bytes bit p c ≡ fails e
   unfolding followed
   plan_again bit p item c e al (inl h) = rw (before_again bit p c.meter e h) refl
   plan_again bit p item c e al (inr (inl h)) = rw (charge_again bit p c.meter h.meter h.charged, h.refused) (ap (λ (z : Failure). fails z) (sym h.is))
   plan_again bit p item c e al (inr (inr h)) =
-      let w : Beside = record { meter = h.meter; tables = c.tables } in
+      let w : Context = record { meter = h.meter; tables = c.tables } in
       let r = item.again h.item (spot_in bytes c) w h.after h.content h.more octets al h.spelled h.stands in
       rw (charge_again bit p c.meter h.meter h.charged, r, h.refused) (ap (λ (z : Failure). fails z) (sym h.is))
 

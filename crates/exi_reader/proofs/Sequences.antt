@@ -6,8 +6,8 @@ use Rattle.exi_gram.specs.Switches.{fragment}
 use Rattle.exi_meter.specs.Metering.{Bounds}
 use Rattle.exi_names.specs.Events.{Happening}
 use Rattle.exi_names.specs.Events as happening
-use Rattle.exi_typed.specs.Courses.{Failure}
-use Rattle.exi_typed.proofs.CourseItems.{told, told_is}
+use Rattle.exi_typed.specs.ReadStates.{Failure}
+use Rattle.exi_typed.proofs.ContextItems.{told, told_is}
 use Rattle.exi_reader.specs.Configurations.{Config, Setting, body_outer}
 use Rattle.exi_reader.specs.Fragments.{begins, fragments_at, fragments_in}
 use Rattle.exi_reader.specs.Laws.{AFaultEnds, ARunIsThere, ASequenceIsThere, FewTurns, HasFault, HasStep, IsFrontOfRun, NeverBack, OneRun, OneSequence, OneStepOrOneFault}

@@ -5,7 +5,7 @@ use Rattle.std.proofs.lemmas.Bool.{cases_Bool, leb-true, le-leb}
 use Rattle.exi_bits.specs.declared.fault.Fault.{Fault}
 use Rattle.exi_meter.specs.Metering.{Bounds, Metering, tally_fits, with_tally}
 use Rattle.exi_meter.specs.declared.tally.Tally.{Tally}
-use Rattle.exi_typed.specs.Courses.{Failure}
+use Rattle.exi_typed.specs.ReadStates.{Failure}
 use Rattle.exi_reader.specs.Changes.{left_level}
 use Rattle.exi_reader.specs.Metered.{Due, Outcome, due_fits, event, level, limit_of, outcome, paying, text, with_due}
 use Rattle.exi_reader.specs.Plans.{Given}

@@ -18,12 +18,12 @@ use Rattle.exi_names.specs.Events.{Happening}
 use Rattle.exi_names.specs.Events as happening
 use Rattle.exi_names.specs.Seen.{Value}
 use Rattle.exi_tables.specs.Partitions.{Partitions, live_at, locals, uris}
-use Rattle.exi_typed.specs.Courses.{Course}
-use Rattle.exi_typed.specs.Onward.{Onward}
+use Rattle.exi_typed.specs.ReadStates.{ReadState}
+use Rattle.exi_typed.specs.Continues.{Continues}
 use Rattle.exi_typed.specs.Strings.{Named, known_at, placed_at, prefix_at}
-use Rattle.exi_typed.proofs.CourseItems.{bind_told, told, told_is}
+use Rattle.exi_typed.proofs.ContextItems.{bind_told, told, told_is}
 use Rattle.exi_reader.specs.Changes.{enclosing, has_level, innermost, is_alone, learned_in, left_level, moved_elements, outer_behind, resumed, room_in, state_room, texts_of}
-use Rattle.exi_reader.specs.Configurations.{Body, Config, Setting, course_in, first_tables, reached}
+use Rattle.exi_reader.specs.Configurations.{Body, Config, Setting, read_state_in, first_tables, reached}
 use Rattle.exi_reader.specs.Contents.{attribute_value_at, both_at, told_name_at}
 use Rattle.exi_reader.specs.OneEvent.{behind, is_start, remembered}
 use Rattle.exi_reader.specs.Plans.{Alone, Given, Plan, alone_in, at_end, at_first, at_start, nowhere, plan_of, plan_on}
@@ -44,36 +44,36 @@ use Rattle.exi_reader.proofs.Readings.{name_reads, value_reads}
 use Rattle.exi_reader.proofs.Standing.{name_is_least, name_on}
 
 -- ---- names that are read stand
-told_id : (keep : Bool) (a : Align) (id : NameId) (c d : Course) (x : Named) → known_at keep a id c ≡ told (x, d) → x.id ≡ id
+told_id : (keep : Bool) (a : Align) (id : NameId) (c d : ReadState) (x : Named) → known_at keep a id c ≡ told (x, d) → x.id ≡ id
 unfolding known_at
 told_id keep a id c d x e =
     let name : List ℕ → List ℕ → Option (List ℕ) → Named = λ uri local prefix. record { id = id; name = record { uri = uri; local = local; prefix = prefix } } in
-    let u = bind_told (placed_at c.spot (live_at (uris c.beside.tables) id.uri) c) (λ (uri : List ℕ × Course). placed_at c.spot (live_at (locals uri.1.beside.tables id.uri) id.local) uri.1 >>= λ local. prefix_at keep a id.uri local.1 >>= λ prefix. told (name uri.0 local.0 prefix.0, prefix.1)) (x, d) e in
-    let v = bind_told (placed_at c.spot (live_at (locals u.0.1.beside.tables id.uri) id.local) u.0.1) (λ (local : List ℕ × Course). prefix_at keep a id.uri local.1 >>= λ prefix. told (name u.0.0 local.0 prefix.0, prefix.1)) (x, d) u.2 in
-    let w = bind_told (prefix_at keep a id.uri v.0.1) (λ (prefix : Option (List ℕ) × Course). told (name u.0.0 v.0.0 prefix.0, prefix.1)) (x, d) v.2 in
-    sym (ap (λ (z : Named × Course). z.0.id) (told_is (name u.0.0 v.0.0 w.0.0, w.0.1) (x, d) w.2))
+    let u = bind_told (placed_at c.spot (live_at (uris c.context.tables) id.uri) c) (λ (uri : List ℕ × ReadState). placed_at c.spot (live_at (locals uri.1.context.tables id.uri) id.local) uri.1 >>= λ local. prefix_at keep a id.uri local.1 >>= λ prefix. told (name uri.0 local.0 prefix.0, prefix.1)) (x, d) e in
+    let v = bind_told (placed_at c.spot (live_at (locals u.0.1.context.tables id.uri) id.local) u.0.1) (λ (local : List ℕ × ReadState). prefix_at keep a id.uri local.1 >>= λ prefix. told (name u.0.0 local.0 prefix.0, prefix.1)) (x, d) u.2 in
+    let w = bind_told (prefix_at keep a id.uri v.0.1) (λ (prefix : Option (List ℕ) × ReadState). told (name u.0.0 v.0.0 prefix.0, prefix.1)) (x, d) v.2 in
+    sym (ap (λ (z : Named × ReadState). z.0.id) (told_is (name u.0.0 v.0.0 w.0.0, w.0.1) (x, d) w.2))
 
 -- of a name that the code tells, it stands before
 FitsTelling : Partitions → Telling → Type 0
 FitsTelling p spelled = Unit {0}
 FitsTelling p (known id) = IsLeastName p id
 
-name_stands : (g : Setting) (t : Telling) (c d : Course) (x : Named) → FitsTelling c.beside.tables t → told_name_at g t c ≡ told (x, d) → IsLeastName d.beside.tables x.id
+name_stands : (g : Setting) (t : Telling) (c d : ReadState) (x : Named) → FitsTelling c.context.tables t → told_name_at g t c ≡ told (x, d) → IsLeastName d.context.tables x.id
 unfolding FitsTelling
 name_stands g spelled c d x h e = name_is_least (prefixes g.options) (align_of g.options) c d x e
 name_stands g (known id) c d x h e =
-    let o : Onward c d = (name_reads g (known id)).goes x c d e in
-    subst (λ (z : NameId). IsLeastName d.beside.tables z) (sym (told_id (prefixes g.options) (align_of g.options) id c d x e)) (name_on c.beside.tables d.beside.tables id o.keeps h)
+    let o : Continues c d = (name_reads g (known id)).goes x c d e in
+    subst (λ (z : NameId). IsLeastName d.context.tables z) (sym (told_id (prefixes g.options) (align_of g.options) id c d x e)) (name_on c.context.tables d.context.tables id o.keeps h)
 
-attribute_stands : (g : Setting) (t : Telling) (c d : Course) (x : Named × Value) → FitsTelling c.beside.tables t → both_at (told_name_at g t) (λ name. attribute_value_at g name.id) c ≡ told (x, d) → IsLeastName d.beside.tables x.0.id
+attribute_stands : (g : Setting) (t : Telling) (c d : ReadState) (x : Named × Value) → FitsTelling c.context.tables t → both_at (told_name_at g t) (λ name. attribute_value_at g name.id) c ≡ told (x, d) → IsLeastName d.context.tables x.0.id
 unfolding both_at
 attribute_stands g t c d x h e =
-    let u = bind_told (told_name_at g t c) (λ (n : Named × Course). attribute_value_at g n.0.id n.1 >>= λ y. told {X = (Named × Value) × Course} ((n.0, y.0), y.1)) (x, d) e in
-    let v = bind_told (attribute_value_at g u.0.0.id u.0.1) (λ (y : Value × Course). told {X = (Named × Value) × Course} ((u.0.0, y.0), y.1)) (x, d) u.2 in
-    let named : IsLeastName u.0.1.beside.tables u.0.0.id = name_stands g t c u.0.1 u.0.0 h u.1 in
-    let o : Onward u.0.1 v.0.1 = (value_reads g u.0.0.id).goes v.0.0 u.0.1 v.0.1 v.1 in
-    let stands : IsLeastName v.0.1.beside.tables u.0.0.id = name_on u.0.1.beside.tables v.0.1.beside.tables u.0.0.id o.keeps named in
-    subst (λ (z : (Named × Value) × Course). IsLeastName z.1.beside.tables z.0.0.id) (told_is ((u.0.0, v.0.0), v.0.1) (x, d) v.2) stands
+    let u = bind_told (told_name_at g t c) (λ (n : Named × ReadState). attribute_value_at g n.0.id n.1 >>= λ y. told {X = (Named × Value) × ReadState} ((n.0, y.0), y.1)) (x, d) e in
+    let v = bind_told (attribute_value_at g u.0.0.id u.0.1) (λ (y : Value × ReadState). told {X = (Named × Value) × ReadState} ((u.0.0, y.0), y.1)) (x, d) u.2 in
+    let named : IsLeastName u.0.1.context.tables u.0.0.id = name_stands g t c u.0.1 u.0.0 h u.1 in
+    let o : Continues u.0.1 v.0.1 = (value_reads g u.0.0.id).goes v.0.0 u.0.1 v.0.1 v.1 in
+    let stands : IsLeastName v.0.1.context.tables u.0.0.id = name_on u.0.1.context.tables v.0.1.context.tables u.0.0.id o.keeps named in
+    subst (λ (z : (Named × Value) × ReadState). IsLeastName z.1.context.tables z.0.0.id) (told_is ((u.0.0, v.0.0), v.0.1) (x, d) v.2) stands
 
 -- what a plan reads has names that stand
 ItemStands : (g : Setting) (a : Alone) (c : Config) (r : Rule) (t : Terminal) → (plan_on g a c r t).Item → Partitions → Type 0
@@ -137,7 +137,7 @@ attribute_tells p o es spelled to h = tt
 attribute_tells p o (e ∷ es) (known id) to h = h
 attribute_tells p o [] (known id) to h = absurd (attribute_outside p o (known id) to h)
 
-item_stands : (g : Setting) (a : Alone) (c : Config) (r : Rule) (t : Terminal) (k d : Course) (x : (plan_on g a c r t).Item) → k.beside.tables ≡ c.tables → FitsIn c.tables c.outer c.elements t r.to → (plan_on g a c r t).read k ≡ told (x, d) → ItemStands g a c r t x d.beside.tables
+item_stands : (g : Setting) (a : Alone) (c : Config) (r : Rule) (t : Terminal) (k d : ReadState) (x : (plan_on g a c r t).Item) → k.context.tables ≡ c.tables → FitsIn c.tables c.outer c.elements t r.to → (plan_on g a c r t).read k ≡ told (x, d) → ItemStands g a c r t x d.context.tables
 unfolding ItemStands
 item_stands g a c r start_document k d x same h e = tt
 item_stands g a c r end_document k d x same h e = tt
@@ -523,11 +523,11 @@ counted_level : (b : Bool) (m : Metering) → (counted_by b m).level ≡ m.level
 counted_level true m = refl
 counted_level false m = refl
 
-before_behind : (b : Bool) (j : Course) (c : Config) (entered : Bool) → Before (reached j c) entered → Before (reached (behind b j) c) entered
+before_behind : (b : Bool) (j : ReadState) (c : Config) (entered : Bool) → Before (reached j c) entered → Before (reached (behind b j) c) entered
 before_behind true j c entered f = record { body = f.body; level = f.level; aside = f.aside }
 before_behind false j c entered f = f
 
-stands_behind : (P : Partitions → Type 0) (b : Bool) (j : Course) → P j.beside.tables → P (behind b j).beside.tables
+stands_behind : (P : Partitions → Type 0) (b : Bool) (j : ReadState) → P j.context.tables → P (behind b j).context.tables
 stands_behind P true j h = h
 stands_behind P false j h = h
 
@@ -565,17 +565,17 @@ steps_keep_sound g bytes c d e book s h =
     let a : Alone = alone_in c.elements c.outer in
     let p : Plan = plan_of g c u.rule in
     let on : Config = at_place c u.spot.place in
-    let k : Config = reached (behind p.padded t.course) on in
+    let k : Config = reached (behind p.padded t.read_state) on in
     let fit = codes_fit g bytes c u.rule u.spot book s u.code in
-    let goes : Onward (course_in bytes t.meter on) t.course = (plan_reads g a c u.rule u.rule.on).goes t.item (course_in bytes t.meter on) t.course t.read in
-    let level : t.course.beside.meter.level ≡ c.meter.level + one_more p.entered =
+    let goes : Continues (read_state_in bytes t.meter on) t.read_state = (plan_reads g a c u.rule u.rule.on).goes t.item (read_state_in bytes t.meter on) t.read_state t.read in
+    let level : t.read_state.context.meter.level ≡ c.meter.level + one_more p.entered =
     ap (λ (z : Metering). z.level) goes.meter ∙ ap (λ (z : Metering). z.level) t.charged.after ∙ entered_level p.entered (counted_by p.counted c.meter) ∙ ap (λ (n : ℕ). n + one_more p.entered) (counted_level p.counted c.meter) in
-    let b : Before k p.entered = before_behind p.padded t.course on p.entered (record {
-      body = body_went c.tables t.course.beside.tables c.learned c.elements c.outer goes.keeps s.body;
+    let b : Before k p.entered = before_behind p.padded t.read_state on p.entered (record {
+      body = body_went c.tables t.read_state.context.tables c.learned c.elements c.outer goes.keeps s.body;
       level = omega (arith, level, s.level);
       aside = s.aside;
     }) in
-    let stands : ItemStands g a c u.rule u.rule.on t.item k.tables = stands_behind (λ z. ItemStands g a c u.rule u.rule.on t.item z) p.padded t.course (item_stands g a c u.rule u.rule.on (course_in bytes t.meter on) t.course t.item refl fit.0 t.read) in
+    let stands : ItemStands g a c u.rule u.rule.on t.item k.tables = stands_behind (λ z. ItemStands g a c u.rule u.rule.on t.item z) p.padded t.read_state (item_stands g a c u.rule u.rule.on (read_state_in bytes t.meter on) t.read_state t.item refl fit.0 t.read) in
     let lev = levels_at g a c u.rule u.rule.on k refl refl s.after_start t.charged.placed in
     let after : After (p.make t.item k) = plan_sound g c u.rule fit.1 a u.rule.on t.item k b refl t.charged.free lev stands fit.0 in
     subst (λ (z : Given). IsSound z.1) (sym t.is) (remembered_sound (p.make t.item k) after)

@@ -18,8 +18,8 @@ use Rattle.exi_names.specs.Events.{Happening}
 use Rattle.exi_names.specs.StartTables.{IsStart}
 use Rattle.exi_names.specs.declared.names.QName.{QName}
 use Rattle.exi_tables.specs.Partitions.{Partitions}
-use Rattle.exi_typed.specs.Courses.{Failure}
-use Rattle.exi_typed.proofs.CourseItems.{fine, told}
+use Rattle.exi_typed.specs.ReadStates.{Failure}
+use Rattle.exi_typed.proofs.ContextItems.{fine, told}
 use Rattle.exi_reader.specs.Changes.{is_alone, resumed, same_texts}
 use Rattle.exi_reader.specs.Configurations.{Body, Config, Setting, rules_in, rules_of, spot_in}
 use Rattle.exi_reader.specs.OneEvent.{one}

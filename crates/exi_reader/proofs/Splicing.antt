@@ -7,8 +7,8 @@ use Rattle.exi_gram.specs.Books.{IsBook}
 use Rattle.exi_meter.specs.Metering.{Metering, with_tally, without_level}
 use Rattle.exi_meter.specs.declared.tally.Tally.{Tally}
 use Rattle.exi_names.specs.Events.{Happening}
-use Rattle.exi_typed.specs.Courses.{Failure}
-use Rattle.exi_typed.proofs.CourseItems.{told}
+use Rattle.exi_typed.specs.ReadStates.{Failure}
+use Rattle.exi_typed.proofs.ContextItems.{told}
 use Rattle.exi_reader.specs.Changes.{is_alone, outer_behind, resumed, same_texts}
 use Rattle.exi_reader.specs.Configurations.{Body, Config, Setting, reached}
 use Rattle.exi_reader.specs.Metered.{Due, Outcome, due_fits, limit_of, outcome, paying, with_due}
@@ -119,13 +119,13 @@ module _ (g : Setting) (bytes : List ℕ) where
   one_start c given h =
       let u = stepped g bytes c given h in
       let t = u.rest_is in
-      ap (λ (z : Given). z.1.start) t.is ∙ (made_stays g (alone_in c.elements c.outer) c u.rule u.rule.on t.item (reached (behind (plan_of g c u.rule).padded t.course) (at_place c u.spot.place))).start
+      ap (λ (z : Given). z.1.start) t.is ∙ (made_stays g (alone_in c.elements c.outer) c u.rule u.rule.on t.item (reached (behind (plan_of g c u.rule).padded t.read_state) (at_place c u.spot.place))).start
 
   one_after : (c : Config) (given : Given) → one g bytes c ≡ told given → given.1.after_start ≡ is_start given.0
   one_after c given h =
       let u = stepped g bytes c given h in
       let t = u.rest_is in
-      let made : Given = (plan_of g c u.rule).make t.item (reached (behind (plan_of g c u.rule).padded t.course) (at_place c u.spot.place)) in
+      let made : Given = (plan_of g c u.rule).make t.item (reached (behind (plan_of g c u.rule).padded t.read_state) (at_place c u.spot.place)) in
       ap (λ (z : Given). z.1.after_start) t.is ∙ sym (ap (λ (z : Given). is_start z.0) t.is)
 
   -- the end of a fragment has used all

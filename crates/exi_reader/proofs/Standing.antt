@@ -4,7 +4,7 @@ use Rattle.exi_bits.specs.declared.align.Align.{Align}
 use Rattle.exi_names.specs.declared.names.NameId.{NameId}
 use Rattle.exi_tables.specs.Growth.{KeepsAll}
 use Rattle.exi_tables.specs.Partitions.{Partitions, locals, uris}
-use Rattle.exi_typed.specs.Courses.{Course}
+use Rattle.exi_typed.specs.ReadStates.{ReadState}
 use Rattle.exi_typed.specs.Strings.{Named, name_at}
 use Rattle.exi_typed.proofs.Standing.{keeps_least, names_stand}
 use Rattle.exi_reader.specs.Sound.{IsLeastName}
@@ -17,7 +17,7 @@ name_on p q name keeps n = record {
   least_local = keeps_least (locals p name.uri) (locals q name.uri) n.local name.local (keeps.each_local name.uri) n.least_local;
 }
 
-pub name_is_least : (keep : Bool) (a : Align) (c d : Course) (x : Named) → name_at keep a c ≡ Ok (x, d) → IsLeastName d.beside.tables x.id
+pub name_is_least : (keep : Bool) (a : Align) (c d : ReadState) (x : Named) → name_at keep a c ≡ Ok (x, d) → IsLeastName d.context.tables x.id
 name_is_least keep a c d x e =
     let s = names_stand keep a x c d e in
     record { uri = x.name.uri; local = x.name.local; least_uri = s.uri; least_local = s.local }

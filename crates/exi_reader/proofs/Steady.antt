@@ -24,7 +24,7 @@ use Rattle.exi_names.specs.Events.{Happening, at, ch, cm, dt, ed, ee, er, ns, pi
 use Rattle.exi_names.specs.StartTables.{IsStart, Names}
 use Rattle.exi_tables.specs.Growth.{NoneLonger}
 use Rattle.exi_tables.specs.Partitions.{IsName, Partitions, locals, uris}
-use Rattle.exi_typed.proofs.CourseItems.{bind_fine, fine, fine_is}
+use Rattle.exi_typed.proofs.ContextItems.{bind_fine, fine, fine_is}
 use Rattle.exi_reader.specs.Changes.{has_level, innermost, is_alone, outer_room, room_in, state_room}
 use Rattle.exi_reader.specs.Configurations.{Body, Config, Setting, first_config, rules_of, spot_in}
 use Rattle.exi_reader.specs.Fews.{Few, FewGrammars, FewLearned}

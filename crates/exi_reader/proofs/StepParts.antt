@@ -15,12 +15,12 @@ use Rattle.exi_names.specs.declared.names.NameId.{NameId}
 use Rattle.exi_names.specs.Events as event
 use Rattle.exi_names.specs.Seen.{Value}
 use Rattle.exi_names.specs.Seen as value
-use Rattle.exi_typed.specs.Courses.{Course, Courser, Failure, failing}
+use Rattle.exi_typed.specs.ReadStates.{ReadState, ContextReader, Failure, failing}
 use Rattle.exi_typed.specs.Items.{item_at, qualified, string}
 use Rattle.exi_typed.specs.Strings.{Named, value_at}
-use Rattle.exi_typed.proofs.CourseItems.{fine, fine_is, told}
+use Rattle.exi_typed.proofs.ContextItems.{fine, fine_is, told}
 use Rattle.exi_reader.specs.declared.frames.Outer.TheVariants as outer
-use Rattle.exi_reader.specs.Configurations.{Body, Config, Setting, course_in, reached, rules_of, spot_in}
+use Rattle.exi_reader.specs.Configurations.{Body, Config, Setting, read_state_in, reached, rules_of, spot_in}
 use Rattle.exi_reader.specs.Handing.{charged_at, charges_on, known_at_code, known_rule, known_terminal, leading_to, learned_by, making, opening_to, root_at, string_made, value_made}
 use Rattle.exi_reader.specs.OneEvent.{at_event, behind, charge_at, followed, moved_limit, one, remembered, unless}
 use Rattle.exi_reader.specs.Changes.{enclosing, inner_state, learns_name, moved_elements, moves, outer_behind, resumed, room_in, with_inner}
@@ -109,46 +109,46 @@ abbrev made_of : Given → Result Given Failure
 made_of given = Ok given
 
 module _ (bytes : List ℕ) (bit : ℕ) (p : Plan) (c : Config) where
-  abbrev made : p.Item × Course → Result Given Failure
-  made found = unless (p.refused found.0) bit found.1.beside.meter >>= λ free. Ok (remembered (p.make found.0 (reached (behind p.padded found.1) c)))
+  abbrev made : p.Item × ReadState → Result Given Failure
+  made found = unless (p.refused found.0) bit found.1.context.meter >>= λ free. Ok (remembered (p.make found.0 (reached (behind p.padded found.1) c)))
 
   by_free : (x : Given) (m : Metering) (o : Option Kind) → (unless o bit m >>= λ free. Ok x) ≡ at_event bit (unless o bit m >>= λ free. Ok x)
   by_free x m None = refl
   by_free x m (Some k) = ap (λ (f : Fault). failed_by f m) (sym (stays_there k bit))
 
-  by_read : (r : Result (p.Item × Course) Failure) → (at_event bit r >>= made) ≡ at_event bit (r >>= made)
+  by_read : (r : Result (p.Item × ReadState) Failure) → (at_event bit r >>= made) ≡ at_event bit (r >>= made)
   by_read (Err e) = refl
-  by_read (Ok found) = by_free (remembered (p.make found.0 (reached (behind p.padded found.1) c))) found.1.beside.meter (p.refused found.0)
+  by_read (Ok found) = by_free (remembered (p.make found.0 (reached (behind p.padded found.1) c))) found.1.context.meter (p.refused found.0)
 
-  by_charge : (r : Result Metering Failure) → (r >>= λ m. at_event bit (p.read (course_in bytes m c)) >>= made) ≡ (r >>= λ m. at_event bit (making bytes bit p (record c { meter = m })))
+  by_charge : (r : Result Metering Failure) → (r >>= λ m. at_event bit (p.read (read_state_in bytes m c)) >>= made) ≡ (r >>= λ m. at_event bit (making bytes bit p (record c { meter = m })))
   unfolding making
   by_charge (Err e) = refl
-  by_charge (Ok m) = by_read (p.read (course_in bytes m c))
+  by_charge (Ok m) = by_read (p.read (read_state_in bytes m c))
 
   followed_is : followed bytes bit p c ≡ (charge_at bit p c.meter >>= λ m. at_event bit (making bytes bit p (record c { meter = m })))
   unfolding followed
   followed_is = by_charge (charge_at bit p c.meter)
 
 -- the content is read, and not refused
-pub made_by : (bytes : List ℕ) (bit : ℕ) (p : Plan) (c : Config) (x : p.Item) (k : Course) → p.read (course_in bytes c.meter c) ≡ Ok (x, k) → p.refused x ≡ None → making bytes bit p c ≡ Ok (remembered (p.make x (reached (behind p.padded k) c)))
+pub made_by : (bytes : List ℕ) (bit : ℕ) (p : Plan) (c : Config) (x : p.Item) (k : ReadState) → p.read (read_state_in bytes c.meter c) ≡ Ok (x, k) → p.refused x ≡ None → making bytes bit p c ≡ Ok (remembered (p.make x (reached (behind p.padded k) c)))
 unfolding making
 made_by bytes bit p c x k e f =
-    ap (λ (r : Result (p.Item × Course) Failure). r >>= made bytes bit p c) e
-    ∙ ap (λ (o : Option Kind). unless o bit k.beside.meter >>= λ free. made_of (remembered (p.make x (reached (behind p.padded k) c)))) f
+    ap (λ (r : Result (p.Item × ReadState) Failure). r >>= made bytes bit p c) e
+    ∙ ap (λ (o : Option Kind). unless o bit k.context.meter >>= λ free. made_of (remembered (p.make x (reached (behind p.padded k) c)))) f
 
-abbrev as_text : List ℕ × Course → Result (Value × Course) Failure
+abbrev as_text : List ℕ × ReadState → Result (Value × ReadState) Failure
 as_text t = Ok (value.text t.0, t.1)
 
 -- a string value, by its text
-pub string_item : (a : Align) (name : NameId) (c k : Course) (text : List ℕ) → value_at None a name c ≡ Ok (text, k) → item_at string a name c ≡ Ok (value.text text, k)
+pub string_item : (a : Align) (name : NameId) (c k : ReadState) (text : List ℕ) → value_at None a name c ≡ Ok (text, k) → item_at string a name c ≡ Ok (value.text text, k)
 unfolding item_at
-string_item a name c k text e = ap (λ (r : Result (List ℕ × Course) Failure). r >>= λ t. as_text t) e
+string_item a name c k text e = ap (λ (r : Result (List ℕ × ReadState) Failure). r >>= λ t. as_text t) e
 
 -- ---- SD, ED and SE, which are events but in a fragment that stands for one element
-pub start_made : (bytes : List ℕ) (bit : ℕ) (a : Alone) (to : ℕ) (c : Config) → no_element a ≡ None → (b : Bool) → is_event a ≡ b → making bytes bit (start_plan a (leading_to to)) c ≡ Ok (remembered (cond b (Some event.sd) None, moves to (reached (course_in bytes c.meter c) c)))
+pub start_made : (bytes : List ℕ) (bit : ℕ) (a : Alone) (to : ℕ) (c : Config) → no_element a ≡ None → (b : Bool) → is_event a ≡ b → making bytes bit (start_plan a (leading_to to)) c ≡ Ok (remembered (cond b (Some event.sd) None, moves to (reached (read_state_in bytes c.meter c) c)))
 start_made bytes bit a to c f b h =
-    made_by bytes bit (start_plan a (leading_to to)) c tt (course_in bytes c.meter c) refl f
-    ∙ ap (λ (z : Bool). made_of (remembered (cond z (Some event.sd) None, moves to (reached (course_in bytes c.meter c) c)))) h
+    made_by bytes bit (start_plan a (leading_to to)) c tt (read_state_in bytes c.meter c) refl f
+    ∙ ap (λ (z : Bool). made_of (remembered (cond z (Some event.sd) None, moves to (reached (read_state_in bytes c.meter c) c)))) h
 
 -- what is made of an element's name, field by field
 abbrev pub with_element : Alone → Telling → ℕ → Option ℕ → Named → Config → Config
@@ -169,7 +169,7 @@ made_element at_first (known id) to inner name c = refl
 made_element at_end spelled to inner name c = refl
 made_element at_end (known id) to inner name c = refl
 
-pub element_told : (g : Setting) (bytes : List ℕ) (bit : ℕ) (a : Alone) (t : Telling) (to : ℕ) (inner : Option ℕ) (c : Config) (name : Named) (k : Course) → told_name_at g t (course_in bytes c.meter c) ≡ Ok (name, k) → wrong_element a c.aside name.name ≡ None → (b : Bool) → is_event a ≡ b →
+pub element_told : (g : Setting) (bytes : List ℕ) (bit : ℕ) (a : Alone) (t : Telling) (to : ℕ) (inner : Option ℕ) (c : Config) (name : Named) (k : ReadState) → told_name_at g t (read_state_in bytes c.meter c) ≡ Ok (name, k) → wrong_element a c.aside name.name ≡ None → (b : Bool) → is_event a ≡ b →
     making bytes bit (element_plan g a c.aside t (opening_to to inner)) c ≡ Ok (remembered (cond b (Some (event.se name.name)) None, with_element a t to inner name (reached k c)))
 element_told g bytes bit a t to inner c name k e f b h =
     made_by bytes bit (element_plan g a c.aside t (opening_to to inner)) c name k e f
@@ -177,20 +177,20 @@ element_told g bytes bit a t to inner c name k e f b h =
     ∙ ap (λ (z : Bool). made_of (remembered (cond z (Some (event.se name.name)) None, with_element a t to inner name (reached k c)))) h)
 
 pub end_event : (bytes : List ℕ) (bit : ℕ) (a : Alone) (c : Config) → is_event a ≡ true → making bytes bit (end_plan a) c ≡ Ok (remembered (Some event.ed, record c { outer = outer.Ended }))
-end_event bytes bit nowhere c h = made_by bytes bit (end_plan nowhere) c tt (course_in bytes c.meter c) refl refl
+end_event bytes bit nowhere c h = made_by bytes bit (end_plan nowhere) c tt (read_state_in bytes c.meter c) refl refl
 end_event bytes bit at_start c h = absurd cc
 end_event bytes bit at_first c h = absurd cc
 end_event bytes bit at_end c h = absurd cc
 
 -- at the next whole byte
 abbrev pub padded : List ℕ → Config → Config
-padded bytes c = reached (behind true (course_in bytes c.meter c)) c
+padded bytes c = reached (behind true (read_state_in bytes c.meter c)) c
 
 end_quiet : (bytes : List ℕ) (bit : ℕ) (a : Alone) (c : Config) → is_event a ≡ false → no_element a ≡ None → making bytes bit (end_plan a) c ≡ Ok (remembered (None, resumed c.aside (padded bytes c)))
 end_quiet bytes bit nowhere c h f = absurd cc
-end_quiet bytes bit at_start c h f = made_by bytes bit (end_plan at_start) c tt (course_in bytes c.meter c) refl refl
+end_quiet bytes bit at_start c h f = made_by bytes bit (end_plan at_start) c tt (read_state_in bytes c.meter c) refl refl
 end_quiet bytes bit at_first c h f = absurd cc
-end_quiet bytes bit at_end c h f = made_by bytes bit (end_plan at_end) c tt (course_in bytes c.meter c) refl refl
+end_quiet bytes bit at_end c h f = made_by bytes bit (end_plan at_end) c tt (read_state_in bytes c.meter c) refl refl
 
 abbrev with_aside : List Body → Config → Config
 with_aside bs c = record c { aside = bs }
@@ -207,27 +207,27 @@ end_within bytes bit a c b bs h f e =
     ∙ ap (λ (all : List Body). made_of (remembered (None, resumed all (padded bytes c)))) e
 
 -- ---- one thing behind another
-abbrev pair_of : {X : Type 0} → X → Course → Result (X × Course) Failure
+abbrev pair_of : {X : Type 0} → X → ReadState → Result (X × ReadState) Failure
 pair_of x k = Ok (x, k)
 
-pub both_ok : {X Y : Type 0} (one : Courser X) (two : X → Courser Y) (c d e : Course) (x : X) (y : Y) → one c ≡ Ok (x, d) → two x d ≡ Ok (y, e) → both_at one two c ≡ Ok ((x, y), e)
+pub both_ok : {X Y : Type 0} (one : ContextReader X) (two : X → ContextReader Y) (c d e : ReadState) (x : X) (y : Y) → one c ≡ Ok (x, d) → two x d ≡ Ok (y, e) → both_at one two c ≡ Ok ((x, y), e)
 unfolding both_at
 both_ok {X} {Y} one two c d e x y h k =
-    ap (λ (r : Result (X × Course) Failure). r >>= λ z. two z.0 z.1 >>= λ w. pair_of {X = X × Y} (z.0, w.0) w.1) h
-    ∙ ap (λ (r : Result (Y × Course) Failure). r >>= λ w. pair_of {X = X × Y} (x, w.0) w.1) k
+    ap (λ (r : Result (X × ReadState) Failure). r >>= λ z. two z.0 z.1 >>= λ w. pair_of {X = X × Y} (z.0, w.0) w.1) h
+    ∙ ap (λ (r : Result (Y × ReadState) Failure). r >>= λ w. pair_of {X = X × Y} (x, w.0) w.1) k
 
-pub two_texts : (g : Setting) (c d e : Course) (x y : List ℕ) → text_at g c ≡ Ok (x, d) → text_at g d ≡ Ok (y, e) → two_texts_at g c ≡ Ok ((x, y), e)
+pub two_texts : (g : Setting) (c d e : ReadState) (x y : List ℕ) → text_at g c ≡ Ok (x, d) → text_at g d ≡ Ok (y, e) → two_texts_at g c ≡ Ok ((x, y), e)
 two_texts g c d e x y h k = both_ok (text_at g) (λ first. text_at g) c d e x y h k
 
-pub four_texts : (g : Setting) (c d e i j : Course) (x y z w : List ℕ) → text_at g c ≡ Ok (x, d) → text_at g d ≡ Ok (y, e) → text_at g e ≡ Ok (z, i) → text_at g i ≡ Ok (w, j) → four_texts_at g c ≡ Ok (((x, y), (z, w)), j)
+pub four_texts : (g : Setting) (c d e i j : ReadState) (x y z w : List ℕ) → text_at g c ≡ Ok (x, d) → text_at g d ≡ Ok (y, e) → text_at g e ≡ Ok (z, i) → text_at g i ≡ Ok (w, j) → four_texts_at g c ≡ Ok (((x, y), (z, w)), j)
 four_texts g c d e i j x y z w h k l m = both_ok (two_texts_at g) (λ first. two_texts_at g) c e j (x, y) (z, w) (two_texts g c d e x y h k) (two_texts g e i j z w l m)
 
 -- ---- attributes
-abbrev found_of : Value → Course → Result (Value × Course) Failure
+abbrev found_of : Value → ReadState → Result (Value × ReadState) Failure
 found_of v k = Ok (v, k)
 
-abbrev missing : ℕ → Value × Course → Result (Value × Course) Failure
-missing bit found = Err (record { fault = record { kind = kind.BadType; bit = bit }; meter = found.1.beside.meter })
+abbrev missing : ℕ → Value × ReadState → Result (Value × ReadState) Failure
+missing bit found = Err (record { fault = record { kind = kind.BadType; bit = bit }; meter = found.1.context.meter })
 
 abbrev pub with_attribute : Telling → ℕ → Named → Config → Config
 with_attribute t to name c = record c {
@@ -240,32 +240,32 @@ made_attribute : (t : Telling) (to : ℕ) (name : Named) (c : Config) → moves 
 made_attribute spelled to name c = refl
 made_attribute (known id) to name c = refl
 
-value_behind : (g : Setting) (bit : ℕ) (a : Alone) (t : Telling) (to : ℕ) (c : Config) (name : Named) (r : Result (Value × Course) Failure) →
-    ((r >>= λ y. pair_of {X = Named × Value} (name, y.0) y.1) >>= λ found. unless (no_element a) bit found.1.beside.meter >>= λ free. made_of (remembered (Some (event.at found.0.0.name found.0.1), moves to (learns_name t (used.At found.0.0.id) (reached found.1 c)))))
-    ≡ (r >>= λ found. unless (no_element a) bit found.1.beside.meter >>= λ free. made_of (remembered (Some (event.at name.name found.0), with_attribute t to name (reached found.1 c))))
+value_behind : (g : Setting) (bit : ℕ) (a : Alone) (t : Telling) (to : ℕ) (c : Config) (name : Named) (r : Result (Value × ReadState) Failure) →
+    ((r >>= λ y. pair_of {X = Named × Value} (name, y.0) y.1) >>= λ found. unless (no_element a) bit found.1.context.meter >>= λ free. made_of (remembered (Some (event.at found.0.0.name found.0.1), moves to (learns_name t (used.At found.0.0.id) (reached found.1 c)))))
+    ≡ (r >>= λ found. unless (no_element a) bit found.1.context.meter >>= λ free. made_of (remembered (Some (event.at name.name found.0), with_attribute t to name (reached found.1 c))))
 value_behind g bit a t to c name (Err e) = refl
-value_behind g bit a t to c name (Ok found) = ap (λ (n : Config). unless (no_element a) bit found.1.beside.meter >>= λ free. made_of (remembered (Some (event.at name.name found.0), n))) (made_attribute t to name (reached found.1 c))
+value_behind g bit a t to c name (Ok found) = ap (λ (n : Config). unless (no_element a) bit found.1.context.meter >>= λ free. made_of (remembered (Some (event.at name.name found.0), n))) (made_attribute t to name (reached found.1 c))
 
 -- behind the name
-pub valued : (g : Setting) (bytes : List ℕ) (bit : ℕ) (a : Alone) (t : Telling) (to : ℕ) (c : Config) (name : Named) (d : Course) → told_name_at g t (course_in bytes c.meter c) ≡ Ok (name, d) →
+pub valued : (g : Setting) (bytes : List ℕ) (bit : ℕ) (a : Alone) (t : Telling) (to : ℕ) (c : Config) (name : Named) (d : ReadState) → told_name_at g t (read_state_in bytes c.meter c) ≡ Ok (name, d) →
     making bytes bit (attribute_plan g a t (leading_to to)) c ≡ value_made g d.spot.bytes bit a name (with_attribute t to name (reached d c))
 unfolding making both_at value_made
 valued g bytes bit a t to c name d h =
-    ap (λ (r : Result (Named × Course) Failure). (r >>= λ x. attribute_value_at g x.0.id x.1 >>= λ y. pair_of {X = Named × Value} (x.0, y.0) y.1) >>= λ found. unless (no_element a) bit found.1.beside.meter >>= λ free. made_of (remembered (Some (event.at found.0.0.name found.0.1), moves to (learns_name t (used.At found.0.0.id) (reached found.1 c))))) h
+    ap (λ (r : Result (Named × ReadState) Failure). (r >>= λ x. attribute_value_at g x.0.id x.1 >>= λ y. pair_of {X = Named × Value} (x.0, y.0) y.1) >>= λ found. unless (no_element a) bit found.1.context.meter >>= λ free. made_of (remembered (Some (event.at found.0.0.name found.0.1), moves to (learns_name t (used.At found.0.0.id) (reached found.1 c))))) h
     ∙ value_behind g bit a t to c name (attribute_value_at g name.id d)
 
-as_string : (keep is_strict : Bool) (a : Align) (name : NameId) (c : Course) (b : Bool) → b ≡ false → (item_at (cond b (qualified keep) string) a name c >>= λ found. cond (b && is_strict) (missing c.spot.place found) (Ok found)) ≡ (value_at None a name c >>= λ t. as_text t)
+as_string : (keep is_strict : Bool) (a : Align) (name : NameId) (c : ReadState) (b : Bool) → b ≡ false → (item_at (cond b (qualified keep) string) a name c >>= λ found. cond (b && is_strict) (missing c.spot.place found) (Ok found)) ≡ (value_at None a name c >>= λ t. as_text t)
 unfolding item_at
 as_string keep is_strict a name c true h = absurd cc
 as_string keep is_strict a name c false h = twice (value_at None a name c)
   where
-    twice : (r : Result (List ℕ × Course) Failure) → ((r >>= λ t. as_text t) >>= λ found. found_of found.0 found.1) ≡ (r >>= λ t. as_text t)
+    twice : (r : Result (List ℕ × ReadState) Failure) → ((r >>= λ t. as_text t) >>= λ found. found_of found.0 found.1) ≡ (r >>= λ t. as_text t)
     twice (Err e) = refl
     twice (Ok t) = refl
 
-string_behind : (bit : ℕ) (a : Alone) (name : Named) (c : Config) (r : Result (List ℕ × Course) Failure) →
-    ((r >>= λ t. as_text t) >>= λ found. unless (no_element a) bit found.1.beside.meter >>= λ free. made_of (Some (event.at name.name found.0), record (reached found.1 c) { after_start = false }))
-    ≡ (r >>= λ found. unless (no_element a) bit found.1.beside.meter >>= λ free. made_of (Some (event.at name.name (value.text found.0)), record (reached found.1 c) { after_start = false }))
+string_behind : (bit : ℕ) (a : Alone) (name : Named) (c : Config) (r : Result (List ℕ × ReadState) Failure) →
+    ((r >>= λ t. as_text t) >>= λ found. unless (no_element a) bit found.1.context.meter >>= λ free. made_of (Some (event.at name.name found.0), record (reached found.1 c) { after_start = false }))
+    ≡ (r >>= λ found. unless (no_element a) bit found.1.context.meter >>= λ free. made_of (Some (event.at name.name (value.text found.0)), record (reached found.1 c) { after_start = false }))
 string_behind bit a name c (Err e) = refl
 string_behind bit a name c (Ok t) = refl
 
@@ -273,20 +273,20 @@ string_behind bit a name c (Ok t) = refl
 pub string_is : (g : Setting) (bytes : List ℕ) (bit : ℕ) (a : Alone) (name : Named) (c : Config) → is_type name.id ≡ false → value_made g bytes bit a name c ≡ string_made g bytes bit a name c
 unfolding value_made string_made attribute_value_at
 string_is g bytes bit a name c h =
-    ap (λ (r : Result (Value × Course) Failure). r >>= λ found. unless (no_element a) bit found.1.beside.meter >>= λ free. made_of (Some (event.at name.name found.0), record (reached found.1 c) { after_start = false })) (as_string (prefixes g.options) (strict g.options) (align_of g.options) name.id (course_in bytes c.meter c) (is_type name.id) h)
-    ∙ string_behind bit a name c (value_at None (align_of g.options) name.id (course_in bytes c.meter c))
+    ap (λ (r : Result (Value × ReadState) Failure). r >>= λ found. unless (no_element a) bit found.1.context.meter >>= λ free. made_of (Some (event.at name.name found.0), record (reached found.1 c) { after_start = false })) (as_string (prefixes g.options) (strict g.options) (align_of g.options) name.id (read_state_in bytes c.meter c) (is_type name.id) h)
+    ∙ string_behind bit a name c (value_at None (align_of g.options) name.id (read_state_in bytes c.meter c))
 
-pub string_by : (g : Setting) (bytes : List ℕ) (bit : ℕ) (a : Alone) (name : Named) (c : Config) (text : List ℕ) (k : Course) → value_at None (align_of g.options) name.id (course_in bytes c.meter c) ≡ Ok (text, k) → no_element a ≡ None → string_made g bytes bit a name c ≡ Ok (Some (event.at name.name (value.text text)), record (reached k c) { after_start = false })
+pub string_by : (g : Setting) (bytes : List ℕ) (bit : ℕ) (a : Alone) (name : Named) (c : Config) (text : List ℕ) (k : ReadState) → value_at None (align_of g.options) name.id (read_state_in bytes c.meter c) ≡ Ok (text, k) → no_element a ≡ None → string_made g bytes bit a name c ≡ Ok (Some (event.at name.name (value.text text)), record (reached k c) { after_start = false })
 unfolding string_made
 string_by g bytes bit a name c text k e f =
-    ap (λ (r : Result (List ℕ × Course) Failure). r >>= λ found. unless (no_element a) bit found.1.beside.meter >>= λ free. made_of (Some (event.at name.name (value.text found.0)), record (reached found.1 c) { after_start = false })) e
-    ∙ ap (λ (o : Option Kind). unless o bit k.beside.meter >>= λ free. made_of (Some (event.at name.name (value.text text)), record (reached k c) { after_start = false })) f
+    ap (λ (r : Result (List ℕ × ReadState) Failure). r >>= λ found. unless (no_element a) bit found.1.context.meter >>= λ free. made_of (Some (event.at name.name (value.text found.0)), record (reached found.1 c) { after_start = false })) e
+    ∙ ap (λ (o : Option Kind). unless o bit k.context.meter >>= λ free. made_of (Some (event.at name.name (value.text text)), record (reached k c) { after_start = false })) f
 
-pub value_by : (g : Setting) (bytes : List ℕ) (bit : ℕ) (a : Alone) (name : Named) (c : Config) (found : Value) (k : Course) → attribute_value_at g name.id (course_in bytes c.meter c) ≡ Ok (found, k) → no_element a ≡ None → value_made g bytes bit a name c ≡ Ok (Some (event.at name.name found), record (reached k c) { after_start = false })
+pub value_by : (g : Setting) (bytes : List ℕ) (bit : ℕ) (a : Alone) (name : Named) (c : Config) (found : Value) (k : ReadState) → attribute_value_at g name.id (read_state_in bytes c.meter c) ≡ Ok (found, k) → no_element a ≡ None → value_made g bytes bit a name c ≡ Ok (Some (event.at name.name found), record (reached k c) { after_start = false })
 unfolding value_made
 value_by g bytes bit a name c found k e f =
-    ap (λ (r : Result (Value × Course) Failure). r >>= λ found. unless (no_element a) bit found.1.beside.meter >>= λ free. made_of (Some (event.at name.name found.0), record (reached found.1 c) { after_start = false })) e
-    ∙ ap (λ (o : Option Kind). unless o bit k.beside.meter >>= λ free. made_of (Some (event.at name.name found), record (reached k c) { after_start = false })) f
+    ap (λ (r : Result (Value × ReadState) Failure). r >>= λ found. unless (no_element a) bit found.1.context.meter >>= λ free. made_of (Some (event.at name.name found.0), record (reached found.1 c) { after_start = false })) e
+    ∙ ap (λ (o : Option Kind). unless o bit k.context.meter >>= λ free. made_of (Some (event.at name.name found), record (reached k c) { after_start = false })) f
 
 -- ---- with the code
 module _ (g : Setting) (bytes : List ℕ) (c : Config) where

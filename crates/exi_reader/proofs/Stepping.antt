@@ -3,7 +3,7 @@ use Rattle.std.proofs.Common.{◌≡◌, ◌≤◌, ℕ, Bool, true, false, Opti
 use Rattle.exi_meter.specs.Metering.{Metering}
 use Rattle.exi_names.specs.declared.names.NameId.{NameId}
 use Rattle.exi_tables.specs.Partitions.{IsName, Partitions}
-use Rattle.exi_typed.specs.Courses.{Failure}
+use Rattle.exi_typed.specs.ReadStates.{Failure}
 use Rattle.exi_reader.specs.Configurations.{Config, Setting, rules_of, spot_in}
 use Rattle.exi_reader.specs.Handing.{HasLevels, HasNames, HasRoom, IsTold, Standing, charged_at, charges_on, code_name, known_at_code, making, telling_of, told_id, with_place}
 use Rattle.exi_reader.specs.Plans.{Alone, Plan, alone_in, plan_on}

@@ -8,11 +8,11 @@ use Rattle.exi_meter.specs.Metering.{Metering, event_fits, with_text}
 use Rattle.exi_meter.specs.declared.tally.Tally.{Tally}
 use Rattle.exi_names.specs.Events.{Happening}
 use Rattle.exi_names.specs.Events as happening
-use Rattle.exi_typed.specs.Courses.{Course}
-use Rattle.exi_typed.specs.Onward.{Onward}
-use Rattle.exi_typed.proofs.CourseItems.{told}
+use Rattle.exi_typed.specs.ReadStates.{ReadState}
+use Rattle.exi_typed.specs.Continues.{Continues}
+use Rattle.exi_typed.proofs.ContextItems.{told}
 use Rattle.exi_reader.specs.Changes.{outer_behind, resumed}
-use Rattle.exi_reader.specs.Configurations.{Body, Config, Setting, course_in, reached, rules_of, spot_in}
+use Rattle.exi_reader.specs.Configurations.{Body, Config, Setting, read_state_in, reached, rules_of, spot_in}
 use Rattle.exi_reader.specs.Fragments.{begins}
 use Rattle.exi_reader.specs.OneEvent.{behind, one, remembered}
 use Rattle.exi_reader.specs.Plans.{Alone, Given, Plan, alone_in, at_end, at_first, at_start, ended_in, nowhere, plan_of, plan_on}
@@ -173,11 +173,11 @@ charged_meter p b m n h k = (ap (λ (z : Metering). z.used.events) k.after ∙ e
     counted_limits true i = refl
     counted_limits false i = refl
 
-behind_meter : (b : Bool) (k : Course) → (behind b k).beside.meter ≡ k.beside.meter
+behind_meter : (b : Bool) (k : ReadState) → (behind b k).context.meter ≡ k.context.meter
 behind_meter true k = refl
 behind_meter false k = refl
 
-behind_place : (b : Bool) (k : Course) → k.spot.place ≤ (behind b k).spot.place
+behind_place : (b : Bool) (k : ReadState) → k.spot.place ≤ (behind b k).spot.place
 behind_place true k = omega arith
 behind_place false k = omega arith
 
@@ -194,17 +194,17 @@ step_is g bytes c d e h =
     let a : Alone = alone_in c.elements c.outer in
     let p : Plan = plan_of g c u.rule in
     let on : Config = at_place c u.spot.place in
-    let k : Config = reached (behind p.padded t.course) on in
+    let k : Config = reached (behind p.padded t.read_state) on in
     let made : Given = p.make t.item k in
     let stays = made_stays g a c u.rule u.rule.on t.item k in
-    let goes : Onward (course_in bytes t.meter on) t.course = (plan_reads g a c u.rule u.rule.on).goes t.item (course_in bytes t.meter on) t.course t.read in
+    let goes : Continues (read_state_in bytes t.meter on) t.read_state = (plan_reads g a c u.rule u.rule.on).goes t.item (read_state_in bytes t.meter on) t.read_state t.read in
     let gives : Gives p.counted made k = plan_gives g c u.rule a u.rule.on t.item k refl t.charged.free t.free in
     let m = charged_meter p p.counted c.meter t.meter refl t.charged in
-    let read_meter : k.meter ≡ with_text t.meter goes.units = behind_meter p.padded t.course ∙ goes.meter in
+    let read_meter : k.meter ≡ with_text t.meter goes.units = behind_meter p.padded t.read_state ∙ goes.meter in
     let ev : events made.1 ≡ (counted_by p.counted c.meter).used.events = ap (λ (z : Tally). z.events) stays.used ∙ ap (λ (z : Metering). z.used.events) read_meter ∙ m.0 in
     let limits : made.1.meter.limits ≡ c.meter.limits = stays.limits ∙ ap (λ (z : Metering). z.limits) read_meter ∙ m.1 in
     let code : c.place ≤ u.spot.place = (code_goes (align_of g.options) (rules_of g c) (u.rule, u.spot) (spot_in bytes c) u.code).place in
-    let far : c.place ≤ made.1.place = omega (arith, code, goes.place, behind_place p.padded t.course, stays.place) in
+    let far : c.place ≤ made.1.place = omega (arith, code, goes.place, behind_place p.padded t.read_state, stays.place) in
     let counts : Counts made.0 c made.1 = given_counts p.counted made k c gives refl ev t.charged.counted in
     subst (λ (z : Given). Steps c z.0 z.1) (sym t.is) (record { place = far; limits = limits; counts = by_event made.0 made.1 counts })
   where

@@ -9,7 +9,7 @@ use Rattle.exi_meter.specs.Metering.{Bounds, IsWithinStream, Metering}
 use Rattle.exi_names.specs.Events.{Happening}
 use Rattle.exi_names.specs.Events as event
 use Rattle.exi_names.specs.StartTables.{IsStart}
-use Rattle.exi_typed.specs.Courses.{Failure}
+use Rattle.exi_typed.specs.ReadStates.{Failure}
 use Rattle.exi_tables.specs.Partitions.{IsName}
 use Rattle.exi_reader.specs.Changes.{has_level, innermost, put_aside, texts_of}
 use Rattle.exi_reader.specs.Configurations.{Body, Config, Setting, first_config}

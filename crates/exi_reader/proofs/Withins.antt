@@ -11,10 +11,10 @@ use Rattle.exi_gram.specs.Switches.{align_of}
 use Rattle.exi_meter.specs.Metering.{Bounds, Metering, event_fits, level_fits, text_fits, with_event, with_level, with_text}
 use Rattle.exi_meter.specs.declared.tally.Tally.{Tally}
 use Rattle.exi_names.specs.Events.{Happening}
-use Rattle.exi_typed.specs.Courses.{Course, Courser, Failure, failing}
+use Rattle.exi_typed.specs.ReadStates.{ReadState, ContextReader, Failure, failing}
 use Rattle.exi_typed.specs.Metered.{Charge, IsMetered, Unmetered, charging}
-use Rattle.exi_typed.proofs.CourseItems.{told}
-use Rattle.exi_reader.specs.Configurations.{Config, Setting, course_in, reached, rules_of, spot_in}
+use Rattle.exi_typed.proofs.ContextItems.{told}
+use Rattle.exi_reader.specs.Configurations.{Config, Setting, read_state_in, reached, rules_of, spot_in}
 use Rattle.exi_reader.specs.Laws.{IsWithinLimits, LimitsAreKept}
 use Rattle.exi_reader.specs.OneEvent.{at_event, behind, charge_at, event_charge, failed, followed, level_charge, one, remembered, unless}
 use Rattle.exi_reader.specs.Plans.{Given, Plan, alone_in, plan_of}
@@ -54,8 +54,8 @@ level_within limits m w fits =
 
 -- ---- a reading
 -- whatever is answered
-abbrev Fine : {X : Type 0} → Bounds → Result (X × Course) Failure → Type 0
-Fine limits (Ok x) = Within limits x.1.beside.meter
+abbrev Fine : {X : Type 0} → Bounds → Result (X × ReadState) Failure → Type 0
+Fine limits (Ok x) = Within limits x.1.context.meter
 Fine limits (Err e) = Within limits e.meter
 
 charging_within : {X : Type 0} (limits : Bounds) (ks : List Charge) (m : Metering) (r : Unmetered X) → Within limits m → Fine limits (charging ks m r)
@@ -67,10 +67,10 @@ charging_within {X} limits (k ∷ ks) m r w = by_fit (charging_within limits ks 
     by_fit f true e = f (text_within limits m k.units w e)
     by_fit f false e = w
 
-read_within : {X : Type 0} (limits : Bounds) (read : Courser X) → IsMetered read → (c : Course) → Within limits c.beside.meter → Fine limits (read c)
+read_within : {X : Type 0} (limits : Bounds) (read : ContextReader X) → IsMetered read → (c : ReadState) → Within limits c.context.meter → Fine limits (read c)
 read_within {X} limits read metered c w =
-    let h = metered c.spot c.beside.tables in
-    subst (λ (z : Result (X × Course) Failure). Fine limits z) (sym (h.is c.beside.meter)) (charging_within limits h.charges c.beside.meter h.rest w)
+    let h = metered c.spot c.context.tables in
+    subst (λ (z : Result (X × ReadState) Failure). Fine limits z) (sym (h.is c.context.meter)) (charging_within limits h.charges c.context.meter h.rest w)
 
 -- ---- a plan
 abbrev Kept : Bounds → Result Given Failure → Type 0
@@ -115,11 +115,11 @@ module _ (limits : Bounds) (bit : ℕ) where
       (λ i u. subst (λ (z : Result Given Failure). Kept limits z) (sym (in_turn (unless p.misplaced bit i) three more))
       (unless_kept p.misplaced i (λ j. three j >>= more) u (λ j t. level_kept p.entered j more t f))))))
 
-  read_kept : {X : Type 0} (r : Result (X × Course) Failure) (more : X × Course → Result Given Failure) → Fine limits r → ((x : X × Course) → Within limits x.1.beside.meter → Kept limits (more x)) → Kept limits (at_event bit r >>= more)
+  read_kept : {X : Type 0} (r : Result (X × ReadState) Failure) (more : X × ReadState → Result Given Failure) → Fine limits r → ((x : X × ReadState) → Within limits x.1.context.meter → Kept limits (more x)) → Kept limits (at_event bit r >>= more)
   read_kept (Ok x) more w f = f x w
   read_kept (Err e) more w f = w
 
-  behind_within : (b : Bool) (k : Course) → Within limits k.beside.meter → Within limits (behind b k).beside.meter
+  behind_within : (b : Bool) (k : ReadState) → Within limits k.context.meter → Within limits (behind b k).context.meter
   behind_within true k w = w
   behind_within false k w = w
 
@@ -129,9 +129,9 @@ module _ (limits : Bounds) (bit : ℕ) where
   followed_kept : (bytes : List ℕ) (p : Plan) → IsMetered {X = p.Item} p.read → ((x : p.Item) (k : Config) → Stays k (p.make x k).1) → (c : Config) → Within limits c.meter → Kept limits (followed bytes bit p c)
   unfolding followed
   followed_kept bytes p metered stays c w =
-      charge_kept p c.meter (λ m. at_event bit (p.read (course_in bytes m c)) >>= λ found. unless (p.refused found.0) bit found.1.beside.meter >>= λ free. told (remembered (p.make found.0 (reached (behind p.padded found.1) c)))) w
-      (λ m v. read_kept (p.read (course_in bytes m c)) (λ found. unless (p.refused found.0) bit found.1.beside.meter >>= λ free. told (remembered (p.make found.0 (reached (behind p.padded found.1) c)))) (read_within limits p.read metered (course_in bytes m c) v)
-      (λ found u. unless_kept (p.refused found.0) found.1.beside.meter (λ free. told (remembered (p.make found.0 (reached (behind p.padded found.1) c)))) u
+      charge_kept p c.meter (λ m. at_event bit (p.read (read_state_in bytes m c)) >>= λ found. unless (p.refused found.0) bit found.1.context.meter >>= λ free. told (remembered (p.make found.0 (reached (behind p.padded found.1) c)))) w
+      (λ m v. read_kept (p.read (read_state_in bytes m c)) (λ found. unless (p.refused found.0) bit found.1.context.meter >>= λ free. told (remembered (p.make found.0 (reached (behind p.padded found.1) c)))) (read_within limits p.read metered (read_state_in bytes m c) v)
+      (λ found u. unless_kept (p.refused found.0) found.1.context.meter (λ free. told (remembered (p.make found.0 (reached (behind p.padded found.1) c)))) u
       (λ n t. made_within (reached (behind p.padded found.1) c) (p.make found.0 (reached (behind p.padded found.1) c)).1 (stays found.0 (reached (behind p.padded found.1) c)) (behind_within p.padded found.1 u))))
 
 -- ---- one event

@@ -11,7 +11,7 @@ use Rattle.exi_gram.specs.Switches.{fragment}
 use Rattle.exi_meter.specs.Metering.{Bounds, Metering, nothing_used}
 use Rattle.exi_names.specs.declared.names.QName.{QName}
 use Rattle.exi_tables.specs.Partitions.{Partitions, first_partitions}
-use Rattle.exi_typed.specs.Courses.{Course}
+use Rattle.exi_typed.specs.ReadStates.{ReadState}
 use Rattle.exi_reader.specs.Rules.{Rule, book_rule, built_in_rule, fragment_start}
 use Rattle.exi_reader.specs.declared.frames.Element.{Element}
 use Rattle.exi_reader.specs.declared.frames.Outer.{Outer}
@@ -117,9 +117,9 @@ rules_of g c = rules_in g c.learned c.elements c.outer
 abbrev pub spot_in : List ℕ → Config → Spot
 spot_in bytes c = record { bytes = bytes; place = c.place }
 
-abbrev pub course_in : List ℕ → Metering → Config → Course
-course_in bytes meter c = record { spot = spot_in bytes c; beside = record { meter = meter; tables = c.tables } }
+abbrev pub read_state_in : List ℕ → Metering → Config → ReadState
+read_state_in bytes meter c = record { spot = spot_in bytes c; context = record { meter = meter; tables = c.tables } }
 
 -- reading came so far
-abbrev pub reached : Course → Config → Config
-reached k c = record c { place = k.spot.place; meter = k.beside.meter; tables = k.beside.tables }
+abbrev pub reached : ReadState → Config → Config
+reached k c = record c { place = k.spot.place; meter = k.context.meter; tables = k.context.tables }

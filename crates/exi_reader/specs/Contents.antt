@@ -6,7 +6,7 @@ use Rattle.exi_builtin.specs.Learning.{is_type}
 use Rattle.exi_gram.specs.Switches.{align_of, prefixes, strict}
 use Rattle.exi_names.specs.declared.names.NameId.{NameId}
 use Rattle.exi_names.specs.Seen.{Value}
-use Rattle.exi_typed.specs.Courses.{Beside, Courser}
+use Rattle.exi_typed.specs.ReadStates.{Context, ContextReader}
 use Rattle.exi_typed.specs.Items.{SpellsItem, Tabled, item_at, qualified, string}
 use Rattle.exi_typed.specs.Laws.{Spelling}
 use Rattle.exi_typed.specs.Spelled.{Follows, SpellsKnown, SpellsLiteral, SpellsName}
@@ -15,15 +15,15 @@ use Rattle.exi_reader.specs.Configurations.{Setting}
 use Rattle.exi_reader.specs.Rules.{Telling, known, spelled}
 
 -- ---- nothing
-abbrev pub nothing_at : Courser (Unit {0})
+abbrev pub nothing_at : ContextReader (Unit {0})
 nothing_at c = Ok (tt, c)
 
-pub record SpellsNothing (x : Unit {0}) (w v : Beside) (text : List Bool) : Type 0 where
+pub record SpellsNothing (x : Unit {0}) (w v : Context) (text : List Bool) : Type 0 where
   pub bits : text ≡ []
   pub after : v ≡ w
 
 -- ---- one thing, and behind it another that may depend on it
-unfoldable pub both_at : {X Y : Type 0} → Courser X → (X → Courser Y) → Courser (X × Y)
+unfoldable pub both_at : {X Y : Type 0} → ContextReader X → (X → ContextReader Y) → ContextReader (X × Y)
 both_at one two c = do
   x ← one c
   y ← two x.0 x.1
@@ -33,11 +33,11 @@ abbrev pub SpellsBoth : {X Y : Type 0} → Spelling X → (X → Spelling Y) →
 SpellsBoth One Two p w v text = Follows (One p.0) (Two p.0 p.1) w v text
 
 -- ---- names
-abbrev pub told_name_at : Setting → Telling → Courser Named
+abbrev pub told_name_at : Setting → Telling → ContextReader Named
 told_name_at g spelled c = name_at (prefixes g.options) (align_of g.options) c
 told_name_at g (known id) c = known_at (prefixes g.options) (align_of g.options) id c
 
-abbrev pub SpellsTold : Setting → Telling → Named → Beside → Beside → List Bool → Type 0
+abbrev pub SpellsTold : Setting → Telling → Named → Context → Context → List Bool → Type 0
 SpellsTold g spelled n w v text = SpellsName (prefixes g.options) (align_of g.options) n w v text
 SpellsTold g (known id) n w v text = SpellsKnown (prefixes g.options) (align_of g.options) id n w v text
 
@@ -51,44 +51,44 @@ abbrev pub is_missing : Setting → NameId → Bool
 is_missing g name = is_type name && strict g.options
 
 -- an attribute's value. A type that is not there is a fault at the value in a strict stream (own)
-unfoldable pub attribute_value_at : Setting → NameId → Courser Value
+unfoldable pub attribute_value_at : Setting → NameId → ContextReader Value
 attribute_value_at g name c = do
   found ← item_at (represented_by g name) (align_of g.options) name c
-  if is_missing g name then Err (record { fault = record { kind = kind.BadType; bit = c.spot.place }; meter = found.1.beside.meter }) else Ok found
+  if is_missing g name then Err (record { fault = record { kind = kind.BadType; bit = c.spot.place }; meter = found.1.context.meter }) else Ok found
 
-pub record SpellsAttributeValue (g : Setting) (name : NameId) (found : Value) (w v : Beside) (text : List Bool) : Type 0 where
+pub record SpellsAttributeValue (g : Setting) (name : NameId) (found : Value) (w v : Context) (text : List Bool) : Type 0 where
   pub there : is_missing g name ≡ false
   pub spelled : SpellsItem (represented_by g name) (align_of g.options) name found w v text
 
 -- an attribute: its name, and its value
-abbrev pub attribute_at : Setting → Telling → Courser (Named × Value)
+abbrev pub attribute_at : Setting → Telling → ContextReader (Named × Value)
 attribute_at g t c = both_at (told_name_at g t) (λ name. attribute_value_at g name.id) c
 
-abbrev pub SpellsAttribute : Setting → Telling → Named × Value → Beside → Beside → List Bool → Type 0
+abbrev pub SpellsAttribute : Setting → Telling → Named × Value → Context → Context → List Bool → Type 0
 SpellsAttribute g t x w v text = SpellsBoth (SpellsTold g t) (λ name. SpellsAttributeValue g name.id) x w v text
 
 -- characters in an element of this name
-abbrev pub characters_at : Setting → NameId → Courser Value
+abbrev pub characters_at : Setting → NameId → ContextReader Value
 characters_at g name c = item_at string (align_of g.options) name c
 
-abbrev pub SpellsCharacters : Setting → NameId → Value → Beside → Beside → List Bool → Type 0
+abbrev pub SpellsCharacters : Setting → NameId → Value → Context → Context → List Bool → Type 0
 SpellsCharacters g name x w v text = SpellsItem string (align_of g.options) name x w v text
 
 -- ---- texts that stand in no string table
-abbrev pub text_at : Setting → Courser (List ℕ)
+abbrev pub text_at : Setting → ContextReader (List ℕ)
 text_at g c = literal_at (align_of g.options) no_growth c
 
-abbrev pub SpellsText : Setting → List ℕ → Beside → Beside → List Bool → Type 0
+abbrev pub SpellsText : Setting → List ℕ → Context → Context → List Bool → Type 0
 SpellsText g x w v text = SpellsLiteral (align_of g.options) no_growth x w v text
 
-abbrev pub two_texts_at : Setting → Courser (List ℕ × List ℕ)
+abbrev pub two_texts_at : Setting → ContextReader (List ℕ × List ℕ)
 two_texts_at g c = both_at (text_at g) (λ first. text_at g) c
 
-abbrev pub SpellsTwoTexts : Setting → List ℕ × List ℕ → Beside → Beside → List Bool → Type 0
+abbrev pub SpellsTwoTexts : Setting → List ℕ × List ℕ → Context → Context → List Bool → Type 0
 SpellsTwoTexts g x w v text = SpellsBoth (SpellsText g) (λ first. SpellsText g) x w v text
 
-abbrev pub four_texts_at : Setting → Courser ((List ℕ × List ℕ) × (List ℕ × List ℕ))
+abbrev pub four_texts_at : Setting → ContextReader ((List ℕ × List ℕ) × (List ℕ × List ℕ))
 four_texts_at g c = both_at (two_texts_at g) (λ first. two_texts_at g) c
 
-abbrev pub SpellsFourTexts : Setting → (List ℕ × List ℕ) × (List ℕ × List ℕ) → Beside → Beside → List Bool → Type 0
+abbrev pub SpellsFourTexts : Setting → (List ℕ × List ℕ) × (List ℕ × List ℕ) → Context → Context → List Bool → Type 0
 SpellsFourTexts g x w v text = SpellsBoth (SpellsTwoTexts g) (λ first. SpellsTwoTexts g) x w v text

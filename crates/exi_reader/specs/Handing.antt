@@ -24,11 +24,11 @@ use Rattle.exi_names.specs.declared.stops.PushStop.{PushStop}
 use Rattle.exi_names.specs.declared.stops.PushStop.TheVariants as push
 use Rattle.exi_tables.specs.Growth.{NoneLonger}
 use Rattle.exi_tables.specs.Partitions.{IsName, Partitions}
-use Rattle.exi_typed.specs.Courses.{Failure}
+use Rattle.exi_typed.specs.ReadStates.{Failure}
 use Rattle.exi_typed.specs.Strings.{Named, value_at}
 use Rattle.exi_reader.specs.Changes as changes
 use Rattle.exi_reader.specs.Changes.{has_level, innermost, put_aside, room_in, root_in}
-use Rattle.exi_reader.specs.Configurations.{Body, Config, Setting, body_outer, course_in, reached, rules_of, spot_in}
+use Rattle.exi_reader.specs.Configurations.{Body, Config, Setting, body_outer, read_state_in, reached, rules_of, spot_in}
 use Rattle.exi_reader.specs.Contents.{attribute_value_at}
 use Rattle.exi_reader.specs.OneEvent.{behind, event_charge, level_charge, remembered, unless}
 use Rattle.exi_reader.specs.Plans.{Given, Plan, barred_in, is_event, no_element, wrong_element}
@@ -143,22 +143,22 @@ Pays (Err f) m read = read ≡ Err (record { fault = f; meter = m })
 -- ---- the content, and what is made of it
 unfoldable pub making : List ℕ → ℕ → Plan → Config → Result Given Failure
 making bytes bit p c = do
-  found ← p.read (course_in bytes c.meter c)
-  free ← unless (p.refused found.0) bit found.1.beside.meter
+  found ← p.read (read_state_in bytes c.meter c)
+  free ← unless (p.refused found.0) bit found.1.context.meter
   Ok (remembered (p.make found.0 (reached (behind p.padded found.1) c)))
 
 -- the value of an attribute whose name is read
 unfoldable pub value_made : Setting → List ℕ → ℕ → plans.Alone → Named → Config → Result Given Failure
 value_made g bytes bit a name c = do
-  found ← attribute_value_at g name.id (course_in bytes c.meter c)
-  free ← unless (no_element a) bit found.1.beside.meter
+  found ← attribute_value_at g name.id (read_state_in bytes c.meter c)
+  free ← unless (no_element a) bit found.1.context.meter
   Ok (Some (event.at name.name found.0), record (reached found.1 c) { after_start = false })
 
 -- the same, where it is a string
 unfoldable pub string_made : Setting → List ℕ → ℕ → plans.Alone → Named → Config → Result Given Failure
 string_made g bytes bit a name c = do
-  found ← value_at None (align_of g.options) name.id (course_in bytes c.meter c)
-  free ← unless (no_element a) bit found.1.beside.meter
+  found ← value_at None (align_of g.options) name.id (read_state_in bytes c.meter c)
+  free ← unless (no_element a) bit found.1.context.meter
   Ok (Some (event.at name.name (value.text found.0)), record (reached found.1 c) { after_start = false })
 
 -- ---- what is handed on

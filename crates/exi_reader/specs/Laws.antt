@@ -4,7 +4,7 @@ use Rattle.exi_meter.specs.Metering.{Bounds}
 use Rattle.exi_meter.specs.declared.tally.Tally.{Tally}
 use Rattle.exi_names.specs.Events.{Happening, ed}
 use Rattle.exi_names.specs.declared.names.QName.{QName}
-use Rattle.exi_typed.specs.Courses.{Failure}
+use Rattle.exi_typed.specs.ReadStates.{Failure}
 use Rattle.exi_reader.specs.Configurations.{Config, Setting}
 use Rattle.exi_reader.specs.Fragments.{fragments_at, fragments_in}
 use Rattle.exi_reader.specs.OneEvent.{one}

@@ -14,8 +14,8 @@ use Rattle.exi_gram.specs.Codes.{code_at}
 use Rattle.exi_gram.specs.Switches.{align_of}
 use Rattle.exi_meter.specs.Metering.{Metering, event_fits, level_fits, with_event, with_level}
 use Rattle.exi_names.specs.Events.{Happening, at, ch, cm, dt, ed, ee, er, ns, pi, sc, sd, se}
-use Rattle.exi_typed.specs.Courses.{Course, Failure, at_spot_of, failing}
-use Rattle.exi_reader.specs.Configurations.{Config, Setting, course_in, reached, rules_of, spot_in}
+use Rattle.exi_typed.specs.ReadStates.{ReadState, Failure, at_spot_of, failing}
+use Rattle.exi_reader.specs.Configurations.{Config, Setting, read_state_in, reached, rules_of, spot_in}
 use Rattle.exi_reader.specs.Plans.{Given, Plan, plan_of}
 
 -- ---- what is refused, and what is charged
@@ -76,7 +76,7 @@ at_event bit (Ok x) = Ok x
 at_event bit (Err e) = Err (record e { fault = moved_limit bit e.fault })
 
 -- ---- one event
-abbrev pub behind : Bool → Course → Course
+abbrev pub behind : Bool → ReadState → ReadState
 behind false k = k
 behind true k = at_spot_of k (at_next_byte k.spot)
 
@@ -106,8 +106,8 @@ remembered given = (given.0, record given.1 { after_start = is_start given.0 })
 unfoldable pub followed : List ℕ → ℕ → Plan → Config → Result Given Failure
 followed bytes bit p c = do
   meter ← charge_at bit p c.meter
-  found ← at_event bit (p.read (course_in bytes meter c))
-  free ← unless (p.refused found.0) bit found.1.beside.meter
+  found ← at_event bit (p.read (read_state_in bytes meter c))
+  free ← unless (p.refused found.0) bit found.1.context.meter
   Ok (remembered (p.make found.0 (reached (behind p.padded found.1) c)))
 
 -- the next event and configuration, or the first fault

@@ -9,7 +9,7 @@ use Rattle.exi_names.specs.declared.names.QName.{QName}
 use Rattle.exi_names.specs.Events.{Happening}
 use Rattle.exi_names.specs.Events as happening
 use Rattle.exi_names.specs.Seen.{Value}
-use Rattle.exi_typed.specs.Courses.{Courser}
+use Rattle.exi_typed.specs.ReadStates.{ContextReader}
 use Rattle.exi_typed.specs.Laws.{Spelling}
 use Rattle.exi_typed.specs.Spelled.{SpellsDeclaration}
 use Rattle.exi_typed.specs.Strings.{Declaration, Named, declaration_at}
@@ -37,7 +37,7 @@ pub record Plan : Type 1 where
   pub entered : Bool
   -- what is read
   pub Item : Type 0
-  pub read : Courser Item
+  pub read : ContextReader Item
   pub Spells : Spelling Item
   -- the bits up to the next whole byte are left out
   pub padded : Bool
@@ -117,7 +117,7 @@ ended_in at_end c = resumed c.aside c
 
 -- ---- the plans
 -- an event that is read, and of which something is made
-abbrev pub plain : Alone → (X : Type 0) → Courser X → Spelling X → (X → Config → Given) → Plan
+abbrev pub plain : Alone → (X : Type 0) → ContextReader X → Spelling X → (X → Config → Given) → Plan
 plain a X read Spells make = record { barred = barred_in a; counted = true; misplaced = None; entered = false; Item = X; read = read; Spells = Spells; padded = false; refused = λ x. no_element a; make = make }
 
 abbrev pub start_plan : Alone → Rule → Plan

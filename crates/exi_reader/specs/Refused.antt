@@ -12,8 +12,8 @@ use Rattle.exi_gram.specs.Codes.{Productions, first_values, group}
 use Rattle.exi_gram.specs.Laws.{SpellsCode}
 use Rattle.exi_gram.specs.Switches.{align_of}
 use Rattle.exi_meter.specs.Metering.{Metering, event_fits, level_fits}
-use Rattle.exi_typed.specs.Courses.{Beside, Failure}
-use Rattle.exi_reader.specs.Configurations.{Config, Setting, course_in, rules_of, spot_in}
+use Rattle.exi_typed.specs.ReadStates.{Context, Failure}
+use Rattle.exi_reader.specs.Configurations.{Config, Setting, read_state_in, rules_of, spot_in}
 use Rattle.exi_reader.specs.OneEvent.{moved_limit, one}
 use Rattle.exi_reader.specs.Plans.{Given, Plan, plan_of}
 use Rattle.exi_reader.specs.Rules.{Rule}
@@ -63,7 +63,7 @@ pub record IsContentRefused (bytes : List ℕ) (bit : ℕ) (p : Plan) (c : Confi
   pub meter : Metering
   pub charged : IsCharged p c.meter meter
   pub failure : Failure
-  pub refused : p.read (course_in bytes meter c) ≡ Err failure
+  pub refused : p.read (read_state_in bytes meter c) ≡ Err failure
   pub is : e ≡ record failure { fault = moved_limit bit failure.fault }
 
 -- it is spelled, and is not what may stand here
@@ -74,7 +74,7 @@ pub record IsItemRefused (bytes : List ℕ) (bit : ℕ) (p : Plan) (c : Config) 
   pub content : List Bool
   pub more : List Bool
   pub stands : rest (spot_in bytes c) ≡ content ++ more
-  pub after : Beside
+  pub after : Context
   pub spelled : p.Spells item (record { meter = meter; tables = c.tables }) after content
   pub kind : Kind
   pub refused : p.refused item ≡ Some kind

@@ -3,7 +3,7 @@ use Rattle.std.specs.Prelude.{◌≡◌, ℕ, ◌+◌, ◌*◌, ◌/◌, nat_lt,
 use Rattle.exi_bits.specs.declared.fault.Kind.TheVariants as kind
 use Rattle.exi_meter.specs.Metering.{Bounds}
 use Rattle.exi_names.specs.Events.{Happening}
-use Rattle.exi_typed.specs.Courses.{Failure}
+use Rattle.exi_typed.specs.ReadStates.{Failure}
 use Rattle.exi_reader.specs.Configurations.{Config, Setting, first_config}
 use Rattle.exi_reader.specs.OneEvent.{one}
 use Rattle.exi_reader.specs.Plans.{Given}

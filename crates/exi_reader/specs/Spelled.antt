@@ -8,7 +8,7 @@ use Rattle.exi_gram.specs.Books.{IsBook}
 use Rattle.exi_gram.specs.Laws.{SpellsCode}
 use Rattle.exi_gram.specs.Switches.{align_of}
 use Rattle.exi_meter.specs.Metering.{Metering, event_fits, level_fits, with_event, with_level}
-use Rattle.exi_typed.specs.Courses.{Beside}
+use Rattle.exi_typed.specs.ReadStates.{Context}
 use Rattle.exi_reader.specs.Configurations.{Config, Setting, rules_of, spot_in}
 use Rattle.exi_reader.specs.OneEvent.{one, remembered}
 use Rattle.exi_reader.specs.Plans.{Given, Plan, plan_of}
@@ -38,7 +38,7 @@ IsPadding false place text = text ≡ []
 IsPadding true place text = place + length text ≡ (place + 7) / 8 * 8
 
 -- so many bits further on, with this beside
-abbrev pub further : Config → ℕ → Beside → Config
+abbrev pub further : Config → ℕ → Context → Config
 further c bits b = record c { place = c.place + bits; meter = b.meter; tables = b.tables }
 
 pub record IsFollowed (p : Plan) (c : Config) (given : Given) (text : List Bool) : Type 0 where
@@ -48,7 +48,7 @@ pub record IsFollowed (p : Plan) (c : Config) (given : Given) (text : List Bool)
   pub content : List Bool
   pub padding : List Bool
   pub parts : text ≡ content ++ padding
-  pub after : Beside
+  pub after : Context
   pub spelled : p.Spells item (record { meter = meter; tables = c.tables }) after content
   pub free : p.refused item ≡ None
   pub padded : IsPadding p.padded (c.place + length content) padding

@@ -7,7 +7,7 @@ ghost use Rattle.exi_gram.specs.Switches.{align_of, prefixes, strict};
 ghost use Rattle.exi_names.specs.Seen as value;
 ghost use Rattle.exi_names.specs.Shown.{named};
 ghost use Rattle.exi_tables.specs.Growth.{KeepsAll, NoneLonger};
-ghost use Rattle.exi_typed.specs.Courses.{GoesOrStops, course};
+ghost use Rattle.exi_typed.specs.ReadStates.{GoesOrStops, read_state};
 ghost use Rattle.exi_typed.specs.Places.{IsNameAt, name_in};
 ghost use Rattle.exi_reader.specs.Changes.{
   enclosing,
@@ -271,10 +271,10 @@ pub fn told_name<T: Tables>(
     requires known { IsTold telling (T.held tables.old) }
     requires aligned { IsAligned (align_of book.now.options) input.old }
     ensures read { GoesOrStops
-        (λ n. (name_in (T.held tables.new) n, course input.new meter.new (T.held tables.new)))
+        (λ n. (name_in (T.held tables.new) n, read_state input.new meter.new (T.held tables.new)))
         meter.new
         result
-        (told_name_at book.now (telling_of telling) (course input.old meter.old (T.held tables.old))) }
+        (told_name_at book.now (telling_of telling) (read_state input.old meter.old (T.held tables.old))) }
     ensures places { IfOk result (λ n. IsNameAt (T.held tables.new) n) }
     ensures few { IfOk result (λ n. NoneLonger (2 ^ 31) (T.held tables.new)) }
     ensures bytes { input.new.bytes ≡ input.old.bytes }
@@ -311,10 +311,10 @@ pub fn type_name<T: Tables>(
     requires typed { is_type name ≡ true }
     requires aligned { IsAligned (align_of book.now.options) input.old }
     ensures read { GoesOrStops
-        (λ n. (value.name (name_in (T.held tables.new) n).name, course input.new meter.new (T.held tables.new)))
+        (λ n. (value.name (name_in (T.held tables.new) n).name, read_state input.new meter.new (T.held tables.new)))
         meter.new
         result
-        (attribute_value_at book.now name (course input.old meter.old (T.held tables.old))) }
+        (attribute_value_at book.now name (read_state input.old meter.old (T.held tables.old))) }
     ensures places { IfOk result (λ n. IsNameAt (T.held tables.new) n) }
     ensures keeps { IfOk result (λ n. KeepsAll (T.held tables.old) (T.held tables.new)) }
     ensures bytes { input.new.bytes ≡ input.old.bytes }
@@ -347,10 +347,10 @@ pub fn text<T: Tables>(
 ) -> Result<Txt, Stop>
     requires aligned { IsAligned (align_of book.now.options) input.old }
     ensures read { GoesOrStops
-        (λ t. (t, course input.new meter.new (T.held tables.now)))
+        (λ t. (t, read_state input.new meter.new (T.held tables.now)))
         meter.new
         result
-        (text_at book.now (course input.old meter.old (T.held tables.now))) }
+        (text_at book.now (read_state input.old meter.old (T.held tables.now))) }
     ensures bytes { input.new.bytes ≡ input.old.bytes }
     ensures aligned { IsAligned (align_of book.now.options) input.new }
 {

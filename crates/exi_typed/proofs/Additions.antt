@@ -19,11 +19,11 @@ use Rattle.exi_tables.specs.Values.{changed_at}
 use Rattle.exi_tables.proofs.Growing.{changed_others, get_appended, get_changed, longer_locals, longer_prefixes, uris_changed}
 use Rattle.exi_tables.proofs.Longer.{own_longer, texts_longer}
 use Rattle.exi_text.specs.Literals.{chars_at}
-use Rattle.exi_typed.specs.Courses.{Course, Courser, at_spot_of, failing}
+use Rattle.exi_typed.specs.ReadStates.{ReadState, ContextReader, at_spot_of, failing}
 use Rattle.exi_typed.specs.Items.{Tabled, item_at, qualified, string}
 use Rattle.exi_typed.specs.NameValues.{name_value_at}
 use Rattle.exi_typed.specs.Strings.{Declaration, Growth, Named, Partition, charged_at, declaration_at, declared_under, hit_at, indexed_at, known_at, listed, literal_at, local_at, missed_at, name_at, name_under, no_growth, own_values, place_in, placed_at, prefix_at, told_prefix, uri_at, value_at}
-use Rattle.exi_typed.proofs.CourseItems.{beside, bind_told, course, told, told_is}
+use Rattle.exi_typed.proofs.ContextItems.{context, bind_told, read_state, told, told_is}
 
 -- so many texts to each list of a kind
 pub record Adding : Type 0 where
@@ -161,38 +161,38 @@ value_more name p text = record {
 
 -- ---- readings
 -- a reading that adds so much at most
-abbrev pub Grows : {X : Type 0} → Adding → Courser X → Type 0
-Grows {X} n read = (x : X) (c d : Course) → read c ≡ told (x, d) → Up n c.beside.tables d.beside.tables
+abbrev pub Grows : {X : Type 0} → Adding → ContextReader X → Type 0
+Grows {X} n read = (x : X) (c d : ReadState) → read c ≡ told (x, d) → Up n c.context.tables d.context.tables
 
-pub grows_within : {X : Type 0} (m n : Adding) (read : Courser X) → Within m n → Grows m read → Grows n read
-grows_within m n read w g x c d r = up_within m n c.beside.tables d.beside.tables w (g x c d r)
+pub grows_within : {X : Type 0} (m n : Adding) (read : ContextReader X) → Within m n → Grows m read → Grows n read
+grows_within m n read w g x c d r = up_within m n c.context.tables d.context.tables w (g x c d r)
 
-pub behind_up : {X Y : Type 0} (n : Adding) (one : Reader X) (two : X → Courser Y) → ((x : X) → Grows n (two x)) → Grows {X = Y} n (λ c. failing c.beside.meter (one c.spot) >>= λ x. two x.0 (at_spot_of c x.1))
+pub behind_up : {X Y : Type 0} (n : Adding) (one : Reader X) (two : X → ContextReader Y) → ((x : X) → Grows n (two x)) → Grows {X = Y} n (λ c. failing c.context.meter (one c.spot) >>= λ x. two x.0 (at_spot_of c x.1))
 behind_up {X} n one two g y c d r =
-    let u = bind_told (failing c.beside.meter (one c.spot)) (λ (x : X × Spot). two x.0 (at_spot_of c x.1)) (y, d) r in
+    let u = bind_told (failing c.context.meter (one c.spot)) (λ (x : X × Spot). two x.0 (at_spot_of c x.1)) (y, d) r in
     g u.0.0 y (at_spot_of c u.0.1) d u.2
 
-pub chained_up : {X Y : Type 0} (m n : Adding) (one : Courser X) (two : X → Courser Y) → Grows m one → ((x : X) → Grows n (two x)) → Grows {X = Y} (plus m n) (λ c. one c >>= λ x. two x.0 x.1)
+pub chained_up : {X Y : Type 0} (m n : Adding) (one : ContextReader X) (two : X → ContextReader Y) → Grows m one → ((x : X) → Grows n (two x)) → Grows {X = Y} (plus m n) (λ c. one c >>= λ x. two x.0 x.1)
 chained_up {X} m n one two f g y c d r =
-    let u = bind_told (one c) (λ (x : X × Course). two x.0 x.1) (y, d) r in
-    up_then m n c.beside.tables u.0.1.beside.tables d.beside.tables (f u.0.0 c u.0.1 u.1) (g u.0.0 y u.0.1 d u.2)
+    let u = bind_told (one c) (λ (x : X × ReadState). two x.0 x.1) (y, d) r in
+    up_then m n c.context.tables u.0.1.context.tables d.context.tables (f u.0.0 c u.0.1 u.1) (g u.0.0 y u.0.1 d u.2)
 
-pub paying_up : {X : Type 0} (n : Adding) (units : ℕ) (read : Courser X) → Grows n read → Grows {X = X} n (λ c. failing c.beside.meter (text_charge units c.spot.place c.beside.meter) >>= λ meter. read (course c.spot (beside meter c.beside.tables)))
+pub paying_up : {X : Type 0} (n : Adding) (units : ℕ) (read : ContextReader X) → Grows n read → Grows {X = X} n (λ c. failing c.context.meter (text_charge units c.spot.place c.context.meter) >>= λ meter. read (read_state c.spot (context meter c.context.tables)))
 paying_up n units read f x c d r =
-    let u = bind_told (failing c.beside.meter (text_charge units c.spot.place c.beside.meter)) (λ (m : Metering). read (course c.spot (beside m c.beside.tables))) (x, d) r in
-    f x (course c.spot (beside u.0 c.beside.tables)) d u.2
+    let u = bind_told (failing c.context.meter (text_charge units c.spot.place c.context.meter)) (λ (m : Metering). read (read_state c.spot (context m c.context.tables))) (x, d) r in
+    f x (read_state c.spot (context u.0 c.context.tables)) d u.2
 
-pub told_up : {X : Type 0} (f : Course → X) → Grows {X = X} none_added (λ c. told {X = X × Course} (f c, c))
-told_up {X} f x c d r = subst (λ (z : X × Course). Up none_added c.beside.tables z.1.beside.tables) (told_is (f c, c) (x, d) r) (up_same c.beside.tables)
+pub told_up : {X : Type 0} (f : ReadState → X) → Grows {X = X} none_added (λ c. told {X = X × ReadState} (f c, c))
+told_up {X} f x c d r = subst (λ (z : X × ReadState). Up none_added c.context.tables z.1.context.tables) (told_is (f c, c) (x, d) r) (up_same c.context.tables)
 
-chosen_up : {X : Type 0} (n : Adding) (b : Bool) (one two : Courser X) → Grows n one → Grows n two → Grows {X = X} n (λ c. cond b (one c) (two c))
+chosen_up : {X : Type 0} (n : Adding) (b : Bool) (one two : ContextReader X) → Grows n one → Grows n two → Grows {X = X} n (λ c. cond b (one c) (two c))
 chosen_up n true one two f g = f
 chosen_up n false one two f g = g
 
 placed_up : (s : Spot) (o : Option (List ℕ)) → Grows {X = List ℕ} none_added (placed_at s o)
 unfolding charged_at
 placed_up s None x c d r = absurd cc
-placed_up s (Some text) x c d r = paying_up none_added (length text) (λ e. told {X = List ℕ × Course} (text, e)) (told_up (λ e. text)) x c d r
+placed_up s (Some text) x c d r = paying_up none_added (length text) (λ e. told {X = List ℕ × ReadState} (text, e)) (told_up (λ e. text)) x c d r
 
 hit_up : (a : Align) (partition : Partition) → Grows {X = List ℕ} none_added (hit_at a partition)
 unfolding hit_at
@@ -201,8 +201,8 @@ hit_up a partition x c d r = behind_up none_added (below_at partition.count a ki
 missed_up : (n : Adding) (set : Option (List ℕ)) (a : Align) (grow : Growth) (count : ℕ) → GrowsBy n grow → Grows {X = List ℕ} n (missed_at set a grow count)
 unfolding missed_at
 missed_up n set a grow count more x c d r =
-    let u = bind_told (failing (after_text c.beside.meter count) (chars_at set a count (record { spot = c.spot; meter = c.beside.meter }))) (λ (p : List ℕ × Charged). told {X = List ℕ × Course} (p.0, course p.1.spot (beside p.1.meter (grow c.beside.tables p.0)))) (x, d) r in
-    subst (λ (z : List ℕ × Course). Up n c.beside.tables z.1.beside.tables) (told_is (u.0.0, course u.0.1.spot (beside u.0.1.meter (grow c.beside.tables u.0.0))) (x, d) u.2) (more c.beside.tables u.0.0)
+    let u = bind_told (failing (after_text c.context.meter count) (chars_at set a count (record { spot = c.spot; meter = c.context.meter }))) (λ (p : List ℕ × Charged). told {X = List ℕ × ReadState} (p.0, read_state p.1.spot (context p.1.meter (grow c.context.tables p.0)))) (x, d) r in
+    subst (λ (z : List ℕ × ReadState). Up n c.context.tables z.1.context.tables) (told_is (u.0.0, read_state u.0.1.spot (context u.0.1.meter (grow c.context.tables u.0.0))) (x, d) u.2) (more c.context.tables u.0.0)
 
 pub literal_up : (n : Adding) (a : Align) (grow : Growth) → GrowsBy n grow → Grows {X = List ℕ} n (literal_at a grow)
 unfolding literal_at
@@ -215,27 +215,27 @@ indexed_up n a partition grow more x c d r =
     (λ code. chosen_up n (eqb code 0) (literal_at a grow) (placed_at c.spot (live_at partition (code - 1))) (literal_up n a grow more) (grows_within none_added n (placed_at c.spot (live_at partition (code - 1))) (nothing_within n) (placed_up c.spot (live_at partition (code - 1))))) x c d r
 
 uri_up : (a : Align) → Grows {X = List ℕ} one_uri (uri_at a)
-uri_up a x c d r = indexed_up one_uri a (uris c.beside.tables) with_uri uri_more x c d r
+uri_up a x c d r = indexed_up one_uri a (uris c.context.tables) with_uri uri_more x c d r
 
 local_up : (a : Align) (uri : ℕ) → Grows {X = List ℕ} one_local (local_at a uri)
 unfolding local_at
-local_up a uri = behind_up one_local unsigned_at (λ code c. cond (eqb code 0) (hit_at a (listed (locals c.beside.tables uri)) c) (missed_at None a (λ p. with_local p uri) (code - 1) c))
-    (λ code. chosen_up one_local (eqb code 0) (λ c. hit_at a (listed (locals c.beside.tables uri)) c) (missed_at None a (λ p. with_local p uri) (code - 1)) (λ x c d r. up_within none_added one_local c.beside.tables d.beside.tables (nothing_within one_local) (hit_up a (listed (locals c.beside.tables uri)) x c d r)) (missed_up one_local None a (λ p. with_local p uri) (code - 1) (local_more uri)))
+local_up a uri = behind_up one_local unsigned_at (λ code c. cond (eqb code 0) (hit_at a (listed (locals c.context.tables uri)) c) (missed_at None a (λ p. with_local p uri) (code - 1) c))
+    (λ code. chosen_up one_local (eqb code 0) (λ c. hit_at a (listed (locals c.context.tables uri)) c) (missed_at None a (λ p. with_local p uri) (code - 1)) (λ x c d r. up_within none_added one_local c.context.tables d.context.tables (nothing_within one_local) (hit_up a (listed (locals c.context.tables uri)) x c d r)) (missed_up one_local None a (λ p. with_local p uri) (code - 1) (local_more uri)))
 
 value_up : (set : Option (List ℕ)) (a : Align) (name : NameId) → Grows {X = List ℕ} one_value (value_at set a name)
 unfolding value_at
 value_up set a name = behind_up one_value unsigned_at
-    (λ code c. cond (eqb code 0) (hit_at a (own_values c.beside.tables name) c) (cond (eqb code 1) (hit_at a (listed (values c.beside.tables)) c) (missed_at set a (λ p. with_value p name) (code - 2) c)))
-    (λ code. chosen_up one_value (eqb code 0) (λ c. hit_at a (own_values c.beside.tables name) c) (λ c. cond (eqb code 1) (hit_at a (listed (values c.beside.tables)) c) (missed_at set a (λ p. with_value p name) (code - 2) c)) (λ x c d r. up_within none_added one_value c.beside.tables d.beside.tables (nothing_within one_value) (hit_up a (own_values c.beside.tables name) x c d r))
-    (chosen_up one_value (eqb code 1) (λ c. hit_at a (listed (values c.beside.tables)) c) (missed_at set a (λ p. with_value p name) (code - 2)) (λ x c d r. up_within none_added one_value c.beside.tables d.beside.tables (nothing_within one_value) (hit_up a (listed (values c.beside.tables)) x c d r)) (missed_up one_value set a (λ p. with_value p name) (code - 2) (value_more name))))
+    (λ code c. cond (eqb code 0) (hit_at a (own_values c.context.tables name) c) (cond (eqb code 1) (hit_at a (listed (values c.context.tables)) c) (missed_at set a (λ p. with_value p name) (code - 2) c)))
+    (λ code. chosen_up one_value (eqb code 0) (λ c. hit_at a (own_values c.context.tables name) c) (λ c. cond (eqb code 1) (hit_at a (listed (values c.context.tables)) c) (missed_at set a (λ p. with_value p name) (code - 2) c)) (λ x c d r. up_within none_added one_value c.context.tables d.context.tables (nothing_within one_value) (hit_up a (own_values c.context.tables name) x c d r))
+    (chosen_up one_value (eqb code 1) (λ c. hit_at a (listed (values c.context.tables)) c) (missed_at set a (λ p. with_value p name) (code - 2)) (λ x c d r. up_within none_added one_value c.context.tables d.context.tables (nothing_within one_value) (hit_up a (listed (values c.context.tables)) x c d r)) (missed_up one_value set a (λ p. with_value p name) (code - 2) (value_more name))))
 
 -- ---- names
 prefix_in_up : (a : Align) (partition : List (List ℕ)) → Grows {X = Option (List ℕ)} none_added (told_prefix a partition)
 prefix_in_up a [] = told_up (λ c. None)
-prefix_in_up a (p ∷ ps) = chained_up none_added none_added (hit_at a (listed (p ∷ ps))) (λ text c. told {X = Option (List ℕ) × Course} (Some text, c)) (hit_up a (listed (p ∷ ps))) (λ text. told_up (λ c. Some text))
+prefix_in_up a (p ∷ ps) = chained_up none_added none_added (hit_at a (listed (p ∷ ps))) (λ text c. told {X = Option (List ℕ) × ReadState} (Some text, c)) (hit_up a (listed (p ∷ ps))) (λ text. told_up (λ c. Some text))
 
 prefix_up : (keep : Bool) (a : Align) (uri : ℕ) → Grows {X = Option (List ℕ)} none_added (prefix_at keep a uri)
-prefix_up true a uri x c d r = prefix_in_up a (prefixes c.beside.tables uri) x c d r
+prefix_up true a uri x c d r = prefix_in_up a (prefixes c.context.tables uri) x c d r
 prefix_up false a uri x c d r = told_up (λ e. None) x c d r
 
 abbrev named_of : NameId → List ℕ → List ℕ → Option (List ℕ) → Named
@@ -246,28 +246,28 @@ abbrev pub one_name : Adding
 one_name = record { uris = 1; locals = 1; prefixes = 0; values = 0 }
 
 module _ (keep : Bool) (a : Align) where
-  abbrev in_space : ℕ → List ℕ → List ℕ → Option (List ℕ) → Course → Named
-  in_space uri space local prefix c = named_of (record { uri = uri; local = place_in (locals c.beside.tables uri) local }) space local prefix
+  abbrev in_space : ℕ → List ℕ → List ℕ → Option (List ℕ) → ReadState → Named
+  in_space uri space local prefix c = named_of (record { uri = uri; local = place_in (locals c.context.tables uri) local }) space local prefix
 
   under_up : (uri : ℕ) (space : List ℕ) → Grows {X = Named} one_local (name_under keep a uri space)
   unfolding name_under
-  under_up uri space = chained_up one_local none_added (local_at a uri) (λ local c. prefix_at keep a uri c >>= λ prefix. told {X = Named × Course} (in_space uri space local prefix.0 prefix.1, prefix.1)) (local_up a uri)
-      (λ local. chained_up none_added none_added (prefix_at keep a uri) (λ prefix c. told {X = Named × Course} (in_space uri space local prefix c, c)) (prefix_up keep a uri) (λ prefix. told_up (in_space uri space local prefix)))
+  under_up uri space = chained_up one_local none_added (local_at a uri) (λ local c. prefix_at keep a uri c >>= λ prefix. told {X = Named × ReadState} (in_space uri space local prefix.0 prefix.1, prefix.1)) (local_up a uri)
+      (λ local. chained_up none_added none_added (prefix_at keep a uri) (λ prefix c. told {X = Named × ReadState} (in_space uri space local prefix c, c)) (prefix_up keep a uri) (λ prefix. told_up (in_space uri space local prefix)))
 
   pub name_up : Grows {X = Named} one_name (name_at keep a)
   unfolding name_at
-  name_up = chained_up one_uri one_local (uri_at a) (λ space c. name_under keep a (place_in (uris c.beside.tables) space) space c) (uri_up a) (λ space x c. under_up (place_in (uris c.beside.tables) space) space x c)
+  name_up = chained_up one_uri one_local (uri_at a) (λ space c. name_under keep a (place_in (uris c.context.tables) space) space c) (uri_up a) (λ space x c. under_up (place_in (uris c.context.tables) space) space x c)
 
   pub known_up : (id : NameId) → Grows {X = Named} none_added (known_at keep a id)
   unfolding known_at
   known_up id x b d r =
-      chained_up none_added none_added (λ c. placed_at b.spot (live_at (uris c.beside.tables) id.uri) c)
-      (λ uri c. placed_at b.spot (live_at (locals c.beside.tables id.uri) id.local) c >>= λ local. prefix_at keep a id.uri local.1 >>= λ prefix. told {X = Named × Course} (named_of id uri local.0 prefix.0, prefix.1))
-      (λ y c. placed_up b.spot (live_at (uris c.beside.tables) id.uri) y c)
-      (λ uri. chained_up none_added none_added (λ c. placed_at b.spot (live_at (locals c.beside.tables id.uri) id.local) c)
-      (λ local c. prefix_at keep a id.uri c >>= λ prefix. told {X = Named × Course} (named_of id uri local prefix.0, prefix.1))
-      (λ y c. placed_up b.spot (live_at (locals c.beside.tables id.uri) id.local) y c)
-      (λ local. chained_up none_added none_added (prefix_at keep a id.uri) (λ prefix c. told {X = Named × Course} (named_of id uri local prefix, c)) (prefix_up keep a id.uri) (λ prefix. told_up (λ c. named_of id uri local prefix))))
+      chained_up none_added none_added (λ c. placed_at b.spot (live_at (uris c.context.tables) id.uri) c)
+      (λ uri c. placed_at b.spot (live_at (locals c.context.tables id.uri) id.local) c >>= λ local. prefix_at keep a id.uri local.1 >>= λ prefix. told {X = Named × ReadState} (named_of id uri local.0 prefix.0, prefix.1))
+      (λ y c. placed_up b.spot (live_at (uris c.context.tables) id.uri) y c)
+      (λ uri. chained_up none_added none_added (λ c. placed_at b.spot (live_at (locals c.context.tables id.uri) id.local) c)
+      (λ local c. prefix_at keep a id.uri c >>= λ prefix. told {X = Named × ReadState} (named_of id uri local prefix.0, prefix.1))
+      (λ y c. placed_up b.spot (live_at (locals c.context.tables id.uri) id.local) y c)
+      (λ local. chained_up none_added none_added (prefix_at keep a id.uri) (λ prefix c. told {X = Named × ReadState} (named_of id uri local prefix, c)) (prefix_up keep a id.uri) (λ prefix. told_up (λ c. named_of id uri local prefix))))
       x b d r
 
   pub name_value_up : Grows {X = Named} one_name (name_value_at keep a)
@@ -280,8 +280,8 @@ abbrev pub one_declaration : Adding
 one_declaration = record { uris = 1; locals = 0; prefixes = 1; values = 0 }
 
 module _ (a : Align) where
-  abbrev space_of : List ℕ → Course → ℕ
-  space_of uri c = place_in (uris c.beside.tables) uri
+  abbrev space_of : List ℕ → ReadState → ℕ
+  space_of uri c = place_in (uris c.context.tables) uri
 
   abbrev declared_as : List ℕ → List ℕ → ℕ → Declaration
   declared_as uri prefix flag = record { uri = uri; prefix = prefix; element = eqb flag 1 }
@@ -289,12 +289,12 @@ module _ (a : Align) where
   pub declaration_up : Grows {X = Declaration} one_declaration (declaration_at a)
   unfolding declaration_at declared_under
   declaration_up = chained_up one_uri one_prefix (uri_at a)
-      (λ uri c. indexed_at a (prefixes c.beside.tables (space_of uri c)) (λ p. with_prefix p (space_of uri c)) c >>= λ prefix. failing prefix.1.beside.meter (below_at 2 a kind.BadPlace prefix.1.spot) >>= λ flag. told {X = Declaration × Course} (declared_as uri prefix.0 flag.0, at_spot_of prefix.1 flag.1))
+      (λ uri c. indexed_at a (prefixes c.context.tables (space_of uri c)) (λ p. with_prefix p (space_of uri c)) c >>= λ prefix. failing prefix.1.context.meter (below_at 2 a kind.BadPlace prefix.1.spot) >>= λ flag. told {X = Declaration × ReadState} (declared_as uri prefix.0 flag.0, at_spot_of prefix.1 flag.1))
       (uri_up a)
-      (λ uri. chained_up one_prefix none_added (λ c. indexed_at a (prefixes c.beside.tables (space_of uri c)) (λ p. with_prefix p (space_of uri c)) c)
-      (λ prefix c. failing c.beside.meter (below_at 2 a kind.BadPlace c.spot) >>= λ flag. told {X = Declaration × Course} (declared_as uri prefix flag.0, at_spot_of c flag.1))
-      (λ x c. indexed_up one_prefix a (prefixes c.beside.tables (space_of uri c)) (λ p. with_prefix p (space_of uri c)) (prefix_more (space_of uri c)) x c)
-      (λ prefix. behind_up none_added (below_at 2 a kind.BadPlace) (λ flag c. told {X = Declaration × Course} (declared_as uri prefix flag, c)) (λ flag. told_up (λ c. declared_as uri prefix flag))))
+      (λ uri. chained_up one_prefix none_added (λ c. indexed_at a (prefixes c.context.tables (space_of uri c)) (λ p. with_prefix p (space_of uri c)) c)
+      (λ prefix c. failing c.context.meter (below_at 2 a kind.BadPlace c.spot) >>= λ flag. told {X = Declaration × ReadState} (declared_as uri prefix flag.0, at_spot_of c flag.1))
+      (λ x c. indexed_up one_prefix a (prefixes c.context.tables (space_of uri c)) (λ p. with_prefix p (space_of uri c)) (prefix_more (space_of uri c)) x c)
+      (λ prefix. behind_up none_added (below_at 2 a kind.BadPlace) (λ flag c. told {X = Declaration × ReadState} (declared_as uri prefix flag, c)) (λ flag. told_up (λ c. declared_as uri prefix flag))))
 
 -- ---- values
 -- a URI and a local name, or a value
@@ -309,8 +309,8 @@ name_within = record { uris = omega arith; locals = omega arith; prefixes = omeg
 
 pub item_up : (kind : Tabled) (a : Align) (name : NameId) → Grows {X = Value} one_item (item_at kind a name)
 unfolding item_at
-item_up string a name x c d r = up_within one_value one_item c.beside.tables d.beside.tables value_within (chained_up one_value none_added (value_at None a name) (λ text c. told {X = Value × Course} (value.text text, c)) (value_up None a name) (λ text. told_up (λ c. value.text text)) x c d r)
-item_up (qualified keep) a name x c d r = up_within one_name one_item c.beside.tables d.beside.tables name_within (chained_up one_name none_added (name_value_at keep a) (λ n c. told {X = Value × Course} (value.name n.name, c)) (name_value_up keep a) (λ n. told_up (λ c. value.name n.name)) x c d r)
+item_up string a name x c d r = up_within one_value one_item c.context.tables d.context.tables value_within (chained_up one_value none_added (value_at None a name) (λ text c. told {X = Value × ReadState} (value.text text, c)) (value_up None a name) (λ text. told_up (λ c. value.text text)) x c d r)
+item_up (qualified keep) a name x c d r = up_within one_name one_item c.context.tables d.context.tables name_within (chained_up one_name none_added (name_value_at keep a) (λ n c. told {X = Value × ReadState} (value.name n.name, c)) (name_value_up keep a) (λ n. told_up (λ c. value.name n.name)) x c d r)
 
 -- ---- from so many at most
 pub few_up : (k n m : ℕ) (a : Adding) (p q : Partitions) → a.uris ≤ n → a.locals ≤ n → a.prefixes ≤ n → a.values ≤ n → k + n ≤ m → Up a p q → NoneLonger k p → NoneLonger m q

@@ -3,7 +3,7 @@ use Rattle.exi_typed.specs.Laws.{DeclarationsAgree, KnownNamesAgree, LiteralsAgr
 use Rattle.exi_typed.specs.NameValues.{NameValuesAgree, SpellsNameValue, name_value_at}
 use Rattle.exi_typed.specs.Spelled.{SpellsDeclaration, SpellsKnown, SpellsLiteral, SpellsLocal, SpellsName, SpellsUri, SpellsValue}
 use Rattle.exi_typed.specs.Strings.{declaration_at, known_at, literal_at, local_at, name_at, uri_at, value_at}
-use Rattle.exi_typed.proofs.CourseItems.{agrees}
+use Rattle.exi_typed.proofs.ContextItems.{agrees}
 use Rattle.exi_typed.proofs.Texts.{item_literal, item_local, item_uri, item_value}
 use Rattle.exi_typed.proofs.NameItems.{item_declaration, item_known, item_name, item_name_value}
 

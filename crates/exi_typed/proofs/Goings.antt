@@ -19,11 +19,11 @@ use Rattle.exi_tables.specs.Growth.{KeepsAll}
 use Rattle.exi_tables.specs.Partitions.{Partitions, live_at, locals, prefixes, uris, values, with_local, with_prefix, with_uri, with_value}
 use Rattle.exi_tables.proofs.Growing.{keeps_local, keeps_prefix, keeps_same, keeps_uri, keeps_value}
 use Rattle.exi_text.specs.Literals.{char_at, chars_at, code_at, in_set_at, width_in}
-use Rattle.exi_typed.specs.Courses.{Course, Courser, at_spot_of, failing}
+use Rattle.exi_typed.specs.ReadStates.{ReadState, ContextReader, at_spot_of, failing}
 use Rattle.exi_typed.specs.NameValues.{name_value_at}
-use Rattle.exi_typed.specs.Onward.{KeepsEach, GoesOnward, Onward}
+use Rattle.exi_typed.specs.Continues.{KeepsEach, ReadsOn, Continues}
 use Rattle.exi_typed.specs.Strings.{Declaration, Growth, Named, Partition, charged_at, declaration_at, declared_under, hit_at, indexed_at, known_at, listed, literal_at, local_at, missed_at, name_at, name_under, own_values, place_in, placed_at, prefix_at, told_prefix, uri_at, value_at}
-use Rattle.exi_typed.proofs.CourseItems.{beside, bind_fine, bind_told, charge_is, charged, course, fine, fine_is, guard_fine, not_failing, told, told_is}
+use Rattle.exi_typed.proofs.ContextItems.{context, bind_fine, bind_told, charge_is, charged, read_state, fine, fine_is, guard_fine, not_failing, told, told_is}
 
 -- ---- bits
 -- further on in the same bytes, or there
@@ -111,170 +111,170 @@ no_units m = let e : m.used.text ≡ m.used.text + 0 = omega arith in ap (λ (n 
 units_then : (m : Metering) (i j : ℕ) → with_text (with_text m i) j ≡ with_text m (i + j)
 units_then m i j = let e : m.used.text + i + j ≡ m.used.text + (i + j) = omega arith in ap (λ (n : ℕ). used_text m n) e
 
-pub spot_onward : (c : Course) (t : Spot) → Further c.spot t → Onward c (at_spot_of c t)
-spot_onward c t f = record { bytes = f.bytes; place = f.place; units = 0; meter = no_units c.beside.meter; within = λ h. h; keeps = same_keeps c.beside.tables }
+pub spot_continues : (c : ReadState) (t : Spot) → Further c.spot t → Continues c (at_spot_of c t)
+spot_continues c t f = record { bytes = f.bytes; place = f.place; units = 0; meter = no_units c.context.meter; within = λ h. h; keeps = same_keeps c.context.tables }
 
-pub same_onward : (c : Course) → Onward c c
-same_onward c = spot_onward c c.spot (record { bytes = refl; place = omega arith })
+pub same_continues : (c : ReadState) → Continues c c
+same_continues c = spot_continues c c.spot (record { bytes = refl; place = omega arith })
 
-pub onward_then : (c d e : Course) → Onward c d → Onward d e → Onward c e
-onward_then c d e f g = record {
+pub continues_then : (c d e : ReadState) → Continues c d → Continues d e → Continues c e
+continues_then c d e f g = record {
   bytes = g.bytes ∙ f.bytes;
   place = omega (arith, f.place, g.place);
   units = f.units + g.units;
-  meter = g.meter ∙ ap (λ (m : Metering). with_text m g.units) f.meter ∙ units_then c.beside.meter f.units g.units;
+  meter = g.meter ∙ ap (λ (m : Metering). with_text m g.units) f.meter ∙ units_then c.context.meter f.units g.units;
   within = λ h. g.within (f.within h);
-  keeps = keeps_then c.beside.tables d.beside.tables e.beside.tables f.keeps g.keeps;
+  keeps = keeps_then c.context.tables d.context.tables e.context.tables f.keeps g.keeps;
 }
 
-charge_goes : (units : ℕ) (c : Course) (m : Metering) → failing c.beside.meter (text_charge units c.spot.place c.beside.meter) ≡ told m → Onward c (course c.spot (beside m c.beside.tables))
+charge_goes : (units : ℕ) (c : ReadState) (m : Metering) → failing c.context.meter (text_charge units c.spot.place c.context.meter) ≡ told m → Continues c (read_state c.spot (context m c.context.tables))
 charge_goes units c m r =
-    let g = charge_is units c.spot.place c.beside.meter m (not_failing c.beside.meter (text_charge units c.spot.place c.beside.meter) m r) in
-    subst (λ (n : Metering). Onward c (course c.spot (beside n c.beside.tables))) g.1 (record {
+    let g = charge_is units c.spot.place c.context.meter m (not_failing c.context.meter (text_charge units c.spot.place c.context.meter) m r) in
+    subst (λ (n : Metering). Continues c (read_state c.spot (context n c.context.tables))) g.1 (record {
       bytes = refl;
       place = omega arith;
       units = units;
       meter = refl;
-      within = λ h. leb-true (c.beside.meter.used.text + units) c.beside.meter.limits.text g.0;
-      keeps = same_keeps c.beside.tables;
+      within = λ h. leb-true (c.context.meter.used.text + units) c.context.meter.limits.text g.0;
+      keeps = same_keeps c.context.tables;
     })
 
 -- ---- put together
-pub behind_goes : {X Y : Type 0} (one : Reader X) (two : X → Courser Y) → GoesFurther one → ((x : X) → GoesOnward (two x)) → GoesOnward {X = Y} (λ c. failing c.beside.meter (one c.spot) >>= λ x. two x.0 (at_spot_of c x.1))
+pub behind_goes : {X Y : Type 0} (one : Reader X) (two : X → ContextReader Y) → GoesFurther one → ((x : X) → ReadsOn (two x)) → ReadsOn {X = Y} (λ c. failing c.context.meter (one c.spot) >>= λ x. two x.0 (at_spot_of c x.1))
 behind_goes {X} one two f g y c d r =
-    let u = bind_told (failing c.beside.meter (one c.spot)) (λ (x : X × Spot). two x.0 (at_spot_of c x.1)) (y, d) r in
-    onward_then c (at_spot_of c u.0.1) d (spot_onward c u.0.1 (f u.0 c.spot (not_failing c.beside.meter (one c.spot) u.0 u.1))) (g u.0.0 y (at_spot_of c u.0.1) d u.2)
+    let u = bind_told (failing c.context.meter (one c.spot)) (λ (x : X × Spot). two x.0 (at_spot_of c x.1)) (y, d) r in
+    continues_then c (at_spot_of c u.0.1) d (spot_continues c u.0.1 (f u.0 c.spot (not_failing c.context.meter (one c.spot) u.0 u.1))) (g u.0.0 y (at_spot_of c u.0.1) d u.2)
 
-pub chained_goes : {X Y : Type 0} (one : Courser X) (two : X → Courser Y) → GoesOnward one → ((x : X) → GoesOnward (two x)) → GoesOnward {X = Y} (λ c. one c >>= λ x. two x.0 x.1)
+pub chained_goes : {X Y : Type 0} (one : ContextReader X) (two : X → ContextReader Y) → ReadsOn one → ((x : X) → ReadsOn (two x)) → ReadsOn {X = Y} (λ c. one c >>= λ x. two x.0 x.1)
 chained_goes {X} one two f g y c d r =
-    let u = bind_told (one c) (λ (x : X × Course). two x.0 x.1) (y, d) r in
-    onward_then c u.0.1 d (f u.0.0 c u.0.1 u.1) (g u.0.0 y u.0.1 d u.2)
+    let u = bind_told (one c) (λ (x : X × ReadState). two x.0 x.1) (y, d) r in
+    continues_then c u.0.1 d (f u.0.0 c u.0.1 u.1) (g u.0.0 y u.0.1 d u.2)
 
-pub paying_goes : {X : Type 0} (units : ℕ) (read : Courser X) → GoesOnward read → GoesOnward {X = X} (λ c. failing c.beside.meter (text_charge units c.spot.place c.beside.meter) >>= λ meter. read (course c.spot (beside meter c.beside.tables)))
+pub paying_goes : {X : Type 0} (units : ℕ) (read : ContextReader X) → ReadsOn read → ReadsOn {X = X} (λ c. failing c.context.meter (text_charge units c.spot.place c.context.meter) >>= λ meter. read (read_state c.spot (context meter c.context.tables)))
 paying_goes units read f x c d r =
-    let u = bind_told (failing c.beside.meter (text_charge units c.spot.place c.beside.meter)) (λ (m : Metering). read (course c.spot (beside m c.beside.tables))) (x, d) r in
-    onward_then c (course c.spot (beside u.0 c.beside.tables)) d (charge_goes units c u.0 u.1) (f x (course c.spot (beside u.0 c.beside.tables)) d u.2)
+    let u = bind_told (failing c.context.meter (text_charge units c.spot.place c.context.meter)) (λ (m : Metering). read (read_state c.spot (context m c.context.tables))) (x, d) r in
+    continues_then c (read_state c.spot (context u.0 c.context.tables)) d (charge_goes units c u.0 u.1) (f x (read_state c.spot (context u.0 c.context.tables)) d u.2)
 
 -- what is made of a value and of what stands beside afterwards
-pub told_goes : {X : Type 0} (f : Course → X) → GoesOnward {X = X} (λ c. told {X = X × Course} (f c, c))
-told_goes {X} f x c d r = subst (λ (z : X × Course). Onward c z.1) (told_is (f c, c) (x, d) r) (same_onward c)
+pub told_goes : {X : Type 0} (f : ReadState → X) → ReadsOn {X = X} (λ c. told {X = X × ReadState} (f c, c))
+told_goes {X} f x c d r = subst (λ (z : X × ReadState). Continues c z.1) (told_is (f c, c) (x, d) r) (same_continues c)
 
-chosen_goes : {X : Type 0} (b : Bool) (one two : Courser X) → GoesOnward one → GoesOnward two → GoesOnward {X = X} (λ c. cond b (one c) (two c))
+chosen_goes : {X : Type 0} (b : Bool) (one two : ContextReader X) → ReadsOn one → ReadsOn two → ReadsOn {X = X} (λ c. cond b (one c) (two c))
 chosen_goes true one two f g = f
 chosen_goes false one two f g = g
 
 -- ---- texts
-placed_goes : (s : Spot) (o : Option (List ℕ)) → GoesOnward {X = List ℕ} (placed_at s o)
+placed_goes : (s : Spot) (o : Option (List ℕ)) → ReadsOn {X = List ℕ} (placed_at s o)
 unfolding charged_at
 placed_goes s None x c d r = absurd cc
-placed_goes s (Some text) x c d r = paying_goes (length text) (λ e. told {X = List ℕ × Course} (text, e)) (told_goes (λ e. text)) x c d r
+placed_goes s (Some text) x c d r = paying_goes (length text) (λ e. told {X = List ℕ × ReadState} (text, e)) (told_goes (λ e. text)) x c d r
 
-hit_goes : (a : Align) (partition : Partition) → GoesOnward {X = List ℕ} (hit_at a partition)
+hit_goes : (a : Align) (partition : Partition) → ReadsOn {X = List ℕ} (hit_at a partition)
 unfolding hit_at
 hit_goes a partition x c d r =
     behind_goes (below_at partition.count a kind.BadPlace) (λ place. placed_at c.spot (partition.text_at place)) (below_goes partition.count a kind.BadPlace) (λ place. placed_goes c.spot (partition.text_at place)) x c d r
 
-missed_goes : (set : Option (List ℕ)) (a : Align) (grow : Growth) (count : ℕ) → KeepsEach grow → GoesOnward {X = List ℕ} (missed_at set a grow count)
+missed_goes : (set : Option (List ℕ)) (a : Align) (grow : Growth) (count : ℕ) → KeepsEach grow → ReadsOn {X = List ℕ} (missed_at set a grow count)
 unfolding missed_at chars_at
 missed_goes set a grow count keeps x c d r =
-    let u = bind_told (failing (after_text c.beside.meter count) (chars_at set a count (charged c.spot c.beside.meter))) (λ (p : List ℕ × Charged). told {X = List ℕ × Course} (p.0, course p.1.spot (beside p.1.meter (grow c.beside.tables p.0)))) (x, d) r in
-    let v = not_failing (after_text c.beside.meter count) (chars_at set a count (charged c.spot c.beside.meter)) u.0 u.1 in
-    let m = bind_fine (text_charge count c.spot.place c.beside.meter) (λ (n : Metering). times (char_at set a) count c.spot >>= λ text. fine {X = List ℕ × Charged} (text.0, charged text.1 n)) u.0 v in
+    let u = bind_told (failing (after_text c.context.meter count) (chars_at set a count (charged c.spot c.context.meter))) (λ (p : List ℕ × Charged). told {X = List ℕ × ReadState} (p.0, read_state p.1.spot (context p.1.meter (grow c.context.tables p.0)))) (x, d) r in
+    let v = not_failing (after_text c.context.meter count) (chars_at set a count (charged c.spot c.context.meter)) u.0 u.1 in
+    let m = bind_fine (text_charge count c.spot.place c.context.meter) (λ (n : Metering). times (char_at set a) count c.spot >>= λ text. fine {X = List ℕ × Charged} (text.0, charged text.1 n)) u.0 v in
     let t = bind_fine (times (char_at set a) count c.spot) (λ (text : List ℕ × Spot). fine {X = List ℕ × Charged} (text.0, charged text.1 m.0)) u.0 m.2 in
     let e : (t.0.0, charged t.0.1 m.0) ≡ u.0 = fine_is (t.0.0, charged t.0.1 m.0) u.0 t.2 in
-    let f : (t.0.0, course t.0.1 (beside m.0 (grow c.beside.tables t.0.0))) ≡ (x, d) =
-    ap (λ (p : List ℕ × Charged). (p.0, course p.1.spot (beside p.1.meter (grow c.beside.tables p.0)))) e ∙ told_is (u.0.0, course u.0.1.spot (beside u.0.1.meter (grow c.beside.tables u.0.0))) (x, d) u.2 in
-    let paid = charge_goes count c m.0 (ap (λ (n : Result Metering Fault). failing c.beside.meter n) m.1) in
+    let f : (t.0.0, read_state t.0.1 (context m.0 (grow c.context.tables t.0.0))) ≡ (x, d) =
+    ap (λ (p : List ℕ × Charged). (p.0, read_state p.1.spot (context p.1.meter (grow c.context.tables p.0)))) e ∙ told_is (u.0.0, read_state u.0.1.spot (context u.0.1.meter (grow c.context.tables u.0.0))) (x, d) u.2 in
+    let paid = charge_goes count c m.0 (ap (λ (n : Result Metering Fault). failing c.context.meter n) m.1) in
     let far = times_goes (char_at set a) (char_goes set a) count t.0 c.spot t.1 in
-    subst (λ (z : List ℕ × Course). Onward c z.1) f (record {
+    subst (λ (z : List ℕ × ReadState). Continues c z.1) f (record {
       bytes = far.bytes;
       place = far.place;
       units = paid.units;
       meter = paid.meter;
       within = paid.within;
-      keeps = keeps c.beside.tables t.0.0;
+      keeps = keeps c.context.tables t.0.0;
     })
 
-pub literal_goes : (a : Align) (grow : Growth) → KeepsEach grow → GoesOnward {X = List ℕ} (literal_at a grow)
+pub literal_goes : (a : Align) (grow : Growth) → KeepsEach grow → ReadsOn {X = List ℕ} (literal_at a grow)
 unfolding literal_at
 literal_goes a grow keeps = behind_goes unsigned_at (missed_at None a grow) unsigned_goes (λ count. missed_goes None a grow count keeps)
 
-indexed_goes : (a : Align) (partition : List (List ℕ)) (grow : Growth) → KeepsEach grow → GoesOnward {X = List ℕ} (indexed_at a partition grow)
+indexed_goes : (a : Align) (partition : List (List ℕ)) (grow : Growth) → KeepsEach grow → ReadsOn {X = List ℕ} (indexed_at a partition grow)
 unfolding indexed_at
 indexed_goes a partition grow keeps x c d r =
     behind_goes (below_at (length partition + 1) a kind.BadPlace) (λ code e. cond (eqb code 0) (literal_at a grow e) (placed_at c.spot (live_at partition (code - 1)) e)) (below_goes (length partition + 1) a kind.BadPlace)
     (λ code. chosen_goes (eqb code 0) (literal_at a grow) (placed_at c.spot (live_at partition (code - 1))) (literal_goes a grow keeps) (placed_goes c.spot (live_at partition (code - 1)))) x c d r
 
-pub uri_goes : (a : Align) → GoesOnward {X = List ℕ} (uri_at a)
-uri_goes a x c d r = indexed_goes a (uris c.beside.tables) with_uri keeps_uri x c d r
+pub uri_goes : (a : Align) → ReadsOn {X = List ℕ} (uri_at a)
+uri_goes a x c d r = indexed_goes a (uris c.context.tables) with_uri keeps_uri x c d r
 
-pub local_goes : (a : Align) (uri : ℕ) → GoesOnward {X = List ℕ} (local_at a uri)
+pub local_goes : (a : Align) (uri : ℕ) → ReadsOn {X = List ℕ} (local_at a uri)
 unfolding local_at
-local_goes a uri = behind_goes unsigned_at (λ code c. cond (eqb code 0) (hit_at a (listed (locals c.beside.tables uri)) c) (missed_at None a (λ p. with_local p uri) (code - 1) c)) unsigned_goes
-    (λ code. chosen_goes (eqb code 0) (λ c. hit_at a (listed (locals c.beside.tables uri)) c) (missed_at None a (λ p. with_local p uri) (code - 1)) (λ x c. hit_goes a (listed (locals c.beside.tables uri)) x c) (missed_goes None a (λ p. with_local p uri) (code - 1) (λ p. keeps_local p uri)))
+local_goes a uri = behind_goes unsigned_at (λ code c. cond (eqb code 0) (hit_at a (listed (locals c.context.tables uri)) c) (missed_at None a (λ p. with_local p uri) (code - 1) c)) unsigned_goes
+    (λ code. chosen_goes (eqb code 0) (λ c. hit_at a (listed (locals c.context.tables uri)) c) (missed_at None a (λ p. with_local p uri) (code - 1)) (λ x c. hit_goes a (listed (locals c.context.tables uri)) x c) (missed_goes None a (λ p. with_local p uri) (code - 1) (λ p. keeps_local p uri)))
 
-pub value_goes : (set : Option (List ℕ)) (a : Align) (name : NameId) → GoesOnward {X = List ℕ} (value_at set a name)
+pub value_goes : (set : Option (List ℕ)) (a : Align) (name : NameId) → ReadsOn {X = List ℕ} (value_at set a name)
 unfolding value_at
 value_goes set a name = behind_goes unsigned_at
-    (λ code c. cond (eqb code 0) (hit_at a (own_values c.beside.tables name) c) (cond (eqb code 1) (hit_at a (listed (values c.beside.tables)) c) (missed_at set a (λ p. with_value p name) (code - 2) c))) unsigned_goes
-    (λ code. chosen_goes (eqb code 0) (λ c. hit_at a (own_values c.beside.tables name) c) (λ c. cond (eqb code 1) (hit_at a (listed (values c.beside.tables)) c) (missed_at set a (λ p. with_value p name) (code - 2) c)) (λ x c. hit_goes a (own_values c.beside.tables name) x c)
-    (chosen_goes (eqb code 1) (λ c. hit_at a (listed (values c.beside.tables)) c) (missed_at set a (λ p. with_value p name) (code - 2)) (λ x c. hit_goes a (listed (values c.beside.tables)) x c) (missed_goes set a (λ p. with_value p name) (code - 2) (λ p. keeps_value p name))))
+    (λ code c. cond (eqb code 0) (hit_at a (own_values c.context.tables name) c) (cond (eqb code 1) (hit_at a (listed (values c.context.tables)) c) (missed_at set a (λ p. with_value p name) (code - 2) c))) unsigned_goes
+    (λ code. chosen_goes (eqb code 0) (λ c. hit_at a (own_values c.context.tables name) c) (λ c. cond (eqb code 1) (hit_at a (listed (values c.context.tables)) c) (missed_at set a (λ p. with_value p name) (code - 2) c)) (λ x c. hit_goes a (own_values c.context.tables name) x c)
+    (chosen_goes (eqb code 1) (λ c. hit_at a (listed (values c.context.tables)) c) (missed_at set a (λ p. with_value p name) (code - 2)) (λ x c. hit_goes a (listed (values c.context.tables)) x c) (missed_goes set a (λ p. with_value p name) (code - 2) (λ p. keeps_value p name))))
 
 -- ---- names
-prefix_in_goes : (a : Align) (partition : List (List ℕ)) → GoesOnward {X = Option (List ℕ)} (told_prefix a partition)
+prefix_in_goes : (a : Align) (partition : List (List ℕ)) → ReadsOn {X = Option (List ℕ)} (told_prefix a partition)
 prefix_in_goes a [] = told_goes (λ c. None)
-prefix_in_goes a (p ∷ ps) = chained_goes (hit_at a (listed (p ∷ ps))) (λ text c. told {X = Option (List ℕ) × Course} (Some text, c)) (hit_goes a (listed (p ∷ ps))) (λ text. told_goes (λ c. Some text))
+prefix_in_goes a (p ∷ ps) = chained_goes (hit_at a (listed (p ∷ ps))) (λ text c. told {X = Option (List ℕ) × ReadState} (Some text, c)) (hit_goes a (listed (p ∷ ps))) (λ text. told_goes (λ c. Some text))
 
-pub prefix_goes : (keep : Bool) (a : Align) (uri : ℕ) → GoesOnward {X = Option (List ℕ)} (prefix_at keep a uri)
-prefix_goes true a uri x c d r = prefix_in_goes a (prefixes c.beside.tables uri) x c d r
+pub prefix_goes : (keep : Bool) (a : Align) (uri : ℕ) → ReadsOn {X = Option (List ℕ)} (prefix_at keep a uri)
+prefix_goes true a uri x c d r = prefix_in_goes a (prefixes c.context.tables uri) x c d r
 prefix_goes false a uri x c d r = told_goes (λ e. None) x c d r
 
 abbrev named_of : NameId → List ℕ → List ℕ → Option (List ℕ) → Named
 named_of id uri local prefix = record { id = id; name = record { uri = uri; local = local; prefix = prefix } }
 
 module _ (keep : Bool) (a : Align) where
-  abbrev in_space : ℕ → List ℕ → List ℕ → Option (List ℕ) → Course → Named
-  in_space uri space local prefix c = named_of (record { uri = uri; local = place_in (locals c.beside.tables uri) local }) space local prefix
+  abbrev in_space : ℕ → List ℕ → List ℕ → Option (List ℕ) → ReadState → Named
+  in_space uri space local prefix c = named_of (record { uri = uri; local = place_in (locals c.context.tables uri) local }) space local prefix
 
-  under_goes : (uri : ℕ) (space : List ℕ) → GoesOnward {X = Named} (name_under keep a uri space)
+  under_goes : (uri : ℕ) (space : List ℕ) → ReadsOn {X = Named} (name_under keep a uri space)
   unfolding name_under
-  under_goes uri space = chained_goes (local_at a uri) (λ local c. prefix_at keep a uri c >>= λ prefix. told {X = Named × Course} (in_space uri space local prefix.0 prefix.1, prefix.1)) (local_goes a uri)
-      (λ local. chained_goes (prefix_at keep a uri) (λ prefix c. told {X = Named × Course} (in_space uri space local prefix c, c)) (prefix_goes keep a uri) (λ prefix. told_goes (in_space uri space local prefix)))
+  under_goes uri space = chained_goes (local_at a uri) (λ local c. prefix_at keep a uri c >>= λ prefix. told {X = Named × ReadState} (in_space uri space local prefix.0 prefix.1, prefix.1)) (local_goes a uri)
+      (λ local. chained_goes (prefix_at keep a uri) (λ prefix c. told {X = Named × ReadState} (in_space uri space local prefix c, c)) (prefix_goes keep a uri) (λ prefix. told_goes (in_space uri space local prefix)))
 
-  pub name_goes : GoesOnward {X = Named} (name_at keep a)
+  pub name_goes : ReadsOn {X = Named} (name_at keep a)
   unfolding name_at
-  name_goes = chained_goes (uri_at a) (λ space c. name_under keep a (place_in (uris c.beside.tables) space) space c) (uri_goes a) (λ space x c. under_goes (place_in (uris c.beside.tables) space) space x c)
+  name_goes = chained_goes (uri_at a) (λ space c. name_under keep a (place_in (uris c.context.tables) space) space c) (uri_goes a) (λ space x c. under_goes (place_in (uris c.context.tables) space) space x c)
 
-  pub known_goes : (id : NameId) → GoesOnward {X = Named} (known_at keep a id)
+  pub known_goes : (id : NameId) → ReadsOn {X = Named} (known_at keep a id)
   unfolding known_at
   known_goes id x b d r =
-      chained_goes (λ c. placed_at b.spot (live_at (uris c.beside.tables) id.uri) c)
-      (λ uri c. placed_at b.spot (live_at (locals c.beside.tables id.uri) id.local) c >>= λ local. prefix_at keep a id.uri local.1 >>= λ prefix. told {X = Named × Course} (named_of id uri local.0 prefix.0, prefix.1))
-      (λ y c. placed_goes b.spot (live_at (uris c.beside.tables) id.uri) y c)
-      (λ uri. chained_goes (λ c. placed_at b.spot (live_at (locals c.beside.tables id.uri) id.local) c)
-      (λ local c. prefix_at keep a id.uri c >>= λ prefix. told {X = Named × Course} (named_of id uri local prefix.0, prefix.1))
-      (λ y c. placed_goes b.spot (live_at (locals c.beside.tables id.uri) id.local) y c)
-      (λ local. chained_goes (prefix_at keep a id.uri) (λ prefix c. told {X = Named × Course} (named_of id uri local prefix, c)) (prefix_goes keep a id.uri) (λ prefix. told_goes (λ c. named_of id uri local prefix))))
+      chained_goes (λ c. placed_at b.spot (live_at (uris c.context.tables) id.uri) c)
+      (λ uri c. placed_at b.spot (live_at (locals c.context.tables id.uri) id.local) c >>= λ local. prefix_at keep a id.uri local.1 >>= λ prefix. told {X = Named × ReadState} (named_of id uri local.0 prefix.0, prefix.1))
+      (λ y c. placed_goes b.spot (live_at (uris c.context.tables) id.uri) y c)
+      (λ uri. chained_goes (λ c. placed_at b.spot (live_at (locals c.context.tables id.uri) id.local) c)
+      (λ local c. prefix_at keep a id.uri c >>= λ prefix. told {X = Named × ReadState} (named_of id uri local prefix.0, prefix.1))
+      (λ y c. placed_goes b.spot (live_at (locals c.context.tables id.uri) id.local) y c)
+      (λ local. chained_goes (prefix_at keep a id.uri) (λ prefix c. told {X = Named × ReadState} (named_of id uri local prefix, c)) (prefix_goes keep a id.uri) (λ prefix. told_goes (λ c. named_of id uri local prefix))))
       x b d r
 
-  pub name_value_goes : GoesOnward {X = Named} (name_value_at keep a)
+  pub name_value_goes : ReadsOn {X = Named} (name_value_at keep a)
   unfolding name_value_at
   name_value_goes = paying_goes 1 (name_at keep a) name_goes
 
 -- ---- namespace declarations
 module _ (a : Align) where
-  abbrev space_of : List ℕ → Course → ℕ
-  space_of uri c = place_in (uris c.beside.tables) uri
+  abbrev space_of : List ℕ → ReadState → ℕ
+  space_of uri c = place_in (uris c.context.tables) uri
 
   abbrev declared_as : List ℕ → List ℕ → ℕ → Declaration
   declared_as uri prefix flag = record { uri = uri; prefix = prefix; element = eqb flag 1 }
 
-  pub declaration_goes : GoesOnward {X = Declaration} (declaration_at a)
+  pub declaration_goes : ReadsOn {X = Declaration} (declaration_at a)
   unfolding declaration_at declared_under
   declaration_goes = chained_goes (uri_at a)
-      (λ uri c. indexed_at a (prefixes c.beside.tables (space_of uri c)) (λ p. with_prefix p (space_of uri c)) c >>= λ prefix. failing prefix.1.beside.meter (below_at 2 a kind.BadPlace prefix.1.spot) >>= λ flag. told {X = Declaration × Course} (declared_as uri prefix.0 flag.0, at_spot_of prefix.1 flag.1))
+      (λ uri c. indexed_at a (prefixes c.context.tables (space_of uri c)) (λ p. with_prefix p (space_of uri c)) c >>= λ prefix. failing prefix.1.context.meter (below_at 2 a kind.BadPlace prefix.1.spot) >>= λ flag. told {X = Declaration × ReadState} (declared_as uri prefix.0 flag.0, at_spot_of prefix.1 flag.1))
       (uri_goes a)
-      (λ uri. chained_goes (λ c. indexed_at a (prefixes c.beside.tables (space_of uri c)) (λ p. with_prefix p (space_of uri c)) c)
-      (λ prefix c. failing c.beside.meter (below_at 2 a kind.BadPlace c.spot) >>= λ flag. told {X = Declaration × Course} (declared_as uri prefix flag.0, at_spot_of c flag.1))
-      (λ x c. indexed_goes a (prefixes c.beside.tables (space_of uri c)) (λ p. with_prefix p (space_of uri c)) (λ p. keeps_prefix p (space_of uri c)) x c)
-      (λ prefix. behind_goes (below_at 2 a kind.BadPlace) (λ flag c. told {X = Declaration × Course} (declared_as uri prefix flag, c)) (below_goes 2 a kind.BadPlace) (λ flag. told_goes (λ c. declared_as uri prefix flag))))
+      (λ uri. chained_goes (λ c. indexed_at a (prefixes c.context.tables (space_of uri c)) (λ p. with_prefix p (space_of uri c)) c)
+      (λ prefix c. failing c.context.meter (below_at 2 a kind.BadPlace c.spot) >>= λ flag. told {X = Declaration × ReadState} (declared_as uri prefix flag.0, at_spot_of c flag.1))
+      (λ x c. indexed_goes a (prefixes c.context.tables (space_of uri c)) (λ p. with_prefix p (space_of uri c)) (λ p. keeps_prefix p (space_of uri c)) x c)
+      (λ prefix. behind_goes (below_at 2 a kind.BadPlace) (λ flag c. told {X = Declaration × ReadState} (declared_as uri prefix flag, c)) (below_goes 2 a kind.BadPlace) (λ flag. told_goes (λ c. declared_as uri prefix flag))))

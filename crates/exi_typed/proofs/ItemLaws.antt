@@ -4,41 +4,41 @@ use Rattle.exi_bits.specs.declared.align.Align.{Align}
 use Rattle.exi_names.specs.declared.names.NameId.{NameId}
 use Rattle.exi_names.specs.Seen.{Value}
 use Rattle.exi_names.specs.Seen as value
-use Rattle.exi_typed.specs.Courses.{Beside, Course}
+use Rattle.exi_typed.specs.ReadStates.{Context, ReadState}
 use Rattle.exi_typed.specs.Items.{SpellsItem, SpellsQualified, SpellsString, Tabled, item_at, qualified, string}
 use Rattle.exi_typed.specs.NameValues.{SpellsNameValue, name_value_at}
-use Rattle.exi_typed.specs.Onward.{GoesOnward}
+use Rattle.exi_typed.specs.Continues.{ReadsOn}
 use Rattle.exi_typed.specs.Spelled.{SpellsValue}
 use Rattle.exi_typed.specs.Strings.{Named, value_at}
-use Rattle.exi_typed.proofs.CourseItems.{CourseItem, MadeBeside, in_words, made, told}
+use Rattle.exi_typed.proofs.ContextItems.{ContextItem, MadeInContext, in_words, made, told}
 use Rattle.exi_typed.proofs.Goings.{chained_goes, name_value_goes, told_goes, value_goes}
 use Rattle.exi_typed.proofs.NameItems.{item_name_value}
 use Rattle.exi_typed.proofs.Texts.{item_value}
 
-abbrev as_text : List ℕ → Beside → Value
+abbrev as_text : List ℕ → Context → Value
 as_text text b = value.text text
 
-abbrev as_name : Named → Beside → Value
+abbrev as_name : Named → Context → Value
 as_name n b = value.name n.name
 
-pub item_item : (kind : Tabled) (a : Align) (name : NameId) → CourseItem {X = Value} a (item_at kind a name) (SpellsItem kind a name)
+pub item_item : (kind : Tabled) (a : Align) (name : NameId) → ContextItem {X = Value} a (item_at kind a name) (SpellsItem kind a name)
 unfolding item_at
-item_item string a name = in_words a (λ c. item_at string a name c) (MadeBeside as_text (SpellsValue None a name)) (SpellsString a name) to from (made a (value_at None a name) as_text (SpellsValue None a name) (item_value None a name))
+item_item string a name = in_words a (λ c. item_at string a name c) (MadeInContext as_text (SpellsValue None a name)) (SpellsString a name) to from (made a (value_at None a name) as_text (SpellsValue None a name) (item_value None a name))
   where
-    to : (x : Value) (w v : Beside) (text : List Bool) → MadeBeside as_text (SpellsValue None a name) x w v text → SpellsString a name x w v text
+    to : (x : Value) (w v : Context) (text : List Bool) → MadeInContext as_text (SpellsValue None a name) x w v text → SpellsString a name x w v text
     to x w v text m = record { string = m.from; is = sym m.is; spelled = m.spelled }
 
-    from : (x : Value) (w v : Beside) (text : List Bool) → SpellsString a name x w v text → MadeBeside as_text (SpellsValue None a name) x w v text
+    from : (x : Value) (w v : Context) (text : List Bool) → SpellsString a name x w v text → MadeInContext as_text (SpellsValue None a name) x w v text
     from x w v text h = record { from = h.string; is = sym h.is; spelled = h.spelled }
-item_item (qualified keep) a name = in_words a (λ c. item_at (qualified keep) a name c) (MadeBeside as_name (SpellsNameValue keep a)) (SpellsQualified keep a) to from (made a (name_value_at keep a) as_name (SpellsNameValue keep a) (item_name_value keep a))
+item_item (qualified keep) a name = in_words a (λ c. item_at (qualified keep) a name c) (MadeInContext as_name (SpellsNameValue keep a)) (SpellsQualified keep a) to from (made a (name_value_at keep a) as_name (SpellsNameValue keep a) (item_name_value keep a))
   where
-    to : (x : Value) (w v : Beside) (text : List Bool) → MadeBeside as_name (SpellsNameValue keep a) x w v text → SpellsQualified keep a x w v text
+    to : (x : Value) (w v : Context) (text : List Bool) → MadeInContext as_name (SpellsNameValue keep a) x w v text → SpellsQualified keep a x w v text
     to x w v text m = record { name = m.from; is = sym m.is; spelled = m.spelled }
 
-    from : (x : Value) (w v : Beside) (text : List Bool) → SpellsQualified keep a x w v text → MadeBeside as_name (SpellsNameValue keep a) x w v text
+    from : (x : Value) (w v : Context) (text : List Bool) → SpellsQualified keep a x w v text → MadeInContext as_name (SpellsNameValue keep a) x w v text
     from x w v text h = record { from = h.name; is = sym h.is; spelled = h.spelled }
 
-pub item_goes : (kind : Tabled) (a : Align) (name : NameId) → GoesOnward {X = Value} (item_at kind a name)
+pub item_goes : (kind : Tabled) (a : Align) (name : NameId) → ReadsOn {X = Value} (item_at kind a name)
 unfolding item_at
-item_goes string a name = chained_goes (value_at None a name) (λ text c. told {X = Value × Course} (value.text text, c)) (value_goes None a name) (λ text. told_goes (λ c. value.text text))
-item_goes (qualified keep) a name = chained_goes (name_value_at keep a) (λ n c. told {X = Value × Course} (value.name n.name, c)) (name_value_goes keep a) (λ n. told_goes (λ c. value.name n.name))
+item_goes string a name = chained_goes (value_at None a name) (λ text c. told {X = Value × ReadState} (value.text text, c)) (value_goes None a name) (λ text. told_goes (λ c. value.text text))
+item_goes (qualified keep) a name = chained_goes (name_value_at keep a) (λ n c. told {X = Value × ReadState} (value.name n.name, c)) (name_value_goes keep a) (λ n. told_goes (λ c. value.name n.name))

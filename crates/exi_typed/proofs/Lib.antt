@@ -1,4 +1,4 @@
-pub mod CourseItems
+pub mod ContextItems
 pub mod Texts
 pub mod NameItems
 pub mod Additions

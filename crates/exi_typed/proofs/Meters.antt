@@ -13,31 +13,31 @@ use Rattle.exi_names.specs.Seen.{Value}
 use Rattle.exi_names.specs.Seen as value
 use Rattle.exi_tables.specs.Partitions.{Partitions, live_at, locals, prefixes, uris, values, with_local, with_prefix, with_uri, with_value}
 use Rattle.exi_text.specs.Literals.{char_at, chars_at}
-use Rattle.exi_typed.specs.Courses.{Course, Courser, Failure, at_spot_of, failing}
+use Rattle.exi_typed.specs.ReadStates.{ReadState, ContextReader, Failure, at_spot_of, failing}
 use Rattle.exi_typed.specs.Items.{Tabled, item_at, qualified, string}
 use Rattle.exi_typed.specs.Metered.{Charge, IsMetered, Metered, ReadingsAreMetered, Unmetered, charging, metered}
 use Rattle.exi_typed.specs.NameValues.{name_value_at}
 use Rattle.exi_typed.specs.Strings.{Declaration, Growth, Named, Partition, charged_at, declaration_at, declared_under, hit_at, indexed_at, known_at, listed, literal_at, local_at, missed_at, name_at, name_under, own_values, place_in, placed_at, prefix_at, told_prefix, uri_at, value_at}
-use Rattle.exi_typed.proofs.CourseItems.{beside, charged, course, fine, told}
+use Rattle.exi_typed.proofs.ContextItems.{context, charged, read_state, fine, told}
 
 -- ---- under `do`
 -- a result goes into what follows
-abbrev then_charges : {X Y : Type 0} (two : X → Courser Y) → ((x : X) → IsMetered (two x)) → Unmetered X → List Charge
+abbrev then_charges : {X Y : Type 0} (two : X → ContextReader Y) → ((x : X) → IsMetered (two x)) → Unmetered X → List Charge
 then_charges two more (Ok found) = (more found.0 found.1.0 found.1.1).charges
 then_charges two more (Err f) = []
 
-abbrev then_rest : {X Y : Type 0} (two : X → Courser Y) → ((x : X) → IsMetered (two x)) → Unmetered X → Unmetered Y
+abbrev then_rest : {X Y : Type 0} (two : X → ContextReader Y) → ((x : X) → IsMetered (two x)) → Unmetered X → Unmetered Y
 then_rest two more (Ok found) = (more found.0 found.1.0 found.1.1).rest
 then_rest two more (Err f) = Err f
 
-none_then : {X Y : Type 0} (two : X → Courser Y) (more : (x : X) → IsMetered (two x)) (r : Unmetered X) (m : Metering) → (metered m r >>= λ x. two x.0 x.1) ≡ charging (then_charges two more r) m (then_rest two more r)
+none_then : {X Y : Type 0} (two : X → ContextReader Y) (more : (x : X) → IsMetered (two x)) (r : Unmetered X) (m : Metering) → (metered m r >>= λ x. two x.0 x.1) ≡ charging (then_charges two more r) m (then_rest two more r)
 none_then two more (Ok found) m = (more found.0 found.1.0 found.1.1).is m
 none_then two more (Err f) m = refl
 
-abbrev stopped : {X : Type 0} → Charge → Metering → Result (X × Course) Failure
+abbrev stopped : {X : Type 0} → Charge → Metering → Result (X × ReadState) Failure
 stopped k m = Err (record { fault = record { kind = kind.TextLimit; bit = k.bit }; meter = m })
 
-charges_then : {X Y : Type 0} (two : X → Courser Y) (more : (x : X) → IsMetered (two x)) (r : Unmetered X) (ks : List Charge) (m : Metering) → (charging ks m r >>= λ x. two x.0 x.1) ≡ charging (ks ++ then_charges two more r) m (then_rest two more r)
+charges_then : {X Y : Type 0} (two : X → ContextReader Y) (more : (x : X) → IsMetered (two x)) (r : Unmetered X) (ks : List Charge) (m : Metering) → (charging ks m r >>= λ x. two x.0 x.1) ≡ charging (ks ++ then_charges two more r) m (then_rest two more r)
 charges_then two more r [] m = none_then two more r m
 charges_then {X} {Y} two more r (k ∷ ks) m = by_fit (charges_then two more r ks (with_text m k.units)) (text_fits m k.units)
   where
@@ -47,11 +47,11 @@ charges_then {X} {Y} two more r (k ∷ ks) m = by_fit (charges_then two more r k
     by_fit e false = refl
 
 -- one reading behind another
-pub bind_metered : {X Y : Type 0} (one : Courser X) (two : X → Courser Y) → IsMetered one → ((x : X) → IsMetered (two x)) → IsMetered {X = Y} (λ c. one c >>= λ x. two x.0 x.1)
+pub bind_metered : {X Y : Type 0} (one : ContextReader X) (two : X → ContextReader Y) → IsMetered one → ((x : X) → IsMetered (two x)) → IsMetered {X = Y} (λ c. one c >>= λ x. two x.0 x.1)
 bind_metered {X} {Y} one two first more s p = record {
   charges = (first s p).charges ++ then_charges two more (first s p).rest;
   rest = then_rest two more (first s p).rest;
-  is = λ m. ap (λ (z : Result (X × Course) Failure). z >>= λ x. two x.0 x.1) ((first s p).is m) ∙ charges_then two more (first s p).rest (first s p).charges m;
+  is = λ m. ap (λ (z : Result (X × ReadState) Failure). z >>= λ x. two x.0 x.1) ((first s p).is m) ∙ charges_then two more (first s p).rest (first s p).charges m;
 }
 
 -- ---- what charges nothing
@@ -59,23 +59,23 @@ pub pure_metered : {X : Type 0} (x : X) → IsMetered {X = X} (λ c. Ok (x, c))
 pure_metered x s p = record { charges = []; rest = Ok (x, (s, p)); is = λ m. refl }
 
 -- bits alone, and then a reading
-after_bits : {X Y : Type 0} (p : Partitions) (two : X → Courser Y) → ((x : X) → IsMetered (two x)) → (r : Result (X × Spot) Fault) → Metered {X = Y} (λ m. failing m r >>= λ x. two x.0 (course x.1 (beside m p)))
+after_bits : {X Y : Type 0} (p : Partitions) (two : X → ContextReader Y) → ((x : X) → IsMetered (two x)) → (r : Result (X × Spot) Fault) → Metered {X = Y} (λ m. failing m r >>= λ x. two x.0 (read_state x.1 (context m p)))
 after_bits p two more (Ok x) = record { charges = (more x.0 x.1 p).charges; rest = (more x.0 x.1 p).rest; is = λ m. (more x.0 x.1 p).is m }
 after_bits p two more (Err f) = record { charges = []; rest = Err f; is = λ m. refl }
 
-pub behind_metered : {X Y : Type 0} (one : Reader X) (two : X → Courser Y) → ((x : X) → IsMetered (two x)) → IsMetered {X = Y} (λ c. failing c.beside.meter (one c.spot) >>= λ x. two x.0 (at_spot_of c x.1))
+pub behind_metered : {X Y : Type 0} (one : Reader X) (two : X → ContextReader Y) → ((x : X) → IsMetered (two x)) → IsMetered {X = Y} (λ c. failing c.context.meter (one c.spot) >>= λ x. two x.0 (at_spot_of c x.1))
 behind_metered one two more s p = after_bits p two more (one s)
 
-pub chosen_metered : {X : Type 0} (b : Bool) (one two : Courser X) → IsMetered one → IsMetered two → IsMetered {X = X} (λ c. cond b (one c) (two c))
+pub chosen_metered : {X : Type 0} (b : Bool) (one two : ContextReader X) → IsMetered one → IsMetered two → IsMetered {X = X} (λ c. cond b (one c) (two c))
 chosen_metered true one two f g = f
 chosen_metered false one two f g = g
 
 -- what depends on the spot and the tables at its start
-pub at_start_metered : {X : Type 0} (read : Spot → Partitions → Courser X) → ((s : Spot) (p : Partitions) → IsMetered (read s p)) → IsMetered {X = X} (λ c. read c.spot c.beside.tables c)
+pub at_start_metered : {X : Type 0} (read : Spot → Partitions → ContextReader X) → ((s : Spot) (p : Partitions) → IsMetered (read s p)) → IsMetered {X = X} (λ c. read c.spot c.context.tables c)
 at_start_metered read more s p = more s p s p
 
 -- ---- a charge, and what follows
-pub paying_metered : {X : Type 0} (units : ℕ) (read : Courser X) → IsMetered read → IsMetered {X = X} (λ c. failing c.beside.meter (text_charge units c.spot.place c.beside.meter) >>= λ meter. read (course c.spot (beside meter c.beside.tables)))
+pub paying_metered : {X : Type 0} (units : ℕ) (read : ContextReader X) → IsMetered read → IsMetered {X = X} (λ c. failing c.context.meter (text_charge units c.spot.place c.context.meter) >>= λ meter. read (read_state c.spot (context meter c.context.tables)))
 unfolding text_charge
 paying_metered {X} units read more s p = record {
   charges = record { units = units; bit = s.place } ∷ (more s p).charges;
@@ -86,13 +86,13 @@ paying_metered {X} units read more s p = record {
     limit : Fault
     limit = record { kind = kind.TextLimit; bit = s.place }
 
-    by_fit : (m : Metering) (b : Bool) → (failing m (cond b (Ok (with_text m units)) (Err limit)) >>= λ meter. read (course s (beside meter p))) ≡ cond b (charging (more s p).charges (with_text m units) (more s p).rest) (Err (record { fault = limit; meter = m }))
+    by_fit : (m : Metering) (b : Bool) → (failing m (cond b (Ok (with_text m units)) (Err limit)) >>= λ meter. read (read_state s (context meter p))) ≡ cond b (charging (more s p).charges (with_text m units) (more s p).rest) (Err (record { fault = limit; meter = m }))
     by_fit m true = (more s p).is (with_text m units)
     by_fit m false = refl
 
 charged_metered : (text : List ℕ) → IsMetered (charged_at text)
 unfolding charged_at
-charged_metered text = paying_metered (length text) (λ c. told {X = List ℕ × Course} (text, c)) (pure_metered text)
+charged_metered text = paying_metered (length text) (λ c. told {X = List ℕ × ReadState} (text, c)) (pure_metered text)
 
 placed_metered : (s : Spot) (o : Option (List ℕ)) → IsMetered (placed_at s o)
 placed_metered s (Some text) t p = charged_metered text t p
@@ -107,8 +107,8 @@ abbrev grown : Growth → Partitions → Result (List ℕ × Spot) Fault → Unm
 grown grow p (Ok text) = Ok (text.0, (text.1, grow p text.0))
 grown grow p (Err f) = Err f
 
-abbrev missing : Growth → Partitions → List ℕ × Charged → Result (List ℕ × Course) Failure
-missing grow p text = told (text.0, course text.1.spot (beside text.1.meter (grow p text.0)))
+abbrev missing : Growth → Partitions → List ℕ × Charged → Result (List ℕ × ReadState) Failure
+missing grow p text = told (text.0, read_state text.1.spot (context text.1.meter (grow p text.0)))
 
 missed_metered : (set : Option (List ℕ)) (a : Align) (grow : Growth) (count : ℕ) → IsMetered (missed_at set a grow count)
 unfolding missed_at chars_at text_charge
@@ -157,7 +157,7 @@ value_metered set a name s p = behind_metered unsigned_at
 -- ---- names
 prefix_in_metered : (a : Align) (partition : List (List ℕ)) → IsMetered (told_prefix a partition)
 prefix_in_metered a [] = pure_metered None
-prefix_in_metered a (q ∷ qs) = bind_metered (hit_at a (listed (q ∷ qs))) (λ text c. told {X = Option (List ℕ) × Course} (Some text, c)) (hit_metered a (listed (q ∷ qs))) (λ text. pure_metered (Some text))
+prefix_in_metered a (q ∷ qs) = bind_metered (hit_at a (listed (q ∷ qs))) (λ text c. told {X = Option (List ℕ) × ReadState} (Some text, c)) (hit_metered a (listed (q ∷ qs))) (λ text. pure_metered (Some text))
 
 prefix_metered : (keep : Bool) (a : Align) (uri : ℕ) → IsMetered (prefix_at keep a uri)
 prefix_metered true a uri s p = prefix_in_metered a (prefixes p uri) s p
@@ -172,24 +172,24 @@ module _ (keep : Bool) (a : Align) where
 
   under_metered : (uri : ℕ) (space : List ℕ) → IsMetered (name_under keep a uri space)
   unfolding name_under
-  under_metered uri space = bind_metered (local_at a uri) (λ local c. prefix_at keep a uri c >>= λ prefix. told {X = Named × Course} (in_space uri space local prefix.0 prefix.1.beside.tables, prefix.1)) (local_metered a uri)
-      (λ local. bind_metered (prefix_at keep a uri) (λ prefix c. told {X = Named × Course} (in_space uri space local prefix c.beside.tables, c)) (prefix_metered keep a uri)
+  under_metered uri space = bind_metered (local_at a uri) (λ local c. prefix_at keep a uri c >>= λ prefix. told {X = Named × ReadState} (in_space uri space local prefix.0 prefix.1.context.tables, prefix.1)) (local_metered a uri)
+      (λ local. bind_metered (prefix_at keep a uri) (λ prefix c. told {X = Named × ReadState} (in_space uri space local prefix c.context.tables, c)) (prefix_metered keep a uri)
       (λ prefix s p. record { charges = []; rest = Ok (in_space uri space local prefix p, (s, p)); is = λ m. refl }))
 
   pub name_metered : IsMetered (name_at keep a)
   unfolding name_at
-  name_metered = bind_metered (uri_at a) (λ space c. name_under keep a (place_in (uris c.beside.tables) space) space c) (uri_metered a) (λ space s p. under_metered (place_in (uris p) space) space s p)
+  name_metered = bind_metered (uri_at a) (λ space c. name_under keep a (place_in (uris c.context.tables) space) space c) (uri_metered a) (λ space s p. under_metered (place_in (uris p) space) space s p)
 
   pub known_metered : (id : NameId) → IsMetered (known_at keep a id)
   unfolding known_at
   known_metered id s p =
-      bind_metered (λ c. placed_at s (live_at (uris c.beside.tables) id.uri) c)
-      (λ uri c. placed_at s (live_at (locals c.beside.tables id.uri) id.local) c >>= λ local. prefix_at keep a id.uri local.1 >>= λ prefix. told {X = Named × Course} (named_of id uri local.0 prefix.0, prefix.1))
+      bind_metered (λ c. placed_at s (live_at (uris c.context.tables) id.uri) c)
+      (λ uri c. placed_at s (live_at (locals c.context.tables id.uri) id.local) c >>= λ local. prefix_at keep a id.uri local.1 >>= λ prefix. told {X = Named × ReadState} (named_of id uri local.0 prefix.0, prefix.1))
       (λ t q. placed_metered s (live_at (uris q) id.uri) t q)
-      (λ uri. bind_metered (λ c. placed_at s (live_at (locals c.beside.tables id.uri) id.local) c)
-      (λ local c. prefix_at keep a id.uri c >>= λ prefix. told {X = Named × Course} (named_of id uri local prefix.0, prefix.1))
+      (λ uri. bind_metered (λ c. placed_at s (live_at (locals c.context.tables id.uri) id.local) c)
+      (λ local c. prefix_at keep a id.uri c >>= λ prefix. told {X = Named × ReadState} (named_of id uri local prefix.0, prefix.1))
       (λ t q. placed_metered s (live_at (locals q id.uri) id.local) t q)
-      (λ local. bind_metered (prefix_at keep a id.uri) (λ prefix c. told {X = Named × Course} (named_of id uri local prefix, c)) (prefix_metered keep a id.uri) (λ prefix. pure_metered (named_of id uri local prefix))))
+      (λ local. bind_metered (prefix_at keep a id.uri) (λ prefix c. told {X = Named × ReadState} (named_of id uri local prefix, c)) (prefix_metered keep a id.uri) (λ prefix. pure_metered (named_of id uri local prefix))))
       s p
 
   pub name_value_metered : IsMetered (name_value_at keep a)
@@ -207,18 +207,18 @@ module _ (a : Align) where
   pub declaration_metered : IsMetered (declaration_at a)
   unfolding declaration_at declared_under
   declaration_metered = bind_metered (uri_at a)
-      (λ uri c. indexed_at a (prefixes c.beside.tables (space_of uri c.beside.tables)) (λ q. with_prefix q (space_of uri c.beside.tables)) c >>= λ prefix. failing prefix.1.beside.meter (below_at 2 a kind.BadPlace prefix.1.spot) >>= λ flag. told {X = Declaration × Course} (declared_as uri prefix.0 flag.0, at_spot_of prefix.1 flag.1))
+      (λ uri c. indexed_at a (prefixes c.context.tables (space_of uri c.context.tables)) (λ q. with_prefix q (space_of uri c.context.tables)) c >>= λ prefix. failing prefix.1.context.meter (below_at 2 a kind.BadPlace prefix.1.spot) >>= λ flag. told {X = Declaration × ReadState} (declared_as uri prefix.0 flag.0, at_spot_of prefix.1 flag.1))
       (uri_metered a)
-      (λ uri. bind_metered (λ c. indexed_at a (prefixes c.beside.tables (space_of uri c.beside.tables)) (λ q. with_prefix q (space_of uri c.beside.tables)) c)
-      (λ prefix c. failing c.beside.meter (below_at 2 a kind.BadPlace c.spot) >>= λ flag. told {X = Declaration × Course} (declared_as uri prefix flag.0, at_spot_of c flag.1))
+      (λ uri. bind_metered (λ c. indexed_at a (prefixes c.context.tables (space_of uri c.context.tables)) (λ q. with_prefix q (space_of uri c.context.tables)) c)
+      (λ prefix c. failing c.context.meter (below_at 2 a kind.BadPlace c.spot) >>= λ flag. told {X = Declaration × ReadState} (declared_as uri prefix flag.0, at_spot_of c flag.1))
       (λ s p. indexed_metered a (prefixes p (space_of uri p)) (λ q. with_prefix q (space_of uri p)) s p)
-      (λ prefix. behind_metered (below_at 2 a kind.BadPlace) (λ flag c. told {X = Declaration × Course} (declared_as uri prefix flag, c)) (λ flag. pure_metered (declared_as uri prefix flag))))
+      (λ prefix. behind_metered (below_at 2 a kind.BadPlace) (λ flag c. told {X = Declaration × ReadState} (declared_as uri prefix flag, c)) (λ flag. pure_metered (declared_as uri prefix flag))))
 
 -- ---- items
 pub item_metered : (kind : Tabled) (a : Align) (name : NameId) → IsMetered (item_at kind a name)
 unfolding item_at
-item_metered string a name = bind_metered (value_at None a name) (λ text c. told {X = Value × Course} (value.text text, c)) (value_metered None a name) (λ text. pure_metered (value.text text))
-item_metered (qualified keep) a name = bind_metered (name_value_at keep a) (λ n c. told {X = Value × Course} (value.name n.name, c)) (name_value_metered keep a) (λ n. pure_metered (value.name n.name))
+item_metered string a name = bind_metered (value_at None a name) (λ text c. told {X = Value × ReadState} (value.text text, c)) (value_metered None a name) (λ text. pure_metered (value.text text))
+item_metered (qualified keep) a name = bind_metered (name_value_at keep a) (λ n c. told {X = Value × ReadState} (value.name n.name, c)) (name_value_metered keep a) (λ n. pure_metered (value.name n.name))
 
 pub readings_are_metered : ReadingsAreMetered
 readings_are_metered = record {

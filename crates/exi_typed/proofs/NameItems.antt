@@ -12,12 +12,12 @@ use Rattle.exi_items.proofs.Items.{item_below}
 use Rattle.exi_names.specs.declared.names.NameId.{NameId}
 use Rattle.exi_names.specs.declared.names.QName.{QName}
 use Rattle.exi_tables.specs.Partitions.{live_at, locals, prefixes, uris, with_prefix}
-use Rattle.exi_typed.specs.Courses.{Beside, Course, at_spot_of, failing}
+use Rattle.exi_typed.specs.ReadStates.{Context, ReadState, at_spot_of, failing}
 use Rattle.exi_typed.specs.Laws.{Spelling}
 use Rattle.exi_typed.specs.NameValues.{SpellsNameValue, name_value_at}
 use Rattle.exi_typed.specs.Spelled.{IsHit, IsNothing, SpellsDeclaration, SpellsFlag, SpellsKnown, SpellsLocal, SpellsName, SpellsNameUnder, SpellsNewPrefix, SpellsPrefix, SpellsUri}
 use Rattle.exi_typed.specs.Strings.{Declaration, Named, declaration_at, declared_under, hit_at, indexed_at, known_at, listed, local_at, name_at, name_under, place_in, placed_at, prefix_at, told_prefix, uri_at}
-use Rattle.exi_typed.proofs.CourseItems.{Behind, Chained, CourseItem, IsPure, IsTold, MadeBeside, PaysFirst, at_start, behind, chained, in_words, made, paying, placed, pure, some_is, told}
+use Rattle.exi_typed.proofs.ContextItems.{Behind, Chained, ContextItem, IsPure, IsTold, MadeInContext, PaysFirst, at_start, behind, chained, in_words, made, paying, placed, pure, some_is, told}
 use Rattle.exi_typed.proofs.Texts.{Below, below_fits, indexed_in, item_hit, item_local, item_uri}
 
 -- ---- a prefix
@@ -28,47 +28,47 @@ PrefixIn a partition (Some x) w v text = IsHit a (listed partition) x w v text
 no_text : (x : List ℕ) → None ≡ Some x → ⊥
 no_text x e = absurd cc
 
-prefix_in : (a : Align) (partition : List (List ℕ)) → CourseItem {X = Option (List ℕ)} a (told_prefix a partition) (PrefixIn a partition)
+prefix_in : (a : Align) (partition : List (List ℕ)) → ContextItem {X = Option (List ℕ)} a (told_prefix a partition) (PrefixIn a partition)
 prefix_in a [] = in_words a (told_prefix a []) (IsPure None) (PrefixIn a []) to from (pure a None)
   where
-    to : (x : Option (List ℕ)) (w v : Beside) (text : List Bool) → IsPure None x w v text → PrefixIn a [] x w v text
+    to : (x : Option (List ℕ)) (w v : Context) (text : List Bool) → IsPure None x w v text → PrefixIn a [] x w v text
     to None w v text z = (refl, z.nothing)
     to (Some x) w v text z = absurd (no_text x z.is)
 
-    from : (x : Option (List ℕ)) (w v : Beside) (text : List Bool) → PrefixIn a [] x w v text → IsPure None x w v text
+    from : (x : Option (List ℕ)) (w v : Context) (text : List Bool) → PrefixIn a [] x w v text → IsPure None x w v text
     from None w v text h = record { is = refl; nothing = h.1 }
     from (Some x) w v text h = let lt : h.place < 0 = slice_get_within [] h.place x h.stands in absurd (omega arith)
-prefix_in a (p ∷ ps) = in_words a (told_prefix a (p ∷ ps)) (MadeBeside (λ x v. Some x) (IsHit a (listed (p ∷ ps)))) (PrefixIn a (p ∷ ps)) to from (made a (hit_at a (listed (p ∷ ps))) (λ x v. Some x) (IsHit a (listed (p ∷ ps))) (item_hit a (listed (p ∷ ps))))
+prefix_in a (p ∷ ps) = in_words a (told_prefix a (p ∷ ps)) (MadeInContext (λ x v. Some x) (IsHit a (listed (p ∷ ps)))) (PrefixIn a (p ∷ ps)) to from (made a (hit_at a (listed (p ∷ ps))) (λ x v. Some x) (IsHit a (listed (p ∷ ps))) (item_hit a (listed (p ∷ ps))))
   where
-    to : (x : Option (List ℕ)) (w v : Beside) (text : List Bool) → MadeBeside (λ x v. Some x) (IsHit a (listed (p ∷ ps))) x w v text → PrefixIn a (p ∷ ps) x w v text
+    to : (x : Option (List ℕ)) (w v : Context) (text : List Bool) → MadeInContext (λ x v. Some x) (IsHit a (listed (p ∷ ps))) x w v text → PrefixIn a (p ∷ ps) x w v text
     to None w v text z = absurd (no_text z.from (sym z.is))
     to (Some x) w v text z = subst (λ (y : List ℕ). IsHit a (listed (p ∷ ps)) y w v text) (some_is z.from x z.is) z.spelled
 
-    from : (x : Option (List ℕ)) (w v : Beside) (text : List Bool) → PrefixIn a (p ∷ ps) x w v text → MadeBeside (λ x v. Some x) (IsHit a (listed (p ∷ ps))) x w v text
+    from : (x : Option (List ℕ)) (w v : Context) (text : List Bool) → PrefixIn a (p ∷ ps) x w v text → MadeInContext (λ x v. Some x) (IsHit a (listed (p ∷ ps))) x w v text
     from None w v text h = absurd (some_there h.0)
       where
         some_there : p ∷ ps ≡ [] → ⊥
         some_there e = absurd cc
     from (Some x) w v text h = record { from = x; is = refl; spelled = h }
 
-pub item_prefix : (keep : Bool) (a : Align) (uri : ℕ) → CourseItem {X = Option (List ℕ)} a (prefix_at keep a uri) (SpellsPrefix keep a uri)
+pub item_prefix : (keep : Bool) (a : Align) (uri : ℕ) → ContextItem {X = Option (List ℕ)} a (prefix_at keep a uri) (SpellsPrefix keep a uri)
 item_prefix true a uri = in_words a (prefix_at true a uri) (λ x w. PrefixIn a (prefixes w.tables uri) x w) (SpellsPrefix true a uri) to from
-    (at_start a (λ b. told_prefix a (prefixes b.beside.tables uri)) (λ w. PrefixIn a (prefixes w.tables uri)) (λ b. prefix_in a (prefixes b.beside.tables uri)))
+    (at_start a (λ b. told_prefix a (prefixes b.context.tables uri)) (λ w. PrefixIn a (prefixes w.tables uri)) (λ b. prefix_in a (prefixes b.context.tables uri)))
   where
-    to : (x : Option (List ℕ)) (w v : Beside) (text : List Bool) → PrefixIn a (prefixes w.tables uri) x w v text → SpellsPrefix true a uri x w v text
+    to : (x : Option (List ℕ)) (w v : Context) (text : List Bool) → PrefixIn a (prefixes w.tables uri) x w v text → SpellsPrefix true a uri x w v text
     to None w v text h = h
     to (Some x) w v text h = h
 
-    from : (x : Option (List ℕ)) (w v : Beside) (text : List Bool) → SpellsPrefix true a uri x w v text → PrefixIn a (prefixes w.tables uri) x w v text
+    from : (x : Option (List ℕ)) (w v : Context) (text : List Bool) → SpellsPrefix true a uri x w v text → PrefixIn a (prefixes w.tables uri) x w v text
     from None w v text h = h
     from (Some x) w v text h = h
 item_prefix false a uri = in_words a (prefix_at false a uri) (IsPure None) (SpellsPrefix false a uri) to from (pure a None)
   where
-    to : (x : Option (List ℕ)) (w v : Beside) (text : List Bool) → IsPure None x w v text → SpellsPrefix false a uri x w v text
+    to : (x : Option (List ℕ)) (w v : Context) (text : List Bool) → IsPure None x w v text → SpellsPrefix false a uri x w v text
     to None w v text z = z.nothing
     to (Some x) w v text z = absurd (no_text x z.is)
 
-    from : (x : Option (List ℕ)) (w v : Beside) (text : List Bool) → SpellsPrefix false a uri x w v text → IsPure None x w v text
+    from : (x : Option (List ℕ)) (w v : Context) (text : List Bool) → SpellsPrefix false a uri x w v text → IsPure None x w v text
     from None w v text h = record { is = refl; nothing = h }
     from (Some x) w v text h = absurd h
 
@@ -84,13 +84,13 @@ id_of uri local = record { uri = uri; local = local }
 
 module _ (keep : Bool) (a : Align) where
   -- a name of its parts
-  abbrev named_in : ℕ → List ℕ → List ℕ → Option (List ℕ) → Beside → Named
+  abbrev named_in : ℕ → List ℕ → List ℕ → Option (List ℕ) → Context → Named
   named_in uri space local prefix v = named_by (id_of uri (place_in (locals v.tables uri) local)) (name_of space local prefix)
 
   abbrev UnderBits : ℕ → List ℕ → Spelling Named
-  UnderBits uri space = Chained (SpellsLocal a uri) (λ local. MadeBeside (named_in uri space local) (SpellsPrefix keep a uri))
+  UnderBits uri space = Chained (SpellsLocal a uri) (λ local. MadeInContext (named_in uri space local) (SpellsPrefix keep a uri))
 
-  to_under : (uri : ℕ) (space : List ℕ) (n : Named) (w v : Beside) (text : List Bool) → UnderBits uri space n w v text → SpellsNameUnder keep a uri space n w v text
+  to_under : (uri : ℕ) (space : List ℕ) (n : Named) (w v : Context) (text : List Bool) → UnderBits uri space n w v text → SpellsNameUnder keep a uri space n w v text
   to_under uri space n w v text z =
       let h = z.spelled in
       subst (λ (m : Named). SpellsNameUnder keep a uri space m w v text) h.behind.is (record {
@@ -99,7 +99,7 @@ module _ (keep : Bool) (a : Align) where
         id_is = refl;
       })
 
-  from_under : (uri : ℕ) (space : List ℕ) (n : Named) (w v : Beside) (text : List Bool) → SpellsNameUnder keep a uri space n w v text → UnderBits uri space n w v text
+  from_under : (uri : ℕ) (space : List ℕ) (n : Named) (w v : Context) (text : List Bool) → SpellsNameUnder keep a uri space n w v text → UnderBits uri space n w v text
   from_under uri space n w v text z =
       let h = z.spelled in
       let is : named_in uri space n.name.local n.name.prefix v ≡ n =
@@ -109,10 +109,10 @@ module _ (keep : Bool) (a : Align) where
         spelled = record { between = h.between; first = h.first; second = h.second; parts = h.parts; front = h.front; behind = record { from = n.name.prefix; is = is; spelled = h.behind } };
       }
 
-  under : (uri : ℕ) (space : List ℕ) → CourseItem {X = Named} a (name_under keep a uri space) (SpellsNameUnder keep a uri space)
+  under : (uri : ℕ) (space : List ℕ) → ContextItem {X = Named} a (name_under keep a uri space) (SpellsNameUnder keep a uri space)
   unfolding name_under
   under uri space = in_words a (name_under keep a uri space) (UnderBits uri space) (SpellsNameUnder keep a uri space) (to_under uri space) (from_under uri space)
-      (chained a (local_at a uri) (λ local c. prefix_at keep a uri c >>= λ prefix. told {X = Named × Course} (named_in uri space local prefix.0 prefix.1.beside, prefix.1)) (SpellsLocal a uri) (λ local. MadeBeside (named_in uri space local) (SpellsPrefix keep a uri))
+      (chained a (local_at a uri) (λ local c. prefix_at keep a uri c >>= λ prefix. told {X = Named × ReadState} (named_in uri space local prefix.0 prefix.1.context, prefix.1)) (SpellsLocal a uri) (λ local. MadeInContext (named_in uri space local) (SpellsPrefix keep a uri))
       (item_local a uri) (λ local. made a (prefix_at keep a uri) (named_in uri space local) (SpellsPrefix keep a uri) (item_prefix keep a uri)))
 
   abbrev UnderUri : List ℕ → Spelling Named
@@ -121,7 +121,7 @@ module _ (keep : Bool) (a : Align) where
   abbrev NameBits : Spelling Named
   NameBits = Chained (SpellsUri a) UnderUri
 
-  to_name : (n : Named) (w v : Beside) (text : List Bool) → NameBits n w v text → SpellsName keep a n w v text
+  to_name : (n : Named) (w v : Context) (text : List Bool) → NameBits n w v text → SpellsName keep a n w v text
   to_name n w v text z =
       let h = z.spelled in
       let same : z.from ≡ n.name.uri = sym h.behind.space_is in
@@ -134,18 +134,18 @@ module _ (keep : Bool) (a : Align) where
         under = subst (λ (x : List ℕ). UnderUri x n h.between v h.second) same h.behind;
       }
 
-  from_name : (n : Named) (w v : Beside) (text : List Bool) → SpellsName keep a n w v text → NameBits n w v text
+  from_name : (n : Named) (w v : Context) (text : List Bool) → SpellsName keep a n w v text → NameBits n w v text
   from_name n w v text h = record { from = n.name.uri; spelled = record { between = h.between; first = h.first; second = h.second; parts = h.parts; front = h.uri; behind = h.under } }
 
-  pub item_name : CourseItem {X = Named} a (name_at keep a) (SpellsName keep a)
+  pub item_name : ContextItem {X = Named} a (name_at keep a) (SpellsName keep a)
   unfolding name_at
   item_name = in_words a (name_at keep a) NameBits (SpellsName keep a) to_name from_name
-      (chained a (uri_at a) (λ space c. name_under keep a (place_in (uris c.beside.tables) space) space c) (SpellsUri a) UnderUri
-      (item_uri a) (λ space. at_start a (λ b. name_under keep a (place_in (uris b.beside.tables) space) space) (λ w. SpellsNameUnder keep a (place_in (uris w.tables) space) space) (λ b. under (place_in (uris b.beside.tables) space) space)))
+      (chained a (uri_at a) (λ space c. name_under keep a (place_in (uris c.context.tables) space) space c) (SpellsUri a) UnderUri
+      (item_uri a) (λ space. at_start a (λ b. name_under keep a (place_in (uris b.context.tables) space) space) (λ w. SpellsNameUnder keep a (place_in (uris w.tables) space) space) (λ b. under (place_in (uris b.context.tables) space) space)))
 
 -- ---- a name that the event code tells
 module _ (keep : Bool) (a : Align) (id : NameId) where
-  abbrev known_as : List ℕ → List ℕ → Option (List ℕ) → Beside → Named
+  abbrev known_as : List ℕ → List ℕ → Option (List ℕ) → Context → Named
   known_as uri local prefix v = named_by id (name_of uri local prefix)
 
   abbrev UriTold : Spelling (List ℕ)
@@ -155,13 +155,13 @@ module _ (keep : Bool) (a : Align) (id : NameId) where
   LocalTold x w = IsTold (live_at (locals w.tables id.uri) id.local) x w
 
   abbrev KnownBits : Spelling Named
-  KnownBits = Chained UriTold (λ uri. Chained LocalTold (λ local. MadeBeside (known_as uri local) (SpellsPrefix keep a id.uri)))
+  KnownBits = Chained UriTold (λ uri. Chained LocalTold (λ local. MadeInContext (known_as uri local) (SpellsPrefix keep a id.uri)))
 
-  to_known : (n : Named) (w v : Beside) (text : List Bool) → KnownBits n w v text → SpellsKnown keep a id n w v text
+  to_known : (n : Named) (w v : Context) (text : List Bool) → KnownBits n w v text → SpellsKnown keep a id n w v text
   to_known n w v text z =
       let h = z.spelled in
       let k = h.behind.spelled in
-      let same : locals h.between.tables id.uri ≡ locals w.tables id.uri = ap (λ (b : Beside). locals b.tables id.uri) h.front.pays.after in
+      let same : locals h.between.tables id.uri ≡ locals w.tables id.uri = ap (λ (b : Context). locals b.tables id.uri) h.front.pays.after in
       let stands : live_at (locals w.tables id.uri) id.local ≡ Some h.behind.from = ap (λ (texts : List (List ℕ)). live_at texts id.local) (sym same) ∙ k.front.stands in
       let parts : text ≡ k.second =
       h.parts ∙ ap (λ (t : List Bool). t ++ h.second) h.front.bits ∙ k.parts ∙ ap (λ (t : List Bool). t ++ k.second) k.front.bits in
@@ -179,11 +179,11 @@ module _ (keep : Bool) (a : Align) (id : NameId) where
         };
       })
 
-  from_known : (n : Named) (w v : Beside) (text : List Bool) → SpellsKnown keep a id n w v text → KnownBits n w v text
+  from_known : (n : Named) (w v : Context) (text : List Bool) → SpellsKnown keep a id n w v text → KnownBits n w v text
   from_known n w v text z =
       let h = z.spelled in
       let p = h.front in
-      let same : locals p.between.tables id.uri ≡ locals w.tables id.uri = ap (λ (b : Beside). locals b.tables id.uri) p.uri.after in
+      let same : locals p.between.tables id.uri ≡ locals w.tables id.uri = ap (λ (b : Context). locals b.tables id.uri) p.uri.after in
       let stands : live_at (locals p.between.tables id.uri) id.local ≡ Some n.name.local = ap (λ (texts : List (List ℕ)). live_at texts id.local) same ∙ z.local_stands in
       let parts : text ≡ h.second = h.parts ∙ ap (λ (t : List Bool). t ++ h.second) p.bits in
       let is : named_by id (name_of n.name.uri n.name.local n.name.prefix) ≡ n = ap (λ (i : NameId). named_by i n.name) (sym z.id_is) in
@@ -209,31 +209,31 @@ module _ (keep : Bool) (a : Align) (id : NameId) where
         };
       }
 
-  pub item_known : CourseItem {X = Named} a (known_at keep a id) (SpellsKnown keep a id)
+  pub item_known : ContextItem {X = Named} a (known_at keep a id) (SpellsKnown keep a id)
   unfolding known_at
   item_known = in_words a (known_at keep a id) KnownBits (SpellsKnown keep a id) to_known from_known
       (at_start a
-      (λ b c. placed_at b.spot (live_at (uris c.beside.tables) id.uri) c >>= λ uri. placed_at b.spot (live_at (locals uri.1.beside.tables id.uri) id.local) uri.1 >>= λ local. prefix_at keep a id.uri local.1 >>= λ prefix. told {X = Named × Course} (known_as uri.0 local.0 prefix.0 prefix.1.beside, prefix.1))
+      (λ b c. placed_at b.spot (live_at (uris c.context.tables) id.uri) c >>= λ uri. placed_at b.spot (live_at (locals uri.1.context.tables id.uri) id.local) uri.1 >>= λ local. prefix_at keep a id.uri local.1 >>= λ prefix. told {X = Named × ReadState} (known_as uri.0 local.0 prefix.0 prefix.1.context, prefix.1))
       (λ w. KnownBits)
-      (λ b. chained a (λ c. placed_at b.spot (live_at (uris c.beside.tables) id.uri) c)
-      (λ uri c. placed_at b.spot (live_at (locals c.beside.tables id.uri) id.local) c >>= λ local. prefix_at keep a id.uri local.1 >>= λ prefix. told {X = Named × Course} (known_as uri local.0 prefix.0 prefix.1.beside, prefix.1))
-      UriTold (λ uri. Chained LocalTold (λ local. MadeBeside (known_as uri local) (SpellsPrefix keep a id.uri)))
-      (at_start a (λ s. placed_at b.spot (live_at (uris s.beside.tables) id.uri)) (λ w. IsTold (live_at (uris w.tables) id.uri)) (λ s. placed a b.spot (live_at (uris s.beside.tables) id.uri)))
-      (λ uri. chained a (λ c. placed_at b.spot (live_at (locals c.beside.tables id.uri) id.local) c)
-      (λ local c. prefix_at keep a id.uri c >>= λ prefix. told {X = Named × Course} (known_as uri local prefix.0 prefix.1.beside, prefix.1))
-      LocalTold (λ local. MadeBeside (known_as uri local) (SpellsPrefix keep a id.uri))
-      (at_start a (λ s. placed_at b.spot (live_at (locals s.beside.tables id.uri) id.local)) (λ w. IsTold (live_at (locals w.tables id.uri) id.local)) (λ s. placed a b.spot (live_at (locals s.beside.tables id.uri) id.local)))
+      (λ b. chained a (λ c. placed_at b.spot (live_at (uris c.context.tables) id.uri) c)
+      (λ uri c. placed_at b.spot (live_at (locals c.context.tables id.uri) id.local) c >>= λ local. prefix_at keep a id.uri local.1 >>= λ prefix. told {X = Named × ReadState} (known_as uri local.0 prefix.0 prefix.1.context, prefix.1))
+      UriTold (λ uri. Chained LocalTold (λ local. MadeInContext (known_as uri local) (SpellsPrefix keep a id.uri)))
+      (at_start a (λ s. placed_at b.spot (live_at (uris s.context.tables) id.uri)) (λ w. IsTold (live_at (uris w.tables) id.uri)) (λ s. placed a b.spot (live_at (uris s.context.tables) id.uri)))
+      (λ uri. chained a (λ c. placed_at b.spot (live_at (locals c.context.tables id.uri) id.local) c)
+      (λ local c. prefix_at keep a id.uri c >>= λ prefix. told {X = Named × ReadState} (known_as uri local prefix.0 prefix.1.context, prefix.1))
+      LocalTold (λ local. MadeInContext (known_as uri local) (SpellsPrefix keep a id.uri))
+      (at_start a (λ s. placed_at b.spot (live_at (locals s.context.tables id.uri) id.local)) (λ w. IsTold (live_at (locals w.tables id.uri) id.local)) (λ s. placed a b.spot (live_at (locals s.context.tables id.uri) id.local)))
       (λ local. made a (prefix_at keep a id.uri) (known_as uri local) (SpellsPrefix keep a id.uri) (item_prefix keep a id.uri)))))
 
 -- ---- a value that is a name
-pub item_name_value : (keep : Bool) (a : Align) → CourseItem {X = Named} a (name_value_at keep a) (SpellsNameValue keep a)
+pub item_name_value : (keep : Bool) (a : Align) → ContextItem {X = Named} a (name_value_at keep a) (SpellsNameValue keep a)
 unfolding name_value_at
 item_name_value keep a = in_words a (name_value_at keep a) (PaysFirst 1 (SpellsName keep a)) (SpellsNameValue keep a) to from (paying a 1 (name_at keep a) (SpellsName keep a) (item_name keep a))
   where
-    to : (n : Named) (w v : Beside) (text : List Bool) → PaysFirst 1 (SpellsName keep a) n w v text → SpellsNameValue keep a n w v text
+    to : (n : Named) (w v : Context) (text : List Bool) → PaysFirst 1 (SpellsName keep a) n w v text → SpellsNameValue keep a n w v text
     to n w v text z = record { between = z.between; first = []; second = text; parts = refl; front = record { bits = refl; pays = z.pays }; behind = z.spelled }
 
-    from : (n : Named) (w v : Beside) (text : List Bool) → SpellsNameValue keep a n w v text → PaysFirst 1 (SpellsName keep a) n w v text
+    from : (n : Named) (w v : Context) (text : List Bool) → SpellsNameValue keep a n w v text → PaysFirst 1 (SpellsName keep a) n w v text
     from n w v text h =
         let parts : text ≡ h.second = h.parts ∙ ap (λ (t : List Bool). t ++ h.second) h.front.bits in
         record { between = h.between; pays = h.front.pays; spelled = subst (λ (t : List Bool). SpellsName keep a n h.between v t) (sym parts) h.behind }
@@ -246,8 +246,8 @@ module _ (a : Align) where
   abbrev FlagBits : List ℕ → List ℕ → Spelling Declaration
   FlagBits uri prefix = Behind (Below (width_for 2) a 2) (λ flag. IsPure (declared uri prefix (eqb flag 1)))
 
-  item_flag : (uri prefix : List ℕ) → CourseItem {X = Declaration} a (λ c. failing c.beside.meter (below_at 2 a kind.BadPlace c.spot) >>= λ flag. told {X = Declaration × Course} (declared uri prefix (eqb flag.0 1), at_spot_of c flag.1)) (FlagBits uri prefix)
-  item_flag uri prefix = behind a (below_at 2 a kind.BadPlace) (λ flag c. told {X = Declaration × Course} (declared uri prefix (eqb flag 1), c)) (Below (width_for 2) a 2) (λ flag. IsPure (declared uri prefix (eqb flag 1)))
+  item_flag : (uri prefix : List ℕ) → ContextItem {X = Declaration} a (λ c. failing c.context.meter (below_at 2 a kind.BadPlace c.spot) >>= λ flag. told {X = Declaration × ReadState} (declared uri prefix (eqb flag.0 1), at_spot_of c flag.1)) (FlagBits uri prefix)
+  item_flag uri prefix = behind a (below_at 2 a kind.BadPlace) (λ flag c. told {X = Declaration × ReadState} (declared uri prefix (eqb flag 1), c)) (Below (width_for 2) a 2) (λ flag. IsPure (declared uri prefix (eqb flag 1)))
       (item_below 2 a kind.BadPlace) (λ flag. pure a (declared uri prefix (eqb flag 1)))
 
   abbrev flag_number : Bool → ℕ
@@ -267,7 +267,7 @@ module _ (a : Align) where
   flag_back true = refl
   flag_back false = refl
 
-  to_flag : (uri prefix : List ℕ) (d : Declaration) (w v : Beside) (text : List Bool) → FlagBits uri prefix d w v text → SpellsFlag a d.element w v text
+  to_flag : (uri prefix : List ℕ) (d : Declaration) (w v : Context) (text : List Bool) → FlagBits uri prefix d w v text → SpellsFlag a d.element w v text
   unfolding width_from
   to_flag uri prefix d w v text z =
       let h = z.spelled in
@@ -277,7 +277,7 @@ module _ (a : Align) where
         after = h.behind.nothing.after;
       }
 
-  from_flag : (uri prefix : List ℕ) (d : Declaration) (w v : Beside) (text : List Bool) → uri ≡ d.uri → prefix ≡ d.prefix → SpellsFlag a d.element w v text → FlagBits uri prefix d w v text
+  from_flag : (uri prefix : List ℕ) (d : Declaration) (w v : Context) (text : List Bool) → uri ≡ d.uri → prefix ≡ d.prefix → SpellsFlag a d.element w v text → FlagBits uri prefix d w v text
   unfolding width_from
   from_flag uri prefix d w v text e f h =
       let is : declared uri prefix (eqb (flag_number d.element) 1) ≡ d =
@@ -296,7 +296,7 @@ module _ (a : Align) where
   abbrev DeclarationBits : Spelling Declaration
   DeclarationBits = Chained (SpellsUri a) (λ uri. Chained (SpellsNewPrefix a uri) (FlagBits uri))
 
-  to_declaration : (d : Declaration) (w v : Beside) (text : List Bool) → DeclarationBits d w v text → SpellsDeclaration a d w v text
+  to_declaration : (d : Declaration) (w v : Context) (text : List Bool) → DeclarationBits d w v text → SpellsDeclaration a d w v text
   to_declaration d w v text z =
       let h = z.spelled in
       let k = h.behind.spelled in
@@ -313,7 +313,7 @@ module _ (a : Align) where
         behind = record { between = k.between; first = k.first; second = k.second; parts = k.parts; front = prefix_bits; behind = to_flag z.from h.behind.from d k.between v k.second k.behind };
       }
 
-  from_declaration : (d : Declaration) (w v : Beside) (text : List Bool) → SpellsDeclaration a d w v text → DeclarationBits d w v text
+  from_declaration : (d : Declaration) (w v : Context) (text : List Bool) → SpellsDeclaration a d w v text → DeclarationBits d w v text
   from_declaration d w v text h =
       let k = h.behind in
       record {
@@ -332,18 +332,18 @@ module _ (a : Align) where
       }
 
   -- where the prefixes of a URI stand
-  abbrev space_at : List ℕ → Beside → ℕ
+  abbrev space_at : List ℕ → Context → ℕ
   space_at uri w = place_in (uris w.tables) uri
 
-  pub item_declaration : CourseItem {X = Declaration} a (declaration_at a) (SpellsDeclaration a)
+  pub item_declaration : ContextItem {X = Declaration} a (declaration_at a) (SpellsDeclaration a)
   unfolding declaration_at declared_under
   item_declaration = in_words a (declaration_at a) DeclarationBits (SpellsDeclaration a) to_declaration from_declaration
       (chained a (uri_at a)
-      (λ uri c. indexed_at a (prefixes c.beside.tables (space_at uri c.beside)) (λ p. with_prefix p (space_at uri c.beside)) c >>= λ prefix. failing prefix.1.beside.meter (below_at 2 a kind.BadPlace prefix.1.spot) >>= λ flag. told {X = Declaration × Course} (declared uri prefix.0 (eqb flag.0 1), at_spot_of prefix.1 flag.1))
+      (λ uri c. indexed_at a (prefixes c.context.tables (space_at uri c.context)) (λ p. with_prefix p (space_at uri c.context)) c >>= λ prefix. failing prefix.1.context.meter (below_at 2 a kind.BadPlace prefix.1.spot) >>= λ flag. told {X = Declaration × ReadState} (declared uri prefix.0 (eqb flag.0 1), at_spot_of prefix.1 flag.1))
       (SpellsUri a) (λ uri. Chained (SpellsNewPrefix a uri) (FlagBits uri))
       (item_uri a)
-      (λ uri. chained a (λ c. indexed_at a (prefixes c.beside.tables (space_at uri c.beside)) (λ p. with_prefix p (space_at uri c.beside)) c)
-      (λ prefix c. failing c.beside.meter (below_at 2 a kind.BadPlace c.spot) >>= λ flag. told {X = Declaration × Course} (declared uri prefix (eqb flag.0 1), at_spot_of c flag.1))
+      (λ uri. chained a (λ c. indexed_at a (prefixes c.context.tables (space_at uri c.context)) (λ p. with_prefix p (space_at uri c.context)) c)
+      (λ prefix c. failing c.context.meter (below_at 2 a kind.BadPlace c.spot) >>= λ flag. told {X = Declaration × ReadState} (declared uri prefix (eqb flag.0 1), at_spot_of c flag.1))
       (SpellsNewPrefix a uri) (FlagBits uri)
       (indexed_in a (λ w. prefixes w.tables (space_at uri w)) (λ w p. with_prefix p (space_at uri w)))
       (item_flag uri)))

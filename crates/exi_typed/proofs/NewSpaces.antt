@@ -19,15 +19,15 @@ use Rattle.exi_typed.specs.Strings.{place_in}
 abbrev fresh : List ℕ → Namespace
 fresh text = record { uri = text; locals = []; prefixes = [] }
 
-pub locals_beside : (p : Partitions) (text : List ℕ) (uri : ℕ) → locals (with_uri p text) uri ≡ locals p uri
-locals_beside p text uri = by_place (get_appended p.namespaces (fresh text) uri)
+pub locals_in_context : (p : Partitions) (text : List ℕ) (uri : ℕ) → locals (with_uri p text) uri ≡ locals p uri
+locals_in_context p text uri = by_place (get_appended p.namespaces (fresh text) uri)
   where
     by_place : (slice_get (p.namespaces ++ fresh text ∷ []) uri ≡ slice_get p.namespaces uri) ⊎ ((slice_get p.namespaces uri ≡ None) × (slice_get (p.namespaces ++ fresh text ∷ []) uri ≡ Some (fresh text))) → locals (with_uri p text) uri ≡ locals p uri
     by_place (inl e) = ap locals_in e
     by_place (inr e) = ap locals_in e.1 ∙ sym (ap locals_in e.0)
 
-pub prefixes_beside : (p : Partitions) (text : List ℕ) (uri : ℕ) → prefixes (with_uri p text) uri ≡ prefixes p uri
-prefixes_beside p text uri = by_place (get_appended p.namespaces (fresh text) uri)
+pub prefixes_in_context : (p : Partitions) (text : List ℕ) (uri : ℕ) → prefixes (with_uri p text) uri ≡ prefixes p uri
+prefixes_in_context p text uri = by_place (get_appended p.namespaces (fresh text) uri)
   where
     by_place : (slice_get (p.namespaces ++ fresh text ∷ []) uri ≡ slice_get p.namespaces uri) ⊎ ((slice_get p.namespaces uri ≡ None) × (slice_get (p.namespaces ++ fresh text ∷ []) uri ≡ Some (fresh text))) → prefixes (with_uri p text) uri ≡ prefixes p uri
     by_place (inl e) = ap prefixes_in e
@@ -35,11 +35,11 @@ prefixes_beside p text uri = by_place (get_appended p.namespaces (fresh text) ur
 
 pub locals_kept : (p : Partitions) (missed : Option (List ℕ)) (uri : ℕ) → locals (with_missed_uri p missed) uri ≡ locals p uri
 locals_kept p None uri = refl
-locals_kept p (Some text) uri = locals_beside p text uri
+locals_kept p (Some text) uri = locals_in_context p text uri
 
 pub prefixes_kept : (p : Partitions) (missed : Option (List ℕ)) (uri : ℕ) → prefixes (with_missed_uri p missed) uri ≡ prefixes p uri
 prefixes_kept p None uri = refl
-prefixes_kept p (Some text) uri = prefixes_beside p text uri
+prefixes_kept p (Some text) uri = prefixes_in_context p text uri
 
 pub uris_with : (p : Partitions) (text : List ℕ) → uris (with_uri p text) ≡ uris p ++ text ∷ []
 uris_with p text = map-append (λ n. n.uri) p.namespaces (fresh text ∷ [])

@@ -15,11 +15,11 @@ use Rattle.exi_items.proofs.Items.{item_below, item_unsigned}
 use Rattle.exi_names.specs.declared.names.NameId.{NameId}
 use Rattle.exi_tables.specs.Partitions.{live_at, locals, uris, values, with_local, with_uri, with_value}
 use Rattle.exi_text.proofs.Sets.{width_covers}
-use Rattle.exi_typed.specs.Courses.{Beside, at_spot_of, failing}
+use Rattle.exi_typed.specs.ReadStates.{Context, at_spot_of, failing}
 use Rattle.exi_typed.specs.Laws.{Spelling}
 use Rattle.exi_typed.specs.Spelled.{IsHit, SpellsIndexed, SpellsLiteral, SpellsLocal, SpellsUri, SpellsValue}
 use Rattle.exi_typed.specs.Strings.{Growth, Partition, hit_at, indexed_at, listed, literal_at, local_at, missed_at, own_values, placed_at, uri_at, value_at}
-use Rattle.exi_typed.proofs.CourseItems.{Behind, Chosen, CourseItem, IsTold, MissedOf, at_start, behind, chosen, in_words, missed, placed}
+use Rattle.exi_typed.proofs.ContextItems.{Behind, Chosen, ContextItem, IsTold, MissedOf, at_start, behind, chosen, in_words, missed, placed}
 
 -- ---- places
 wide : (n : ℕ) (a : Align) → 2 ^ n ≤ 2 ^ taken n a
@@ -41,7 +41,7 @@ Below n a count v text = (ltb v count ≡ true) × ((text ≡ number n a v) × (
 abbrev HitBits : Align → Partition → Spelling (List ℕ)
 HitBits a partition = Behind (Below (width_for partition.count) a partition.count) (λ place. IsTold (partition.text_at place))
 
-to_hit : (a : Align) (partition : Partition) (x : List ℕ) (w v : Beside) (text : List Bool) → HitBits a partition x w v text → IsHit a partition x w v text
+to_hit : (a : Align) (partition : Partition) (x : List ℕ) (w v : Context) (text : List Bool) → HitBits a partition x w v text → IsHit a partition x w v text
 to_hit a partition x w v text z =
     let h = z.spelled in
     record {
@@ -52,7 +52,7 @@ to_hit a partition x w v text z =
       pays = h.behind.pays;
     }
 
-from_hit : (a : Align) (partition : Partition) (x : List ℕ) (w v : Beside) (text : List Bool) → IsHit a partition x w v text → HitBits a partition x w v text
+from_hit : (a : Align) (partition : Partition) (x : List ℕ) (w v : Context) (text : List Bool) → IsHit a partition x w v text → HitBits a partition x w v text
 from_hit a partition x w v text h =
     record {
       from = h.place;
@@ -65,22 +65,22 @@ from_hit a partition x w v text h =
       };
     }
 
-pub item_hit : (a : Align) (partition : Partition) → CourseItem {X = List ℕ} a (hit_at a partition) (IsHit a partition)
+pub item_hit : (a : Align) (partition : Partition) → ContextItem {X = List ℕ} a (hit_at a partition) (IsHit a partition)
 unfolding hit_at
 item_hit a partition = in_words a (hit_at a partition) (HitBits a partition) (IsHit a partition) (to_hit a partition) (from_hit a partition)
-    (at_start a (λ b c. failing c.beside.meter (below_at partition.count a kind.BadPlace c.spot) >>= λ place. placed_at b.spot (partition.text_at place.0) (at_spot_of c place.1)) (λ w. HitBits a partition)
+    (at_start a (λ b c. failing c.context.meter (below_at partition.count a kind.BadPlace c.spot) >>= λ place. placed_at b.spot (partition.text_at place.0) (at_spot_of c place.1)) (λ w. HitBits a partition)
     (λ b. behind a (below_at partition.count a kind.BadPlace) (λ place. placed_at b.spot (partition.text_at place)) (Below (width_for partition.count) a partition.count) (λ place. IsTold (partition.text_at place))
     (item_below partition.count a kind.BadPlace) (λ place. placed a b.spot (partition.text_at place))))
 
 -- in a partition of the tables
-pub hit_in : (a : Align) (partition : Beside → Partition) → CourseItem {X = List ℕ} a (λ c. hit_at a (partition c.beside) c) (λ x w. IsHit a (partition w) x w)
-hit_in a partition = at_start a (λ b. hit_at a (partition b.beside)) (λ w. IsHit a (partition w)) (λ b. item_hit a (partition b.beside))
+pub hit_in : (a : Align) (partition : Context → Partition) → ContextItem {X = List ℕ} a (λ c. hit_at a (partition c.context) c) (λ x w. IsHit a (partition w) x w)
+hit_in a partition = at_start a (λ b. hit_at a (partition b.context)) (λ w. IsHit a (partition w)) (λ b. item_hit a (partition b.context))
 
 -- ---- a literal
 abbrev LiteralBits : Align → Growth → Spelling (List ℕ)
 LiteralBits a grow = Behind SpellsUnsigned (λ count. MissedOf None a grow count)
 
-to_literal : (a : Align) (grow : Growth) (x : List ℕ) (w v : Beside) (text : List Bool) → LiteralBits a grow x w v text → SpellsLiteral a grow x w v text
+to_literal : (a : Align) (grow : Growth) (x : List ℕ) (w v : Context) (text : List Bool) → LiteralBits a grow x w v text → SpellsLiteral a grow x w v text
 to_literal a grow x w v text z =
     let h = z.spelled in
     record {
@@ -91,10 +91,10 @@ to_literal a grow x w v text z =
       behind = h.behind.missed;
     }
 
-from_literal : (a : Align) (grow : Growth) (x : List ℕ) (w v : Beside) (text : List Bool) → SpellsLiteral a grow x w v text → LiteralBits a grow x w v text
+from_literal : (a : Align) (grow : Growth) (x : List ℕ) (w v : Context) (text : List Bool) → SpellsLiteral a grow x w v text → LiteralBits a grow x w v text
 from_literal a grow x w v text h = record { from = length x; spelled = record { first = h.first; second = h.second; parts = h.parts; front = h.front; behind = record { long = refl; missed = h.behind } } }
 
-pub item_literal : (a : Align) (grow : Growth) → CourseItem {X = List ℕ} a (literal_at a grow) (SpellsLiteral a grow)
+pub item_literal : (a : Align) (grow : Growth) → ContextItem {X = List ℕ} a (literal_at a grow) (SpellsLiteral a grow)
 unfolding literal_at
 item_literal a grow = in_words a (literal_at a grow) (LiteralBits a grow) (SpellsLiteral a grow) (to_literal a grow) (from_literal a grow)
     (behind a unsigned_at (missed_at None a grow) SpellsUnsigned (λ count. MissedOf None a grow count) (item_unsigned a) (missed None a grow))
@@ -107,7 +107,7 @@ not_zero (suc n) e = omega arith
 abbrev IndexedBits : Align → List (List ℕ) → Growth → Spelling (List ℕ)
 IndexedBits a partition grow = Behind (Below (width_for (length partition + 1)) a (length partition + 1)) (λ code. Chosen (eqb code 0) (SpellsLiteral a grow) (IsTold (live_at partition (code - 1))))
 
-to_indexed : (a : Align) (partition : List (List ℕ)) (grow : Growth) (x : List ℕ) (w v : Beside) (text : List Bool) → IndexedBits a partition grow x w v text → SpellsIndexed a partition grow x w v text
+to_indexed : (a : Align) (partition : List (List ℕ)) (grow : Growth) (x : List ℕ) (w v : Context) (text : List Bool) → IndexedBits a partition grow x w v text → SpellsIndexed a partition grow x w v text
 to_indexed a partition grow x w v text z = by_code (eqb z.from 0) refl z.spelled.behind
   where
     by_code : (b : Bool) → eqb z.from 0 ≡ b → Chosen b (SpellsLiteral a grow) (IsTold (live_at partition (z.from - 1))) x w v z.spelled.second → SpellsIndexed a partition grow x w v text
@@ -119,7 +119,7 @@ to_indexed a partition grow x w v text z = by_code (eqb z.from 0) refl z.spelled
       pays = k.pays;
     })
 
-from_indexed : (a : Align) (partition : List (List ℕ)) (grow : Growth) (x : List ℕ) (w v : Beside) (text : List Bool) → SpellsIndexed a partition grow x w v text → IndexedBits a partition grow x w v text
+from_indexed : (a : Align) (partition : List (List ℕ)) (grow : Growth) (x : List ℕ) (w v : Context) (text : List Bool) → SpellsIndexed a partition grow x w v text → IndexedBits a partition grow x w v text
 from_indexed a partition grow x w v text (inl h) = record {
   from = 0;
   spelled = record {
@@ -147,11 +147,11 @@ from_indexed a partition grow x w v text (inr h) =
       };
     }
 
-pub item_indexed : (a : Align) (partition : List (List ℕ)) (grow : Growth) → CourseItem {X = List ℕ} a (indexed_at a partition grow) (SpellsIndexed a partition grow)
+pub item_indexed : (a : Align) (partition : List (List ℕ)) (grow : Growth) → ContextItem {X = List ℕ} a (indexed_at a partition grow) (SpellsIndexed a partition grow)
 unfolding indexed_at
 item_indexed a partition grow = in_words a (indexed_at a partition grow) (IndexedBits a partition grow) (SpellsIndexed a partition grow) (to_indexed a partition grow) (from_indexed a partition grow)
     (at_start a
-    (λ b c. failing c.beside.meter (below_at (length partition + 1) a kind.BadPlace c.spot) >>= λ code. cond (eqb code.0 0) (literal_at a grow (at_spot_of c code.1)) (placed_at b.spot (live_at partition (code.0 - 1)) (at_spot_of c code.1)))
+    (λ b c. failing c.context.meter (below_at (length partition + 1) a kind.BadPlace c.spot) >>= λ code. cond (eqb code.0 0) (literal_at a grow (at_spot_of c code.1)) (placed_at b.spot (live_at partition (code.0 - 1)) (at_spot_of c code.1)))
     (λ w. IndexedBits a partition grow)
     (λ b. behind a (below_at (length partition + 1) a kind.BadPlace) (λ code c. cond (eqb code 0) (literal_at a grow c) (placed_at b.spot (live_at partition (code - 1)) c))
     (Below (width_for (length partition + 1)) a (length partition + 1)) (λ code. Chosen (eqb code 0) (SpellsLiteral a grow) (IsTold (live_at partition (code - 1))))
@@ -159,17 +159,17 @@ item_indexed a partition grow = in_words a (indexed_at a partition grow) (Indexe
     (λ code. chosen a (eqb code 0) (literal_at a grow) (placed_at b.spot (live_at partition (code - 1))) (SpellsLiteral a grow) (IsTold (live_at partition (code - 1))) (item_literal a grow) (placed a b.spot (live_at partition (code - 1))))))
 
 -- in a partition of the tables
-pub indexed_in : (a : Align) (partition : Beside → List (List ℕ)) (grow : Beside → Growth) → CourseItem {X = List ℕ} a (λ c. indexed_at a (partition c.beside) (grow c.beside) c) (λ x w. SpellsIndexed a (partition w) (grow w) x w)
-indexed_in a partition grow = at_start a (λ b. indexed_at a (partition b.beside) (grow b.beside)) (λ w. SpellsIndexed a (partition w) (grow w)) (λ b. item_indexed a (partition b.beside) (grow b.beside))
+pub indexed_in : (a : Align) (partition : Context → List (List ℕ)) (grow : Context → Growth) → ContextItem {X = List ℕ} a (λ c. indexed_at a (partition c.context) (grow c.context) c) (λ x w. SpellsIndexed a (partition w) (grow w) x w)
+indexed_in a partition grow = at_start a (λ b. indexed_at a (partition b.context) (grow b.context)) (λ w. SpellsIndexed a (partition w) (grow w)) (λ b. item_indexed a (partition b.context) (grow b.context))
 
-pub item_uri : (a : Align) → CourseItem {X = List ℕ} a (uri_at a) (SpellsUri a)
+pub item_uri : (a : Align) → ContextItem {X = List ℕ} a (uri_at a) (SpellsUri a)
 item_uri a = indexed_in a (λ w. uris w.tables) (λ w. with_uri)
 
 -- ---- a local name
 abbrev LocalBits : Align → ℕ → Spelling (List ℕ)
 LocalBits a uri = Behind SpellsUnsigned (λ code. Chosen (eqb code 0) (λ x w. IsHit a (listed (locals w.tables uri)) x w) (MissedOf None a (λ p. with_local p uri) (code - 1)))
 
-to_local : (a : Align) (uri : ℕ) (x : List ℕ) (w v : Beside) (text : List Bool) → LocalBits a uri x w v text → SpellsLocal a uri x w v text
+to_local : (a : Align) (uri : ℕ) (x : List ℕ) (w v : Context) (text : List Bool) → LocalBits a uri x w v text → SpellsLocal a uri x w v text
 to_local a uri x w v text z = by_code (eqb z.from 0) refl z.spelled.behind
   where
     by_code : (b : Bool) → eqb z.from 0 ≡ b → Chosen b (λ x w. IsHit a (listed (locals w.tables uri)) x w) (MissedOf None a (λ p. with_local p uri) (z.from - 1)) x w v z.spelled.second → SpellsLocal a uri x w v text
@@ -178,7 +178,7 @@ to_local a uri x w v text z = by_code (eqb z.from 0) refl z.spelled.behind
         let long : z.from ≡ suc (length x) = omega (arith, not_zero z.from e, k.long) in
         inr (record { first = z.spelled.first; second = z.spelled.second; parts = z.spelled.parts; front = subst (λ (n : ℕ). SpellsUnsigned n z.spelled.first) long z.spelled.front; behind = k.missed })
 
-from_local : (a : Align) (uri : ℕ) (x : List ℕ) (w v : Beside) (text : List Bool) → SpellsLocal a uri x w v text → LocalBits a uri x w v text
+from_local : (a : Align) (uri : ℕ) (x : List ℕ) (w v : Context) (text : List Bool) → SpellsLocal a uri x w v text → LocalBits a uri x w v text
 from_local a uri x w v text (inl h) = record { from = 0; spelled = record { first = h.first; second = h.second; parts = h.parts; front = h.front; behind = h.behind } }
 from_local a uri x w v text (inr h) =
     let other : eqb (suc (length x)) 0 ≡ false = ne_eqb (suc (length x)) 0 (λ e. omega arith) in
@@ -193,13 +193,13 @@ from_local a uri x w v text (inr h) =
       };
     }
 
-pub item_local : (a : Align) (uri : ℕ) → CourseItem {X = List ℕ} a (local_at a uri) (SpellsLocal a uri)
+pub item_local : (a : Align) (uri : ℕ) → ContextItem {X = List ℕ} a (local_at a uri) (SpellsLocal a uri)
 unfolding local_at
 item_local a uri = in_words a (local_at a uri) (LocalBits a uri) (SpellsLocal a uri) (to_local a uri) (from_local a uri)
-    (behind a unsigned_at (λ code c. cond (eqb code 0) (hit_at a (listed (locals c.beside.tables uri)) c) (missed_at None a (λ p. with_local p uri) (code - 1) c))
+    (behind a unsigned_at (λ code c. cond (eqb code 0) (hit_at a (listed (locals c.context.tables uri)) c) (missed_at None a (λ p. with_local p uri) (code - 1) c))
     SpellsUnsigned (λ code. Chosen (eqb code 0) (λ x w. IsHit a (listed (locals w.tables uri)) x w) (MissedOf None a (λ p. with_local p uri) (code - 1)))
     (item_unsigned a)
-    (λ code. chosen a (eqb code 0) (λ c. hit_at a (listed (locals c.beside.tables uri)) c) (missed_at None a (λ p. with_local p uri) (code - 1)) (λ x w. IsHit a (listed (locals w.tables uri)) x w) (MissedOf None a (λ p. with_local p uri) (code - 1))
+    (λ code. chosen a (eqb code 0) (λ c. hit_at a (listed (locals c.context.tables uri)) c) (missed_at None a (λ p. with_local p uri) (code - 1)) (λ x w. IsHit a (listed (locals w.tables uri)) x w) (MissedOf None a (λ p. with_local p uri) (code - 1))
     (hit_in a (λ w. listed (locals w.tables uri))) (missed None a (λ p. with_local p uri) (code - 1))))
 
 -- ---- a string value
@@ -216,7 +216,7 @@ module _ (set : Option (List ℕ)) (a : Align) (name : NameId) where
   abbrev ValueBits : Spelling (List ℕ)
   ValueBits = Behind SpellsUnsigned (λ code. Chosen (eqb code 0) OwnHit (Chosen (eqb code 1) AnyHit (Missed (code - 2))))
 
-  to_value : (x : List ℕ) (w v : Beside) (text : List Bool) → ValueBits x w v text → SpellsValue set a name x w v text
+  to_value : (x : List ℕ) (w v : Context) (text : List Bool) → ValueBits x w v text → SpellsValue set a name x w v text
   to_value x w v text z = by_code (eqb z.from 0) (eqb z.from 1) refl refl z.spelled.behind
     where
       front_is : (n : ℕ) → z.from ≡ n → SpellsUnsigned n z.spelled.first
@@ -234,7 +234,7 @@ module _ (set : Option (List ℕ)) (a : Align) (name : NameId) where
           above_one (suc zero) k e f long = absurd cc
           above_one (suc (suc n)) k e f long = omega arith
 
-  from_value : (x : List ℕ) (w v : Beside) (text : List Bool) → SpellsValue set a name x w v text → ValueBits x w v text
+  from_value : (x : List ℕ) (w v : Context) (text : List Bool) → SpellsValue set a name x w v text → ValueBits x w v text
   from_value x w v text (inl h) = record { from = 0; spelled = record { first = h.first; second = h.second; parts = h.parts; front = h.front; behind = h.behind } }
   from_value x w v text (inr (inl h)) = record { from = 1; spelled = record { first = h.first; second = h.second; parts = h.parts; front = h.front; behind = h.behind } }
   from_value x w v text (inr (inr h)) =
@@ -253,13 +253,13 @@ module _ (set : Option (List ℕ)) (a : Align) (name : NameId) where
         };
       }
 
-  pub item_value : CourseItem {X = List ℕ} a (value_at set a name) (SpellsValue set a name)
+  pub item_value : ContextItem {X = List ℕ} a (value_at set a name) (SpellsValue set a name)
   unfolding value_at
   item_value = in_words a (value_at set a name) ValueBits (SpellsValue set a name) to_value from_value
       (behind a unsigned_at
-      (λ code c. cond (eqb code 0) (hit_at a (own_values c.beside.tables name) c) (cond (eqb code 1) (hit_at a (listed (values c.beside.tables)) c) (missed_at set a (λ p. with_value p name) (code - 2) c)))
+      (λ code c. cond (eqb code 0) (hit_at a (own_values c.context.tables name) c) (cond (eqb code 1) (hit_at a (listed (values c.context.tables)) c) (missed_at set a (λ p. with_value p name) (code - 2) c)))
       SpellsUnsigned (λ code. Chosen (eqb code 0) OwnHit (Chosen (eqb code 1) AnyHit (Missed (code - 2))))
       (item_unsigned a)
-      (λ code. chosen a (eqb code 0) (λ c. hit_at a (own_values c.beside.tables name) c) (λ c. cond (eqb code 1) (hit_at a (listed (values c.beside.tables)) c) (missed_at set a (λ p. with_value p name) (code - 2) c)) OwnHit (Chosen (eqb code 1) AnyHit (Missed (code - 2)))
+      (λ code. chosen a (eqb code 0) (λ c. hit_at a (own_values c.context.tables name) c) (λ c. cond (eqb code 1) (hit_at a (listed (values c.context.tables)) c) (missed_at set a (λ p. with_value p name) (code - 2) c)) OwnHit (Chosen (eqb code 1) AnyHit (Missed (code - 2)))
       (hit_in a (λ w. own_values w.tables name))
-      (chosen a (eqb code 1) (λ c. hit_at a (listed (values c.beside.tables)) c) (missed_at set a (λ p. with_value p name) (code - 2)) AnyHit (Missed (code - 2)) (hit_in a (λ w. listed (values w.tables))) (missed set a (λ p. with_value p name) (code - 2)))))
+      (chosen a (eqb code 1) (λ c. hit_at a (listed (values c.context.tables)) c) (missed_at set a (λ p. with_value p name) (code - 2)) AnyHit (Missed (code - 2)) (hit_in a (λ w. listed (values w.tables))) (missed set a (λ p. with_value p name) (code - 2)))))

@@ -14,17 +14,17 @@ use Rattle.exi_names.specs.StartTables.{first_names}
 use Rattle.exi_names.specs.declared.names.NameId.{NameId}
 use Rattle.exi_tables.specs.Partitions.{Partitions, first_partitions, locals, name_value_at, prefixes, values, with_local, with_prefix, with_uri, with_value}
 use Rattle.exi_text.specs.Literals.{chars_at, code_at}
-use Rattle.exi_typed.specs.Courses.{Beside, Course, Failure}
+use Rattle.exi_typed.specs.ReadStates.{Context, ReadState, Failure}
 use Rattle.exi_typed.specs.Strings.{Named, charged_at, declaration_at, declared_under, hit_at, indexed_at, known_at, literal_at, local_at, missed_at, name_at, name_under, value_at}
 
-abbrev at_bit : List ℕ → ℕ → Beside → Course
-at_bit bytes place w = record { spot = record { bytes = bytes; place = place }; beside = w }
+abbrev at_bit : List ℕ → ℕ → Context → ReadState
+at_bit bytes place w = record { spot = record { bytes = bytes; place = place }; context = w }
 
 abbrev fresh : Partitions
 fresh = first_partitions first_names None None
 
 -- so many characters were charged
-abbrev after : ℕ → Partitions → Beside
+abbrev after : ℕ → Partitions → Context
 after units tables = record { meter = with_text (nothing_used stream_bounds) units; tables = tables }
 
 -- a fault at a bit, where so many characters were charged

@@ -8,14 +8,14 @@ use Rattle.exi_tables.specs.Growth.{NoneLonger}
 use Rattle.exi_tables.specs.Partitions.{IsName, Partitions, least_place, locals, prefixes, uris, with_local, with_uri}
 use Rattle.exi_tables.proofs.Least.{least_found}
 use Rattle.exi_text.proofs.Sets.{width_covers}
-use Rattle.exi_typed.specs.Courses.{MayHaveUri}
+use Rattle.exi_typed.specs.ReadStates.{MayHaveUri}
 use Rattle.exi_bits.specs.declared.align.Align.{Align}
 use Rattle.exi_items.specs.Fronts.{HoldsFront}
 use Rattle.exi_items.proofs.Pieces.{then_front}
 use Rattle.exi_names.specs.declared.names.QName.{QName}
 use Rattle.exi_typed.specs.Strings.{Declaration, place_in}
 use Rattle.exi_typed.specs.Written.{after_local, after_uri, declaration_bits, declared_bits, name_bits, space_for, under_bits, unless_found, uri_bits}
-use Rattle.exi_typed.proofs.NewSpaces.{local_ends, locals_beside, prefixes_beside, uri_ends, uris_local}
+use Rattle.exi_typed.proofs.NewSpaces.{local_ends, locals_in_context, prefixes_in_context, uri_ends, uris_local}
 
 -- a place below the count fits its width
 pub fits : (count place : ℕ) → place < count → place < 2 ^ width_for count
@@ -45,14 +45,14 @@ room_for_local_after p text uri few = by_place (least_place (uris p) text)
   where
     by_place : (o : Option ℕ) → length (locals (unless_found o p (with_uri p text)) uri) < 2 ^ 32 - 1
     by_place (Some place) = let f = few.few_locals uri in omega arith
-    by_place None = rw (locals_beside p text uri) (let f = few.few_locals uri in omega arith)
+    by_place None = rw (locals_in_context p text uri) (let f = few.few_locals uri in omega arith)
 
 pub room_for_prefix_after : (p : Partitions) (text : List ℕ) (uri : ℕ) → NoneLonger (2 ^ 31) p → length (prefixes (after_uri p text) uri) < 2 ^ 32 - 1
 room_for_prefix_after p text uri few = by_place (least_place (uris p) text)
   where
     by_place : (o : Option ℕ) → length (prefixes (unless_found o p (with_uri p text)) uri) < 2 ^ 32 - 1
     by_place (Some place) = let f = few.few_prefixes uri in omega arith
-    by_place None = rw (prefixes_beside p text uri) (let f = few.few_prefixes uri in omega arith)
+    by_place None = rw (prefixes_in_context p text uri) (let f = few.few_prefixes uri in omega arith)
 
 -- ---- where memory ran out
 pub always : {X E : Type 0} {P : Type 0} (r : Result X E) → P → OnErr r P

@@ -24,7 +24,7 @@ use Rattle.exi_tables.proofs.Least.{least_found}
 use Rattle.exi_tables.proofs.Looked.{stood}
 use Rattle.exi_text.specs.Literals.{chars_bits}
 use Rattle.exi_text.proofs.Letters.{chars_written}
-use Rattle.exi_typed.specs.Courses.{Beside}
+use Rattle.exi_typed.specs.ReadStates.{Context}
 use Rattle.exi_typed.specs.Spelled.{IsHit, IsMissed, SpellsIndexed, SpellsLiteral, SpellsLocal, SpellsPrefix, SpellsValue}
 use Rattle.exi_typed.specs.Strings.{Growth, listed, no_growth, own_values}
 use Rattle.exi_typed.specs.Written.{after_local, after_prefix, after_string, after_uri, below_count, declaration_bits, declared_bits, flag_number, indexed_bits, listed_bits, literal_bits, local_bits, name_bits, own_place, prefix_bits, prefix_bits_of, space_for, string_bits, string_bits_by, under_bits, unless_found, uri_bits}
@@ -37,16 +37,16 @@ unsigned : (v : ℕ) → v < 2 ^ 128 → SpellsUnsigned v (bits (shortest v))
 unsigned v narrow = record { octets = shortest v; unsigned = shortest_spelled v narrow; bits = refl }
 
 -- ---- one text
-missed : (set : Option (List ℕ)) (a : Align) (grow : Growth) (x : List ℕ) (w : Beside) → CanWrite w.meter x → IsMissed set a grow x w (paid w (length x) (grow w.tables x)) (chars_bits set a x)
+missed : (set : Option (List ℕ)) (a : Align) (grow : Growth) (x : List ℕ) (w : Context) → CanWrite w.meter x → IsMissed set a grow x w (paid w (length x) (grow w.tables x)) (chars_bits set a x)
 missed set a grow x w can = record { spelled = chars_written set a x can.xml; fits = can.fits; after = refl }
 
-literal : (a : Align) (grow : Growth) (x : List ℕ) (w : Beside) → CanWrite w.meter x → SpellsLiteral a grow x w (paid w (length x) (grow w.tables x)) (literal_bits a x)
+literal : (a : Align) (grow : Growth) (x : List ℕ) (w : Context) → CanWrite w.meter x → SpellsLiteral a grow x w (paid w (length x) (grow w.tables x)) (literal_bits a x)
 literal a grow x w can = record { first = bits (shortest (length x)); second = chars_bits None a x; parts = refl; front = unsigned (length x) (let s = can.short in omega arith); behind = missed None a grow x w can }
 
 pub literal_written : LiteralIsWritten
 literal_written a x w can = literal a no_growth x w can
 
-indexed : (a : Align) (texts : List (List ℕ)) (grow : Growth) (x : List ℕ) (w : Beside) → CanWrite w.meter x
+indexed : (a : Align) (texts : List (List ℕ)) (grow : Growth) (x : List ℕ) (w : Context) → CanWrite w.meter x
     → SpellsIndexed a texts grow x w (paid w (length x) (unless_found (least_place texts x) w.tables (grow w.tables x))) (indexed_bits a (length texts) x (least_place texts x))
 indexed a texts grow x w can = by_place (least_place texts x) refl
   where
@@ -57,7 +57,7 @@ indexed a texts grow x w can = by_place (least_place texts x) refl
 pub uri_written : UriIsWritten
 uri_written a x w can = indexed a (uris w.tables) with_uri x w can
 
-hit : (a : Align) (texts : List (List ℕ)) (x : List ℕ) (place : ℕ) (w : Beside) → text_fits w.meter (length x) ≡ true → least_place texts x ≡ Some place → IsHit a (listed texts) x w (paid w (length x) w.tables) (number (width_for (length texts)) a place)
+hit : (a : Align) (texts : List (List ℕ)) (x : List ℕ) (place : ℕ) (w : Context) → text_fits w.meter (length x) ≡ true → least_place texts x ≡ Some place → IsHit a (listed texts) x w (paid w (length x) w.tables) (number (width_for (length texts)) a place)
 hit a texts x place w fits e =
     let f = (least_found texts x place e).found in
     record { place = place; within = slice_get_within texts place x f; stands = f; bits = refl; pays = record { fits = fits; after = refl } }
@@ -131,7 +131,7 @@ own_stands t name text place sound e =
     let k = stood name place m passes in
     sound.once j s.at m s.value there s.here (sym k.0 ∙ s.under) (sym k.1 ∙ s.local))) ∙ ap (λ (x : List ℕ). Some x) s.is
 
-own_hit : (a : Align) (name : NameId) (x : List ℕ) (place : ℕ) (w : Beside) → IsSound w.tables.values → text_fits w.meter (length x) ≡ true → own_place w.tables name x ≡ Some place
+own_hit : (a : Align) (name : NameId) (x : List ℕ) (place : ℕ) (w : Context) → IsSound w.tables.values → text_fits w.meter (length x) ≡ true → own_place w.tables name x ≡ Some place
     → IsHit a (own_values w.tables name) x w (paid w (length x) w.tables) (number (width_for (name_values w.tables name)) a place)
 own_hit a name x place w sound fits e = by_place (name_value_place w.tables name x) refl e
   where
@@ -169,7 +169,7 @@ string_written set a name x w sound can = by_own (own_place w.tables name x) ref
     by_own None e = by_all (least_place (values w.tables) x) refl
 
 -- ---- names
-prefix_written : (keep : Bool) (a : Align) (uri : ℕ) (prefix : Option (List ℕ)) (w : Beside) (texts : List (List ℕ)) → prefixes w.tables uri ≡ texts → CanTell keep w.meter texts prefix
+prefix_written : (keep : Bool) (a : Align) (uri : ℕ) (prefix : Option (List ℕ)) (w : Context) (texts : List (List ℕ)) → prefixes w.tables uri ≡ texts → CanTell keep w.meter texts prefix
     → SpellsPrefix keep a uri prefix w (record { meter = told_meter w.meter prefix; tables = w.tables }) (prefix_bits_of keep a texts prefix)
 prefix_written false a uri None w texts e can = record { bits = refl; after = refl }
 prefix_written false a uri (Some x) w texts e can = absurd can
@@ -188,8 +188,8 @@ pub name_written : NameIsWritten
 name_written keep a n w can =
     let q = after_uri w.tables n.uri in
     let u = space_for w.tables n.uri in
-    let w1 : Beside = paid w (length n.uri) q in
-    let w2 : Beside = paid w1 (length n.local) (after_local q u n.local) in
+    let w1 : Context = paid w (length n.uri) q in
+    let w2 : Context = paid w1 (length n.local) (after_local q u n.local) in
     record {
       between = w1;
       first = uri_bits a w.tables n.uri;
@@ -215,8 +215,8 @@ pub declaration_written : DeclarationIsWritten
 declaration_written a d w can =
     let q = after_uri w.tables d.uri in
     let u = space_for w.tables d.uri in
-    let w1 : Beside = paid w (length d.uri) q in
-    let w2 : Beside = paid w1 (length d.prefix) (after_prefix q u d.prefix) in
+    let w1 : Context = paid w (length d.uri) q in
+    let w2 : Context = paid w1 (length d.prefix) (after_prefix q u d.prefix) in
     record {
       between = w1;
       first = uri_bits a w.tables d.uri;

@@ -8,7 +8,7 @@ use Rattle.exi_names.specs.Datatypes as datatype
 use Rattle.exi_names.specs.declared.names.NameId.{NameId}
 use Rattle.exi_names.specs.Seen.{Value}
 use Rattle.exi_names.specs.Seen as value
-use Rattle.exi_typed.specs.Courses.{Beside, Courser}
+use Rattle.exi_typed.specs.ReadStates.{Context, ContextReader}
 use Rattle.exi_typed.specs.NameValues.{SpellsNameValue, name_value_at}
 use Rattle.exi_typed.specs.Spelled.{SpellsValue}
 use Rattle.exi_typed.specs.Strings.{Named, value_at}
@@ -45,7 +45,7 @@ abbrev pub tabled : Representation → Tabled
 tabled r = unwrap_or (tabled_of r) string
 
 -- an item under a name
-unfoldable pub item_at : Tabled → Align → NameId → Courser Value
+unfoldable pub item_at : Tabled → Align → NameId → ContextReader Value
 item_at string a name c = do
   text ← value_at None a name c
   Ok (value.text text.0, text.1)
@@ -53,16 +53,16 @@ item_at (qualified keep) a name c = do
   found ← name_value_at keep a c
   Ok (value.name found.0.name, found.1)
 
-pub record SpellsString (a : Align) (name : NameId) (v : Value) (w u : Beside) (bits : List Bool) : Type 0 where
+pub record SpellsString (a : Align) (name : NameId) (v : Value) (w u : Context) (bits : List Bool) : Type 0 where
   pub string : List ℕ
   pub is : v ≡ value.text string
   pub spelled : SpellsValue None a name string w u bits
 
-pub record SpellsQualified (keep : Bool) (a : Align) (v : Value) (w u : Beside) (bits : List Bool) : Type 0 where
+pub record SpellsQualified (keep : Bool) (a : Align) (v : Value) (w u : Context) (bits : List Bool) : Type 0 where
   pub name : Named
   pub is : v ≡ value.name name.name
   pub spelled : SpellsNameValue keep a name w u bits
 
-abbrev pub SpellsItem : Tabled → Align → NameId → Value → Beside → Beside → List Bool → Type 0
+abbrev pub SpellsItem : Tabled → Align → NameId → Value → Context → Context → List Bool → Type 0
 SpellsItem string a name v w u bits = SpellsString a name v w u bits
 SpellsItem (qualified keep) a name v w u bits = SpellsQualified keep a v w u bits

@@ -3,28 +3,28 @@ use Rattle.std.specs.Prelude.{◌≡◌, ℕ, Ok, Bool, List, [], ◌++◌, leng
 use Rattle.exi_bits.specs.declared.align.Align.{Align}
 use Rattle.exi_bits.specs.Bits.{Front, IsAligned, IsBytes, Spot, moved, rest}
 use Rattle.exi_names.specs.declared.names.NameId.{NameId}
-use Rattle.exi_typed.specs.Courses.{Beside, Course, Courser}
+use Rattle.exi_typed.specs.ReadStates.{Context, ReadState, ContextReader}
 use Rattle.exi_typed.specs.Spelled.{SpellsDeclaration, SpellsKnown, SpellsLiteral, SpellsLocal, SpellsName, SpellsUri, SpellsValue}
 use Rattle.exi_typed.specs.Strings.{Growth, declaration_at, known_at, literal_at, local_at, name_at, uri_at, value_at}
 
 abbrev pub Spelling : Type 0 → Type 1
-Spelling X = X → Beside → Beside → List Bool → Type 0
+Spelling X = X → Context → Context → List Bool → Type 0
 
 -- what is read is spelled so
-abbrev pub IsSpelled : {X : Type 0} → Align → Spelling X → Courser X → Type 0
-IsSpelled {X} a Spells read = (x : X) (c d : Course) → IsBytes c.spot.bytes → IsAligned a c.spot → read c ≡ Ok (x, d) → (text : List Bool) × Spells x c.beside d.beside text × Front c.spot text d.spot
+abbrev pub IsSpelled : {X : Type 0} → Align → Spelling X → ContextReader X → Type 0
+IsSpelled {X} a Spells read = (x : X) (c d : ReadState) → IsBytes c.spot.bytes → IsAligned a c.spot → read c ≡ Ok (x, d) → (text : List Bool) × Spells x c.context d.context text × Front c.spot text d.spot
 
 -- what is spelled so is read, whatever follows
-abbrev pub IsRead : {X : Type 0} → Align → Spelling X → Courser X → Type 0
-IsRead {X} a Spells read = (x : X) (s : Spot) (w v : Beside) (text more : List Bool) → IsBytes s.bytes → IsAligned a s → Spells x w v text → rest s ≡ text ++ more
-    → read (record { spot = s; beside = w }) ≡ Ok (x, record { spot = moved s (length text); beside = v })
+abbrev pub IsRead : {X : Type 0} → Align → Spelling X → ContextReader X → Type 0
+IsRead {X} a Spells read = (x : X) (s : Spot) (w v : Context) (text more : List Bool) → IsBytes s.bytes → IsAligned a s → Spells x w v text → rest s ≡ text ++ more
+    → read (record { spot = s; context = w }) ≡ Ok (x, record { spot = moved s (length text); context = v })
 
 -- no spelling is a proper prefix of another, and each spells one text or name
 abbrev pub IsNoPrefix : {X : Type 0} → Spelling X → Type 0
-IsNoPrefix {X} Spells = (x y : X) (w v u : Beside) (text other more : List Bool) → Spells x w v text → Spells y w u other → text ≡ other ++ more → (x ≡ y) × (v ≡ u) × (more ≡ [])
+IsNoPrefix {X} Spells = (x y : X) (w v u : Context) (text other more : List Bool) → Spells x w v text → Spells y w u other → text ≡ other ++ more → (x ≡ y) × (v ≡ u) × (more ≡ [])
 
 -- the three together
-pub record Agrees {X : Type 0} (a : Align) (Spells : Spelling X) (read : Courser X) : Type 0 where
+pub record Agrees {X : Type 0} (a : Align) (Spells : Spelling X) (read : ContextReader X) : Type 0 where
   pub is_spelled : IsSpelled a Spells read
   pub is_read : IsRead a Spells read
   pub is_no_prefix : IsNoPrefix Spells

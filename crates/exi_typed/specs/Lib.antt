@@ -1,10 +1,10 @@
-pub mod Courses
+pub mod ReadStates
 pub mod Items
 pub mod Laws
 pub mod Limits
 pub mod Metered
 pub mod NameValues
-pub mod Onward
+pub mod Continues
 pub mod Places
 pub mod Spelled
 pub mod Strings

@@ -1,7 +1,7 @@
 -- No limit is passed by what reading charges, wherever it ends.
 use Rattle.std.specs.Prelude.{◌≡◌, ◌≤◌, Result, Ok, Err}
 use Rattle.exi_meter.specs.Metering.{Bounds, Metering}
-use Rattle.exi_typed.specs.Courses.{Course, Courser, Failure}
+use Rattle.exi_typed.specs.ReadStates.{ReadState, ContextReader, Failure}
 
 -- the meter has these limits, and passed none of them
 pub record IsWithin (limits : Bounds) (m : Metering) : Type 0 where
@@ -11,9 +11,9 @@ pub record IsWithin (limits : Bounds) (m : Metering) : Type 0 where
   pub depth : m.used.deepest ≤ limits.depth
 
 -- whatever is answered
-abbrev pub EndsWithin : {X : Type 0} → Bounds → Result (X × Course) Failure → Type 0
-EndsWithin limits (Ok x) = IsWithin limits x.1.beside.meter
+abbrev pub EndsWithin : {X : Type 0} → Bounds → Result (X × ReadState) Failure → Type 0
+EndsWithin limits (Ok x) = IsWithin limits x.1.context.meter
 EndsWithin limits (Err e) = IsWithin limits e.meter
 
-abbrev pub StaysWithin : {X : Type 0} → Courser X → Type 0
-StaysWithin read = (limits : Bounds) (c : Course) → IsWithin limits c.beside.meter → EndsWithin limits (read c)
+abbrev pub StaysWithin : {X : Type 0} → ContextReader X → Type 0
+StaysWithin read = (limits : Bounds) (c : ReadState) → IsWithin limits c.context.meter → EndsWithin limits (read c)

@@ -4,27 +4,27 @@ use Rattle.exi_bits.specs.declared.align.Align.{Align}
 use Rattle.exi_bits.specs.Unsigned.{◌>>=◌}
 use Rattle.exi_items.specs.Charges.{text_charge}
 use Rattle.exi_meter.specs.Metering.{Metering}
-use Rattle.exi_typed.specs.Courses.{Beside, Course, Courser, failing}
+use Rattle.exi_typed.specs.ReadStates.{Context, ReadState, ContextReader, failing}
 use Rattle.exi_typed.specs.Laws.{Agrees}
 use Rattle.exi_typed.specs.Spelled.{Follows, Pays, SpellsName}
 use Rattle.exi_typed.specs.Strings.{Named, name_at}
 
-abbrev pub with_meter : Course → Metering → Course
-with_meter c m = record { spot = c.spot; beside = record { meter = m; tables = c.beside.tables } }
+abbrev pub with_meter : ReadState → Metering → ReadState
+with_meter c m = record { spot = c.spot; context = record { meter = m; tables = c.context.tables } }
 
 -- a name, with its prefix where prefixes are kept. A value that is no text charges one unit before its first item,
 -- beside its texts (own)
-unfoldable pub name_value_at : Bool → Align → Courser Named
+unfoldable pub name_value_at : Bool → Align → ContextReader Named
 name_value_at keep a c = do
-  meter ← failing c.beside.meter (text_charge 1 c.spot.place c.beside.meter)
+  meter ← failing c.context.meter (text_charge 1 c.spot.place c.context.meter)
   name_at keep a (with_meter c meter)
 
 -- one unit is charged, and no bits
-pub record IsUnit (w v : Beside) (text : List Bool) : Type 0 where
+pub record IsUnit (w v : Context) (text : List Bool) : Type 0 where
   pub bits : text ≡ []
   pub pays : Pays 1 w v
 
-abbrev pub SpellsNameValue : Bool → Align → Named → Beside → Beside → List Bool → Type 0
+abbrev pub SpellsNameValue : Bool → Align → Named → Context → Context → List Bool → Type 0
 SpellsNameValue keep a n w v text = Follows IsUnit (SpellsName keep a n) w v text
 
 abbrev pub NameValuesAgree : Type 0

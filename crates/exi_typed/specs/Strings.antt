@@ -22,7 +22,7 @@ use Rattle.exi_names.specs.declared.names.NameId.{NameId}
 use Rattle.exi_names.specs.declared.names.QName.{QName}
 use Rattle.exi_tables.specs.Partitions.{Partitions, least_place, live_at, locals, name_value_at, name_values, prefixes, uris, values, with_local, with_prefix, with_uri, with_value}
 use Rattle.exi_text.specs.Literals.{chars_at}
-use Rattle.exi_typed.specs.Courses.{Courser, at_spot_of, failing}
+use Rattle.exi_typed.specs.ReadStates.{ContextReader, at_spot_of, failing}
 
 -- ---- one text
 -- what a partition of the string tables tells: how many places were given, and the text of each that is live
@@ -47,52 +47,52 @@ abbrev pub no_growth : Growth
 no_growth p text = p
 
 -- a text that stands in the tables, charged
-unfoldable pub charged_at : List ℕ → Courser (List ℕ)
+unfoldable pub charged_at : List ℕ → ContextReader (List ℕ)
 charged_at text c = do
-  meter ← failing c.beside.meter (text_charge (length text) c.spot.place c.beside.meter)
-  Ok (text, record { spot = c.spot; beside = record { meter = meter; tables = c.beside.tables } })
+  meter ← failing c.context.meter (text_charge (length text) c.spot.place c.context.meter)
+  Ok (text, record { spot = c.spot; context = record { meter = meter; tables = c.context.tables } })
 
 -- the text that a place tells; BadPlace at the place's first bit where it tells none
-abbrev pub placed_at : Spot → Option (List ℕ) → Courser (List ℕ)
+abbrev pub placed_at : Spot → Option (List ℕ) → ContextReader (List ℕ)
 placed_at s (Some text) c = charged_at text c
-placed_at s None c = failing c.beside.meter (fault_at kind.BadPlace s)
+placed_at s None c = failing c.context.meter (fault_at kind.BadPlace s)
 
 -- a hit: the place in the partition, in the fewest bits that tell its places apart
-unfoldable pub hit_at : Align → Partition → Courser (List ℕ)
+unfoldable pub hit_at : Align → Partition → ContextReader (List ℕ)
 hit_at a partition c = do
-  place ← failing c.beside.meter (below_at partition.count a kind.BadPlace c.spot)
+  place ← failing c.context.meter (below_at partition.count a kind.BadPlace c.spot)
   placed_at c.spot (partition.text_at place.0) (at_spot_of c place.1)
 
 -- a miss of so many characters
-unfoldable pub missed_at : Option (List ℕ) → Align → Growth → ℕ → Courser (List ℕ)
+unfoldable pub missed_at : Option (List ℕ) → Align → Growth → ℕ → ContextReader (List ℕ)
 missed_at set a grow count c = do
-  text ← failing (after_text c.beside.meter count) (chars_at set a count (record { spot = c.spot; meter = c.beside.meter }))
-  Ok (text.0, record { spot = text.1.spot; beside = record { meter = text.1.meter; tables = grow c.beside.tables text.0 } })
+  text ← failing (after_text c.context.meter count) (chars_at set a count (record { spot = c.spot; meter = c.context.meter }))
+  Ok (text.0, record { spot = text.1.spot; context = record { meter = text.1.meter; tables = grow c.context.tables text.0 } })
 
 -- a literal: its length in characters, and its characters (EXI 1.0, section 7.1.10)
-unfoldable pub literal_at : Align → Growth → Courser (List ℕ)
+unfoldable pub literal_at : Align → Growth → ContextReader (List ℕ)
 literal_at a grow c = do
-  count ← failing c.beside.meter (unsigned_at c.spot)
+  count ← failing c.context.meter (unsigned_at c.spot)
   missed_at None a grow count.0 (at_spot_of c count.1)
 
 -- a place or a literal, told apart by one number: 0 is a miss, and a literal follows; k is a hit at place k - 1
-unfoldable pub indexed_at : Align → List (List ℕ) → Growth → Courser (List ℕ)
+unfoldable pub indexed_at : Align → List (List ℕ) → Growth → ContextReader (List ℕ)
 indexed_at a texts grow c = do
-  code ← failing c.beside.meter (below_at (length texts + 1) a kind.BadPlace c.spot)
+  code ← failing c.context.meter (below_at (length texts + 1) a kind.BadPlace c.spot)
   if code.0 == 0 then literal_at a grow (at_spot_of c code.1) else placed_at c.spot (live_at texts (code.0 - 1)) (at_spot_of c code.1)
 
 -- ---- names
 -- a URI (EXI 1.0, section 7.3.2)
-abbrev pub uri_at : Align → Courser (List ℕ)
-uri_at a c = indexed_at a (uris c.beside.tables) with_uri c
+abbrev pub uri_at : Align → ContextReader (List ℕ)
+uri_at a c = indexed_at a (uris c.context.tables) with_uri c
 
 -- a local name under a URI: 0 is a hit, and the place follows; n is a miss of n - 1 characters (EXI 1.0, section 7.3.3)
-unfoldable pub local_at : Align → ℕ → Courser (List ℕ)
+unfoldable pub local_at : Align → ℕ → ContextReader (List ℕ)
 local_at a uri c = do
-  code ← failing c.beside.meter (unsigned_at c.spot)
-  if code.0 == 0 then hit_at a (listed (locals c.beside.tables uri)) (at_spot_of c code.1) else missed_at None a (λ p. with_local p uri) (code.0 - 1) (at_spot_of c code.1)
+  code ← failing c.context.meter (unsigned_at c.spot)
+  if code.0 == 0 then hit_at a (listed (locals c.context.tables uri)) (at_spot_of c code.1) else missed_at None a (λ p. with_local p uri) (code.0 - 1) (at_spot_of c code.1)
 
-abbrev pub told_prefix : Align → List (List ℕ) → Courser (Option (List ℕ))
+abbrev pub told_prefix : Align → List (List ℕ) → ContextReader (Option (List ℕ))
 told_prefix a [] c = Ok (None, c)
 told_prefix a texts c = do
   text ← hit_at a (listed texts) c
@@ -100,8 +100,8 @@ told_prefix a texts c = do
 
 -- the prefix of a name under a URI, where prefixes are kept: a place among the URI's prefixes. Where it has
 -- none, nothing is coded and the name has no prefix (EXI 1.0, section 7.1.7)
-abbrev pub prefix_at : Bool → Align → ℕ → Courser (Option (List ℕ))
-prefix_at true a uri c = told_prefix a (prefixes c.beside.tables uri) c
+abbrev pub prefix_at : Bool → Align → ℕ → ContextReader (Option (List ℕ))
+prefix_at true a uri c = told_prefix a (prefixes c.context.tables uri) c
 prefix_at false a uri c = Ok (None, c)
 
 -- the least place of a text that stands in the list
@@ -120,23 +120,23 @@ named uri text local prefix p = record {
 }
 
 -- the local name and the prefix of a name under a URI
-unfoldable pub name_under : Bool → Align → ℕ → List ℕ → Courser Named
+unfoldable pub name_under : Bool → Align → ℕ → List ℕ → ContextReader Named
 name_under keep a uri text c = do
   local ← local_at a uri c
   prefix ← prefix_at keep a uri local.1
-  Ok (named uri text local.0 prefix.0 prefix.1.beside.tables, prefix.1)
+  Ok (named uri text local.0 prefix.0 prefix.1.context.tables, prefix.1)
 
 -- a qualified name: its URI, its local name and, where prefixes are kept, its prefix (EXI 1.0, section 7.1.7)
-unfoldable pub name_at : Bool → Align → Courser Named
+unfoldable pub name_at : Bool → Align → ContextReader Named
 name_at keep a c = do
   uri ← uri_at a c
-  name_under keep a (place_in (uris uri.1.beside.tables) uri.0) uri.0 uri.1
+  name_under keep a (place_in (uris uri.1.context.tables) uri.0) uri.0 uri.1
 
 -- the texts of a name that the event code tells, charged as if they were coded (own), and its prefix
-unfoldable pub known_at : Bool → Align → NameId → Courser Named
+unfoldable pub known_at : Bool → Align → NameId → ContextReader Named
 known_at keep a id c = do
-  uri ← placed_at c.spot (live_at (uris c.beside.tables) id.uri) c
-  local ← placed_at c.spot (live_at (locals uri.1.beside.tables id.uri) id.local) uri.1
+  uri ← placed_at c.spot (live_at (uris c.context.tables) id.uri) c
+  local ← placed_at c.spot (live_at (locals uri.1.context.tables id.uri) id.local) uri.1
   prefix ← prefix_at keep a id.uri local.1
   Ok (record { id = id; name = record { uri = uri.0; local = local.0; prefix = prefix.0 } }, prefix.1)
 
@@ -151,22 +151,22 @@ abbrev is_one : ℕ → Bool
 is_one n = n == 1
 
 -- the prefix of a declaration under a URI, told as a URI is, and one bit
-unfoldable pub declared_under : Align → ℕ → List ℕ → Courser Declaration
+unfoldable pub declared_under : Align → ℕ → List ℕ → ContextReader Declaration
 declared_under a uri text c = do
-  prefix ← indexed_at a (prefixes c.beside.tables uri) (λ p. with_prefix p uri) c
-  flag ← failing prefix.1.beside.meter (below_at 2 a kind.BadPlace prefix.1.spot)
+  prefix ← indexed_at a (prefixes c.context.tables uri) (λ p. with_prefix p uri) c
+  flag ← failing prefix.1.context.meter (below_at 2 a kind.BadPlace prefix.1.spot)
   Ok (record { uri = text; prefix = prefix.0; element = is_one flag.0 }, at_spot_of prefix.1 flag.1)
 
 -- a URI, a prefix in that URI's partition, and one bit (EXI 1.0, sections 4 and 7.1.7)
-unfoldable pub declaration_at : Align → Courser Declaration
+unfoldable pub declaration_at : Align → ContextReader Declaration
 declaration_at a c = do
   uri ← uri_at a c
-  declared_under a (place_in (uris uri.1.beside.tables) uri.0) uri.0 uri.1
+  declared_under a (place_in (uris uri.1.context.tables) uri.0) uri.0 uri.1
 
 -- ---- values
 -- a string value under a name: 0 is a hit among the name's own values and 1 a hit among all, each with its place;
 -- n is a miss of n - 2 characters, with a set of characters or without (EXI 1.0, sections 7.1.10 and 7.3.3)
-unfoldable pub value_at : Option (List ℕ) → Align → NameId → Courser (List ℕ)
+unfoldable pub value_at : Option (List ℕ) → Align → NameId → ContextReader (List ℕ)
 value_at set a name c = do
-  code ← failing c.beside.meter (unsigned_at c.spot)
-  if code.0 == 0 then hit_at a (own_values c.beside.tables name) (at_spot_of c code.1) else (if code.0 == 1 then hit_at a (listed (values c.beside.tables)) (at_spot_of c code.1) else missed_at set a (λ p. with_value p name) (code.0 - 2) (at_spot_of c code.1))
+  code ← failing c.context.meter (unsigned_at c.spot)
+  if code.0 == 0 then hit_at a (own_values c.context.tables name) (at_spot_of c code.1) else (if code.0 == 1 then hit_at a (listed (values c.context.tables)) (at_spot_of c code.1) else missed_at set a (λ p. with_value p name) (code.0 - 2) (at_spot_of c code.1))

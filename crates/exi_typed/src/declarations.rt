@@ -2,7 +2,7 @@ ghost use Rattle.std.specs.Prelude.{◌≡◌, ◌^◌, IfOk, OnOk, OnErr, lengt
 ghost use Rattle.exi_bits.specs.Bits.{IsAligned};
 ghost use Rattle.exi_tables.specs.Growth.{NoneLonger};
 ghost use Rattle.exi_tables.specs.Partitions.{prefixes, with_prefix};
-ghost use Rattle.exi_typed.specs.Courses.{GoesOrStops, Leaves, MayHaveUri, course};
+ghost use Rattle.exi_typed.specs.ReadStates.{GoesOrStops, Leaves, MayHaveUri, read_state};
 ghost use Rattle.exi_typed.specs.Places.{
   IsDeclarationAt,
   IsDeclarationRead,
@@ -103,7 +103,7 @@ fn read_declared<T: Tables>(
 ) -> Result<Spelled, Stop>
     requires few { NoneLonger (2 ^ 31) (T.held tables.now) }
     requires aligned { IsAligned align input.old }
-    ensures read { GoesOrStops (λ x. (spelled_text (prefixes (with_space (T.held tables.now) space.now) space.now.place) x, course input.new meter.new (with_spelled_prefix (with_space (T.held tables.now) space.now) space.now.place x))) meter.new result (indexed_at align (prefixes (with_space (T.held tables.now) space.now) space.now.place) (λ p. with_prefix p space.now.place) (course input.old meter.old (with_space (T.held tables.now) space.now))) }
+    ensures read { GoesOrStops (λ x. (spelled_text (prefixes (with_space (T.held tables.now) space.now) space.now.place) x, read_state input.new meter.new (with_spelled_prefix (with_space (T.held tables.now) space.now) space.now.place x))) meter.new result (indexed_at align (prefixes (with_space (T.held tables.now) space.now) space.now.place) (λ p. with_prefix p space.now.place) (read_state input.old meter.old (with_space (T.held tables.now) space.now))) }
     ensures within { IfOk result (λ x. IsSpelledIn (prefixes (with_space (T.held tables.now) space.now) space.now.place) x) }
     ensures bytes { input.new.bytes ≡ input.old.bytes }
     ensures aligned { IsAligned align input.new }
@@ -136,7 +136,7 @@ fn read_under<T: Tables>(
     requires few { NoneLonger (2 ^ 31) (T.held tables.now) }
     requires space { IsSpace (T.held tables.now) space }
     requires aligned { IsAligned align input.old }
-    ensures read { GoesOrStops (λ r. (declaration_of (T.held tables.now) r, course input.new meter.new (with_declaration (T.held tables.now) r))) meter.new result (declared_under align space.place (space_text (T.held tables.now) space) (course input.old meter.old (with_space (T.held tables.now) space))) }
+    ensures read { GoesOrStops (λ r. (declaration_of (T.held tables.now) r, read_state input.new meter.new (with_declaration (T.held tables.now) r))) meter.new result (declared_under align space.place (space_text (T.held tables.now) space) (read_state input.old meter.old (with_space (T.held tables.now) space))) }
     ensures places { IfOk result (λ r. IsDeclarationRead (T.held tables.now) r) }
     ensures bytes { input.new.bytes ≡ input.old.bytes }
     ensures aligned { IsAligned align input.new }
@@ -161,7 +161,7 @@ fn read_parts<T: Tables>(
 ) -> Result<DeclarationRead, Stop>
     requires few { NoneLonger (2 ^ 31) (T.held tables.now) }
     requires aligned { IsAligned align input.old }
-    ensures read { GoesOrStops (λ r. (declaration_of (T.held tables.now) r, course input.new meter.new (with_declaration (T.held tables.now) r))) meter.new result (declaration_at align (course input.old meter.old (T.held tables.now))) }
+    ensures read { GoesOrStops (λ r. (declaration_of (T.held tables.now) r, read_state input.new meter.new (with_declaration (T.held tables.now) r))) meter.new result (declaration_at align (read_state input.old meter.old (T.held tables.now))) }
     ensures places { IfOk result (λ r. IsDeclarationRead (T.held tables.now) r) }
     ensures bytes { input.new.bytes ≡ input.old.bytes }
     ensures aligned { IsAligned align input.new }
@@ -191,7 +191,7 @@ pub fn read_declaration<T: Tables>(
 ) -> Result<DeclarationAt, Stop>
     requires few { NoneLonger (2 ^ 31) (T.held tables.old) }
     requires aligned { IsAligned align input.old }
-    ensures read { GoesOrStops (λ d. (declaration_in (T.held tables.new) d, course input.new meter.new (T.held tables.new))) meter.new result (declaration_at align (course input.old meter.old (T.held tables.old))) }
+    ensures read { GoesOrStops (λ d. (declaration_in (T.held tables.new) d, read_state input.new meter.new (T.held tables.new))) meter.new result (declaration_at align (read_state input.old meter.old (T.held tables.old))) }
     ensures places { IfOk result (λ d. IsDeclarationAt (T.held tables.new) d) }
     ensures tables { Leaves result (T.held tables.old) (T.held tables.new) }
     ensures bytes { input.new.bytes ≡ input.old.bytes }

@@ -12,7 +12,7 @@ ghost use Rattle.exi_bits.specs.declared.align.Align.{Align};
 ghost use Rattle.exi_names.specs.declared.names.NameId.{NameId};
 ghost use Rattle.exi_typed.specs.NameValues.{NameValuesAgree, name_value_at};
 ghost use Rattle.exi_typed.specs.Limits.{StaysWithin};
-ghost use Rattle.exi_typed.specs.Onward.{GoesOnward, KeepsEach, NamesGoOnStanding, NamesStand};
+ghost use Rattle.exi_typed.specs.Continues.{ReadsOn, KeepsEach, NamesGoOnStanding, NamesStand};
 ghost use Rattle.exi_typed.specs.Strings.{Growth, declaration_at, known_at, literal_at, local_at, name_at, uri_at, value_at};
 ghost use Rattle.exi_typed.specs.Metered.{ReadingsAreMetered};
 ghost use Rattle.exi_typed.specs.WrittenLaws.{
@@ -71,15 +71,15 @@ pub fn values_agree()
 
 /// Reading goes onward in the same bytes. It charges text and nothing else, within its limit, and each place
 /// of the URIs, local names and prefixes keeps its text, where what is added keeps it.
-pub fn reading_goes_onward()
-    ensures literals { (a : Align) (grow : Growth) → KeepsEach grow → GoesOnward (literal_at a grow) }
-    ensures uris { (a : Align) → GoesOnward (uri_at a) }
-    ensures locals { (a : Align) (uri : ℕ) → GoesOnward (local_at a uri) }
-    ensures names { (keep : Bool) (a : Align) → GoesOnward (name_at keep a) }
-    ensures known { (keep : Bool) (a : Align) (id : NameId) → GoesOnward (known_at keep a id) }
-    ensures name_values { (keep : Bool) (a : Align) → GoesOnward (name_value_at keep a) }
-    ensures declarations { (a : Align) → GoesOnward (declaration_at a) }
-    ensures values { (set : Option (List ℕ)) (a : Align) (name : NameId) → GoesOnward (value_at set a name) }
+pub fn reading_goes_on()
+    ensures literals { (a : Align) (grow : Growth) → KeepsEach grow → ReadsOn (literal_at a grow) }
+    ensures uris { (a : Align) → ReadsOn (uri_at a) }
+    ensures locals { (a : Align) (uri : ℕ) → ReadsOn (local_at a uri) }
+    ensures names { (keep : Bool) (a : Align) → ReadsOn (name_at keep a) }
+    ensures known { (keep : Bool) (a : Align) (id : NameId) → ReadsOn (known_at keep a id) }
+    ensures name_values { (keep : Bool) (a : Align) → ReadsOn (name_value_at keep a) }
+    ensures declarations { (a : Align) → ReadsOn (declaration_at a) }
+    ensures values { (set : Option (List ℕ)) (a : Align) (name : NameId) → ReadsOn (value_at set a name) }
 {}
 
 /// No limit that was kept is passed by reading, whether it ends with a fault or not.

@@ -4,7 +4,7 @@ ghost use Rattle.exi_bits.specs.Bits.{IsAligned};
 ghost use Rattle.exi_names.specs.Shown.{named};
 ghost use Rattle.exi_tables.specs.Growth.{NoneLonger};
 ghost use Rattle.exi_tables.specs.Partitions.{IsName, prefixes, uris};
-ghost use Rattle.exi_typed.specs.Courses.{Goes, GoesOrStops, Leaves, course};
+ghost use Rattle.exi_typed.specs.ReadStates.{Goes, GoesOrStops, Leaves, read_state};
 ghost use Rattle.exi_typed.specs.NameValues.{name_value_at};
 ghost use Rattle.exi_typed.specs.Places.{IsNameAt, IsPlaceIn, name_in, text_in};
 ghost use Rattle.exi_typed.specs.Strings.{known_at, name_at, name_under, prefix_at};
@@ -60,7 +60,7 @@ pub fn read_prefix<T: Tables>(
 ) -> Result<Option<u32>, Fault>
     requires uri { uri < length (uris (T.held tables.now)) }
     requires aligned { IsAligned align input.old }
-    ensures read { Goes (λ place. (option_map (text_in (prefixes (T.held tables.now) uri)) place, course input.new meter.new (T.held tables.now))) meter.new result (prefix_at keep align uri (course input.old meter.old (T.held tables.now))) }
+    ensures read { Goes (λ place. (option_map (text_in (prefixes (T.held tables.now) uri)) place, read_state input.new meter.new (T.held tables.now))) meter.new result (prefix_at keep align uri (read_state input.old meter.old (T.held tables.now))) }
     ensures within { IfOk result (λ place. IsPlaceIn (prefixes (T.held tables.now) uri) place) }
     ensures bytes { input.new.bytes ≡ input.old.bytes }
     ensures aligned { IsAligned align input.new }
@@ -87,7 +87,7 @@ pub fn read_known<T: Tables>(
 ) -> Result<NameAt, Fault>
     requires name { IsName (T.held tables.now) name }
     requires aligned { IsAligned align input.old }
-    ensures read { Goes (λ n. (name_in (T.held tables.now) n, course input.new meter.new (T.held tables.now))) meter.new result (known_at keep align name (course input.old meter.old (T.held tables.now))) }
+    ensures read { Goes (λ n. (name_in (T.held tables.now) n, read_state input.new meter.new (T.held tables.now))) meter.new result (known_at keep align name (read_state input.old meter.old (T.held tables.now))) }
     ensures places { IfOk result (λ n. IsNameAt (T.held tables.now) n) }
     ensures id { IfOk result (λ n. n.id ≡ name) }
     ensures bytes { input.new.bytes ≡ input.old.bytes }
@@ -124,7 +124,7 @@ pub fn read_name_under<T: Tables>(
     requires uri { uri < length (uris (T.held tables.old)) }
     requires few { NoneLonger (2 ^ 31) (T.held tables.old) }
     requires aligned { IsAligned align input.old }
-    ensures read { GoesOrStops (λ n. (name_in (T.held tables.new) n, course input.new meter.new (T.held tables.new))) meter.new result (name_under keep align uri (text_in (uris (T.held tables.old)) uri) (course input.old meter.old (T.held tables.old))) }
+    ensures read { GoesOrStops (λ n. (name_in (T.held tables.new) n, read_state input.new meter.new (T.held tables.new))) meter.new result (name_under keep align uri (text_in (uris (T.held tables.old)) uri) (read_state input.old meter.old (T.held tables.old))) }
     ensures places { IfOk result (λ n. IsNameAt (T.held tables.new) n) }
     ensures tables { Leaves result (T.held tables.old) (T.held tables.new) }
     ensures bytes { input.new.bytes ≡ input.old.bytes }
@@ -156,7 +156,7 @@ pub fn read_name<T: Tables>(
 ) -> Result<NameAt, Stop>
     requires few { NoneLonger (2 ^ 31) (T.held tables.old) }
     requires aligned { IsAligned align input.old }
-    ensures read { GoesOrStops (λ n. (name_in (T.held tables.new) n, course input.new meter.new (T.held tables.new))) meter.new result (name_at keep align (course input.old meter.old (T.held tables.old))) }
+    ensures read { GoesOrStops (λ n. (name_in (T.held tables.new) n, read_state input.new meter.new (T.held tables.new))) meter.new result (name_at keep align (read_state input.old meter.old (T.held tables.old))) }
     ensures places { IfOk result (λ n. IsNameAt (T.held tables.new) n) }
     ensures tables { Leaves result (T.held tables.old) (T.held tables.new) }
     ensures bytes { input.new.bytes ≡ input.old.bytes }
@@ -183,7 +183,7 @@ pub fn read_name_value<T: Tables>(
 ) -> Result<NameAt, Stop>
     requires few { NoneLonger (2 ^ 31) (T.held tables.old) }
     requires aligned { IsAligned align input.old }
-    ensures read { GoesOrStops (λ n. (name_in (T.held tables.new) n, course input.new meter.new (T.held tables.new))) meter.new result (name_value_at keep align (course input.old meter.old (T.held tables.old))) }
+    ensures read { GoesOrStops (λ n. (name_in (T.held tables.new) n, read_state input.new meter.new (T.held tables.new))) meter.new result (name_value_at keep align (read_state input.old meter.old (T.held tables.old))) }
     ensures places { IfOk result (λ n. IsNameAt (T.held tables.new) n) }
     ensures tables { Leaves result (T.held tables.old) (T.held tables.new) }
     ensures bytes { input.new.bytes ≡ input.old.bytes }

@@ -3,7 +3,7 @@ ghost use Rattle.std.specs.Option.{option_copied};
 ghost use Rattle.exi_bits.specs.Bits.{IsAligned};
 ghost use Rattle.exi_tables.specs.Growth.{NoneLonger};
 ghost use Rattle.exi_tables.specs.Partitions.{live_at, prefixes};
-ghost use Rattle.exi_typed.specs.Courses.{Goes, GoesOrStops, MayHaveUri, course};
+ghost use Rattle.exi_typed.specs.ReadStates.{Goes, GoesOrStops, MayHaveUri, read_state};
 ghost use Rattle.exi_typed.specs.Places.{
   IsNameAt,
   IsNameRead,
@@ -123,7 +123,7 @@ pub fn read_prefix_of<T: Tables>(
     meter: &mut Meter,
 ) -> Result<Option<u32>, Fault>
     requires aligned { IsAligned align input.old }
-    ensures read { Goes (λ place. (option_map (text_in (prefixes (with_name (T.held tables.now) read.now) read.now.space.place)) place, course input.new meter.new (with_name (T.held tables.now) read.now))) meter.new result (prefix_at keep align read.now.space.place (course input.old meter.old (with_name (T.held tables.now) read.now))) }
+    ensures read { Goes (λ place. (option_map (text_in (prefixes (with_name (T.held tables.now) read.now) read.now.space.place)) place, read_state input.new meter.new (with_name (T.held tables.now) read.now))) meter.new result (prefix_at keep align read.now.space.place (read_state input.old meter.old (with_name (T.held tables.now) read.now))) }
     ensures within { IfOk result (λ place. IsPlaceIn (prefixes (with_name (T.held tables.now) read.now) read.now.space.place) place) }
     ensures bytes { input.new.bytes ≡ input.old.bytes }
     ensures aligned { IsAligned align input.new }
@@ -155,7 +155,7 @@ pub fn read_under<T: Tables>(
 ) -> Result<NameRead, Stop>
     requires space { IsSpace (T.held tables.now) space }
     requires aligned { IsAligned align input.old }
-    ensures read { GoesOrStops (λ r. (name_of (T.held tables.now) r, course input.new meter.new (with_name (T.held tables.now) r))) meter.new result (name_under keep align space.place (space_text (T.held tables.now) space) (course input.old meter.old (with_space (T.held tables.now) space))) }
+    ensures read { GoesOrStops (λ r. (name_of (T.held tables.now) r, read_state input.new meter.new (with_name (T.held tables.now) r))) meter.new result (name_under keep align space.place (space_text (T.held tables.now) space) (read_state input.old meter.old (with_space (T.held tables.now) space))) }
     ensures places { IfOk result (λ r. IsNameRead (T.held tables.now) r) }
     ensures bytes { input.new.bytes ≡ input.old.bytes }
     ensures aligned { IsAligned align input.new }
@@ -182,7 +182,7 @@ pub fn read_parts<T: Tables>(
 ) -> Result<NameRead, Stop>
     requires few { NoneLonger (2 ^ 31) (T.held tables.now) }
     requires aligned { IsAligned align input.old }
-    ensures read { GoesOrStops (λ r. (name_of (T.held tables.now) r, course input.new meter.new (with_name (T.held tables.now) r))) meter.new result (name_at keep align (course input.old meter.old (T.held tables.now))) }
+    ensures read { GoesOrStops (λ r. (name_of (T.held tables.now) r, read_state input.new meter.new (with_name (T.held tables.now) r))) meter.new result (name_at keep align (read_state input.old meter.old (T.held tables.now))) }
     ensures places { IfOk result (λ r. IsNameRead (T.held tables.now) r) }
     ensures bytes { input.new.bytes ≡ input.old.bytes }
     ensures aligned { IsAligned align input.new }

@@ -4,7 +4,7 @@ ghost use Rattle.exi_bits.specs.Bits.{IsAligned};
 ghost use Rattle.exi_bits.specs.declared.fault.Kind.TheVariants as kind;
 ghost use Rattle.exi_tables.specs.Growth.{NoneLonger};
 ghost use Rattle.exi_tables.specs.Partitions.{live_at, locals, prefixes, uris};
-ghost use Rattle.exi_typed.specs.Courses.{GoesOrStops, course};
+ghost use Rattle.exi_typed.specs.ReadStates.{GoesOrStops, read_state};
 ghost use Rattle.exi_typed.specs.Places.{
   IsSpace,
   IsSpelledIn,
@@ -179,7 +179,7 @@ pub fn read_uri<T: Tables>(
 ) -> Result<Space, Stop>
     requires few { NoneLonger (2 ^ 31) (T.held tables.now) }
     requires aligned { IsAligned align input.old }
-    ensures read { GoesOrStops (λ s. (space_text (T.held tables.now) s, course input.new meter.new (with_space (T.held tables.now) s))) meter.new result (uri_at align (course input.old meter.old (T.held tables.now))) }
+    ensures read { GoesOrStops (λ s. (space_text (T.held tables.now) s, read_state input.new meter.new (with_space (T.held tables.now) s))) meter.new result (uri_at align (read_state input.old meter.old (T.held tables.now))) }
     ensures least { IfOk result (λ s. s.place ≡ place_in (uris (with_space (T.held tables.now) s)) (space_text (T.held tables.now) s)) }
     ensures space { IfOk result (λ s. IsSpace (T.held tables.now) s) }
     ensures bytes { input.new.bytes ≡ input.old.bytes }
@@ -208,7 +208,7 @@ pub fn read_local<T: Tables>(
     meter: &mut Meter,
 ) -> Result<Spelled, Stop>
     requires aligned { IsAligned align input.old }
-    ensures read { GoesOrStops (λ l. (spelled_text (locals (with_space (T.held tables.now) space.now) space.now.place) l, course input.new meter.new (with_spelled_local (with_space (T.held tables.now) space.now) space.now.place l))) meter.new result (local_at align space.now.place (course input.old meter.old (with_space (T.held tables.now) space.now))) }
+    ensures read { GoesOrStops (λ l. (spelled_text (locals (with_space (T.held tables.now) space.now) space.now.place) l, read_state input.new meter.new (with_spelled_local (with_space (T.held tables.now) space.now) space.now.place l))) meter.new result (local_at align space.now.place (read_state input.old meter.old (with_space (T.held tables.now) space.now))) }
     ensures within { IfOk result (λ l. IsSpelledIn (locals (with_space (T.held tables.now) space.now) space.now.place) l) }
     ensures bytes { input.new.bytes ≡ input.old.bytes }
     ensures aligned { IsAligned align input.new }

@@ -3,7 +3,7 @@ ghost use Rattle.std.specs.Option.{option_copied};
 ghost use Rattle.exi_bits.specs.Bits.{IsAligned};
 ghost use Rattle.exi_tables.specs.Growth.{NoneLonger};
 ghost use Rattle.exi_tables.specs.Partitions.{IsName, Partitions};
-ghost use Rattle.exi_typed.specs.Courses.{GoesOrStops, course};
+ghost use Rattle.exi_typed.specs.ReadStates.{GoesOrStops, read_state};
 ghost use Rattle.exi_typed.specs.Places.{string_text, with_string};
 ghost use Rattle.exi_typed.specs.Strings.{literal_at, no_growth, value_at};
 
@@ -54,7 +54,7 @@ pub fn read_literal(
     meter: &mut Meter,
 ) -> Result<Txt, Stop>
     requires aligned { IsAligned align input.old }
-    ensures read { (p : Partitions) → GoesOrStops (λ t. (t, course input.new meter.new p)) meter.new result (literal_at align no_growth (course input.old meter.old p)) }
+    ensures read { (p : Partitions) → GoesOrStops (λ t. (t, read_state input.new meter.new p)) meter.new result (literal_at align no_growth (read_state input.old meter.old p)) }
     ensures bytes { input.new.bytes ≡ input.old.bytes }
     ensures aligned { IsAligned align input.new }
 {
@@ -86,7 +86,7 @@ pub fn read_string<'a, T: Tables>(
 ) -> Result<StringRead<'a>, Stop>
     requires name { IsName (T.held tables.now) name }
     requires aligned { IsAligned align input.old }
-    ensures read { GoesOrStops (λ s. (string_text s, course input.new meter.new (with_string (T.held tables.now) name s))) meter.new result (value_at (option_copied set.entry) align name (course input.old meter.old (T.held tables.now))) }
+    ensures read { GoesOrStops (λ s. (string_text s, read_state input.new meter.new (with_string (T.held tables.now) name s))) meter.new result (value_at (option_copied set.entry) align name (read_state input.old meter.old (T.held tables.now))) }
     ensures bytes { input.new.bytes ≡ input.old.bytes }
     ensures aligned { IsAligned align input.new }
 {

@@ -5,7 +5,7 @@ ghost use Rattle.exi_names.specs.Seen.{seen};
 ghost use Rattle.exi_tables.specs.Growth.{NoneLonger};
 ghost use Rattle.exi_names.specs.declared.names.NameId.{NameId};
 ghost use Rattle.exi_tables.specs.Partitions.{IsName};
-ghost use Rattle.exi_typed.specs.Courses.{GoesOrStops, Leaves, course};
+ghost use Rattle.exi_typed.specs.ReadStates.{GoesOrStops, Leaves, read_state};
 ghost use Rattle.exi_typed.specs.Items.{IsTabled, item_at, qualified, string, tabled};
 
 use crate::charge::charge;
@@ -30,7 +30,7 @@ fn read_text<T: Tables>(
     requires name { IsName (T.held tables.old) name }
     requires few { NoneLonger (2 ^ 31) (T.held tables.old) }
     requires aligned { IsAligned align input.old }
-    ensures read { GoesOrStops (λ v. (seen v, course input.new meter.new (T.held tables.new))) meter.new result (item_at string align name (course input.old meter.old (T.held tables.old))) }
+    ensures read { GoesOrStops (λ v. (seen v, read_state input.new meter.new (T.held tables.new))) meter.new result (item_at string align name (read_state input.old meter.old (T.held tables.old))) }
     ensures tables { Leaves result (T.held tables.old) (T.held tables.new) }
     ensures bytes { input.new.bytes ≡ input.old.bytes }
     ensures aligned { IsAligned align input.new }
@@ -57,7 +57,7 @@ fn read_named<T: Tables>(
 ) -> Result<Val, Stop>
     requires few { NoneLonger (2 ^ 31) (T.held tables.old) }
     requires aligned { IsAligned align input.old }
-    ensures read { (name : NameId) → GoesOrStops (λ v. (seen v, course input.new meter.new (T.held tables.new))) meter.new result (item_at (qualified keep) align name (course input.old meter.old (T.held tables.old))) }
+    ensures read { (name : NameId) → GoesOrStops (λ v. (seen v, read_state input.new meter.new (T.held tables.new))) meter.new result (item_at (qualified keep) align name (read_state input.old meter.old (T.held tables.old))) }
     ensures tables { Leaves result (T.held tables.old) (T.held tables.new) }
     ensures bytes { input.new.bytes ≡ input.old.bytes }
     ensures aligned { IsAligned align input.new }
@@ -95,7 +95,7 @@ pub fn read_value<T: Tables>(
     requires name { IsName (T.held tables.old) name }
     requires few { NoneLonger (2 ^ 31) (T.held tables.old) }
     requires aligned { IsAligned align input.old }
-    ensures read { GoesOrStops (λ v. (seen v, course input.new meter.new (T.held tables.new))) meter.new result (item_at (tabled (represented kind.now)) align name (course input.old meter.old (T.held tables.old))) }
+    ensures read { GoesOrStops (λ v. (seen v, read_state input.new meter.new (T.held tables.new))) meter.new result (item_at (tabled (represented kind.now)) align name (read_state input.old meter.old (T.held tables.old))) }
     ensures tables { Leaves result (T.held tables.old) (T.held tables.new) }
     ensures bytes { input.new.bytes ≡ input.old.bytes }
     ensures aligned { IsAligned align input.new }

@@ -8,7 +8,7 @@ ghost use Rattle.exi_names.specs.Seen.{seen};
 ghost use Rattle.exi_tables.specs.Growth.{NoneLonger};
 ghost use Rattle.exi_tables.specs.Partitions.{IsName, least_place, name_values, values};
 ghost use Rattle.exi_text.specs.Literals.{all_xml};
-ghost use Rattle.exi_typed.specs.Courses.{MayHaveUri};
+ghost use Rattle.exi_typed.specs.ReadStates.{MayHaveUri};
 ghost use Rattle.exi_typed.specs.Items.{IsTabled};
 ghost use Rattle.exi_typed.specs.Written.{after_item, after_string, is_xml_value, item_bits, own_place, string_bits};
 

@@ -5,7 +5,7 @@ ghost use Rattle.exi_items.specs.Fronts.{HoldsFront};
 ghost use Rattle.exi_tables.specs.Growth.{NoneLonger};
 ghost use Rattle.exi_tables.specs.Partitions.{prefixes, uris};
 ghost use Rattle.exi_text.specs.Literals.{all_xml};
-ghost use Rattle.exi_typed.specs.Courses.{MayHaveUri};
+ghost use Rattle.exi_typed.specs.ReadStates.{MayHaveUri};
 ghost use Rattle.exi_typed.specs.Written.{
   after_declaration,
   after_prefix,

@@ -6,7 +6,7 @@ ghost use Rattle.exi_names.specs.Shown.{named};
 ghost use Rattle.exi_tables.specs.Growth.{NoneLonger};
 ghost use Rattle.exi_tables.specs.Partitions.{IsName, least_place, locals, prefixes, uris};
 ghost use Rattle.exi_text.specs.Literals.{all_xml};
-ghost use Rattle.exi_typed.specs.Courses.{MayHaveUri};
+ghost use Rattle.exi_typed.specs.ReadStates.{MayHaveUri};
 ghost use Rattle.exi_typed.specs.Strings.{place_in};
 ghost use Rattle.exi_typed.specs.Written.{
   after_local,

@@ -17,7 +17,7 @@ use Rattle.exi_tables.proofs.Sound.{sound_then}
 use Rattle.exi_text.specs.Literals.{all_xml, chars_bits}
 use Rattle.exi_text.proofs.Letters.{chars_written}
 use Rattle.exi_bits.proofs.UnsignedLaws.{shortest_spelled}
-use Rattle.exi_typed.specs.Courses.{Beside}
+use Rattle.exi_typed.specs.ReadStates.{Context}
 use Rattle.exi_typed.specs.Laws.{Spelling}
 use Rattle.exi_typed.specs.Spelled.{Follows, IsHit, IsMissed, IsNothing, Pays, SpellsIndexed, SpellsLiteral, SpellsLocal, SpellsPrefix, SpellsUri}
 use Rattle.exi_typed.specs.Strings.{Growth, Partition, listed, no_growth}
@@ -25,8 +25,8 @@ use Rattle.exi_writer.specs.OneEvent.{paid}
 use Rattle.exi_writer.specs.Pieces as piece
 use Rattle.exi_writer.specs.Pieces.{Piece, Writing, as_bits, both, both_by, can_be_spelled, indexed, indexed_by, joined, literal, missed, placed, turned, unsigned}
 
-abbrev pub beside : Metering → Partitions → Beside
-beside m p = record { meter = m; tables = p }
+abbrev pub context : Metering → Partitions → Context
+context m p = record { meter = m; tables = p }
 
 -- ---- what is paid
 -- all of two lists is paid one after the other
@@ -56,25 +56,25 @@ paid_one u m n p q e = elim (cases_Bool (text_fits m u)) [
 -- ---- spelled, where it is paid
 pub record Agrees {X : Type 0} (Spells : Spelling X) (x : X) (p : Partitions) (w : Piece X) : Type 0 where
   pub item : w.item ≡ x
-  pub spelled : (m n : Metering) → paid w.units m ≡ Ok n → Spells x (beside m p) (beside n w.tables) w.bits
+  pub spelled : (m n : Metering) → paid w.units m ≡ Ok n → Spells x (context m p) (context n w.tables) w.bits
   pub sound : IsSound w.tables.values
 
 -- ---- one text
 pub spells_unsigned : (k : ℕ) → k < 2 ^ 128 → SpellsUnsigned k (unsigned k)
 spells_unsigned k lt = record { octets = shortest k; unsigned = shortest_spelled k lt; bits = refl }
 
-pub pays_one : (units : ℕ) (m n : Metering) (p : Partitions) → paid (units ∷ []) m ≡ Ok n → Pays units (beside m p) (beside n p)
-pays_one units m n p e = let k = paid_one units m n p p e in record { fits = k.0; after = ap (λ (x : Metering). beside x p) k.1 }
+pub pays_one : (units : ℕ) (m n : Metering) (p : Partitions) → paid (units ∷ []) m ≡ Ok n → Pays units (context m p) (context n p)
+pays_one units m n p e = let k = paid_one units m n p p e in record { fits = k.0; after = ap (λ (x : Metering). context x p) k.1 }
 
 pub is_hit : (a : Align) (partition : Partition) (x : List ℕ) (place : ℕ) (p : Partitions) (m n : Metering) → place < partition.count → partition.text_at place ≡ Some x → paid (length x ∷ []) m ≡ Ok n
-    → IsHit a partition x (beside m p) (beside n p) (number (width_for partition.count) a place)
+    → IsHit a partition x (context m p) (context n p) (number (width_for partition.count) a place)
 is_hit a partition x place p m n within stands e = record { place = place; within = within; stands = stands; bits = refl; pays = pays_one (length x) m n p e }
 
 pub is_missed : (a : Align) (grow : Growth) (x : List ℕ) (p : Partitions) (m n : Metering) → all_xml x ≡ true → paid (length x ∷ []) m ≡ Ok n
-    → IsMissed None a grow x (beside m p) (beside n (grow p x)) (chars_bits None a x)
+    → IsMissed None a grow x (context m p) (context n (grow p x)) (chars_bits None a x)
 is_missed a grow x p m n xml e =
     let k = paid_one (length x) m n p p e in
-    record { spelled = chars_written None a x xml; fits = k.0; after = ap (λ (y : Metering). beside y (grow p x)) k.1 }
+    record { spelled = chars_written None a x xml; fits = k.0; after = ap (λ (y : Metering). context y (grow p x)) k.1 }
 
 pub behind_number : (k : ℕ) (Second : List Bool → Type 0) (text : List Bool) → k < 2 ^ 128 → Second text → Then (SpellsUnsigned k) Second (unsigned k ++ text)
 behind_number k Second text lt second = record { first = unsigned k; second = text; parts = refl; front = spells_unsigned k lt; behind = second }
@@ -107,7 +107,7 @@ literal_agrees a grow x p w keeps sound e =
     let s = spelled_parts x q.can in
     rw q.is record {
       item = refl;
-      spelled = λ m n paid_is. behind_number (length x) (IsMissed None a grow x (beside m p) (beside n (grow p x))) (chars_bits None a x) (omega (arith, s.1)) (is_missed a grow x p m n s.0 paid_is);
+      spelled = λ m n paid_is. behind_number (length x) (IsMissed None a grow x (context m p) (context n (grow p x))) (chars_bits None a x) (omega (arith, s.1)) (is_missed a grow x p m n s.0 paid_is);
       sound = keeps p x sound;
     }
 
@@ -134,7 +134,7 @@ indexed_agrees_by a texts grow x p w keeps sound None found e =
               second = unsigned (length x) ++ chars_bits None a x;
               parts = refl;
               front = refl;
-              behind = behind_number (length x) (IsMissed None a grow x (beside m p) (beside n (grow p x))) (chars_bits None a x) (omega (arith, s.1)) (is_missed a grow x p m n s.0 paid_is);
+              behind = behind_number (length x) (IsMissed None a grow x (context m p) (context n (grow p x))) (chars_bits None a x) (omega (arith, s.1)) (is_missed a grow x p m n s.0 paid_is);
             };
             sound = keeps p x sound;
           }
@@ -174,7 +174,7 @@ local_agrees_by a space x p w sound (Some place) found e =
     let is = piece_is (record { item = x; bits = unsigned 0 ++ hit; tables = p; units = length x ∷ [] }) w e in
     rw (← is) record {
       item = refl;
-      spelled = λ m n paid_is. inl (behind_number 0 (IsHit a (listed (locals p space)) x (beside m p) (beside n p)) hit (omega arith) (is_hit a (listed (locals p space)) x place p m n within stands paid_is));
+      spelled = λ m n paid_is. inl (behind_number 0 (IsHit a (listed (locals p space)) x (context m p) (context n p)) hit (omega arith) (is_hit a (listed (locals p space)) x place p m n within stands paid_is));
       sound = sound;
     }
 local_agrees_by a space x p w sound None found e =
@@ -183,7 +183,7 @@ local_agrees_by a space x p w sound None found e =
     let s = spelled_parts x q.can in
     rw q.is record {
       item = refl;
-      spelled = λ m n paid_is. inr (behind_number (suc (length x)) (IsMissed None a grow x (beside m p) (beside n (grow p x))) (chars_bits None a x) (omega (arith, s.1)) (is_missed a grow x p m n s.0 paid_is));
+      spelled = λ m n paid_is. inr (behind_number (suc (length x)) (IsMissed None a grow x (context m p) (context n (grow p x))) (chars_bits None a x) (omega (arith, s.1)) (is_missed a grow x p m n s.0 paid_is));
       sound = sound;
     }
 
@@ -194,8 +194,8 @@ local_agrees a space x p w sound e = local_agrees_by a space x p w sound (least_
 pub paid_none : (m n : Metering) → paid [] m ≡ Ok n → n ≡ m
 paid_none m n e = let k : Ok m ≡ Ok n = e in sym cc
 
-is_nothing : (m n : Metering) (p : Partitions) → paid [] m ≡ Ok n → IsNothing (beside m p) (beside n p) []
-is_nothing m n p e = record { bits = refl; after = ap (λ (x : Metering). beside x p) (paid_none m n e) }
+is_nothing : (m n : Metering) (p : Partitions) → paid [] m ≡ Ok n → IsNothing (context m p) (context n p) []
+is_nothing m n p e = record { bits = refl; after = ap (λ (x : Metering). context x p) (paid_none m n e) }
 
 no_prefix_agrees : (a : Align) (space : ℕ) (p : Partitions) (w : Piece (Option (List ℕ))) → IsSound p.values → (texts : List (List ℕ)) → prefixes p space ≡ texts → piece.no_prefix texts p ≡ Some w → Agrees (SpellsPrefix true a space) None p w
 no_prefix_agrees a space p w sound [] empty e =
@@ -252,12 +252,12 @@ both_agree {X} {Y} One Two one two x y p w first_agrees second_agrees e =
       item = ap (λ (z : X). (z, s.item)) fa.item ∙ ap (λ (z : Y). (x, z)) sa.item;
       spelled = λ m n paid_is. (
           let split = paid_both f.units s.units m n paid_is in record {
-            between = beside split.between f.tables;
+            between = context split.between f.tables;
             first = f.bits;
             second = s.bits;
             parts = refl;
             front = fa.spelled m split.between split.first;
-            behind = subst (λ (z : X). Two z y (beside split.between f.tables) (beside n s.tables) s.bits) fa.item (sa.spelled split.between n split.second);
+            behind = subst (λ (z : X). Two z y (context split.between f.tables) (context n s.tables) s.bits) fa.item (sa.spelled split.between n split.second);
           }
           );
       sound = sa.sound;

@@ -24,18 +24,18 @@ use Rattle.exi_writer.specs.Contents.{at_parts, attribute_by, attribute_value, c
 use Rattle.exi_writer.specs.OneEvent.{paid}
 use Rattle.exi_writer.specs.Pieces as piece
 use Rattle.exi_writer.specs.Pieces.{Piece, Writing, as_bits, both}
-use Rattle.exi_writer.proofs.Agreed.{Agrees, beside, both_by_parts, literal_agrees, nothing_keeps, paid_both, paid_none, piece_is}
+use Rattle.exi_writer.proofs.Agreed.{Agrees, context, both_by_parts, literal_agrees, nothing_keeps, paid_both, paid_none, piece_is}
 use Rattle.exi_writer.proofs.Names.{known_agrees, name_agrees, name_value_agrees, turned_parts}
 use Rattle.exi_writer.proofs.Values.{declaration_agrees, value_agrees}
 
 -- ---- spelled, where it is paid
 pub record Fits {X : Type 0} (Spells : Spelling X) (p : Partitions) (w : Piece X) : Type 0 where
-  pub spelled : (m n : Metering) → paid w.units m ≡ Ok n → Spells w.item (beside m p) (beside n w.tables) w.bits
+  pub spelled : (m n : Metering) → paid w.units m ≡ Ok n → Spells w.item (context m p) (context n w.tables) w.bits
   pub sound : IsSound w.tables.values
 
 agrees_fits : {X : Type 0} (Spells : Spelling X) (x : X) (p : Partitions) (w : Piece X) → Agrees Spells x p w → Fits Spells p w
 agrees_fits {X} Spells x p w k = record {
-  spelled = λ m n paid_is. subst (λ (y : X). Spells y (beside m p) (beside n w.tables) w.bits) (sym k.item) (k.spelled m n paid_is);
+  spelled = λ m n paid_is. subst (λ (y : X). Spells y (context m p) (context n w.tables) w.bits) (sym k.item) (k.spelled m n paid_is);
   sound = k.sound;
 }
 
@@ -53,7 +53,7 @@ both_fit {X} {Y} One Two one two p w first_fits second_fits e =
     rw k.2.is record {
       spelled = λ m n paid_is. (
           let split = paid_both f.units s.units m n paid_is in
-          record { between = beside split.between f.tables; first = f.bits; second = s.bits; parts = refl; front = ff.spelled m split.between split.first; behind = sf.spelled split.between n split.second }
+          record { between = context split.between f.tables; first = f.bits; second = s.bits; parts = refl; front = ff.spelled m split.between split.first; behind = sf.spelled split.between n split.second }
           );
       sound = sf.sound;
     }
@@ -67,7 +67,7 @@ nothing_fits : (o : Option (Unit {0})) (p : Partitions) (w : Piece (Unit {0})) �
 nothing_fits None p w sound e = absurd cc
 nothing_fits (Some x) p w sound e =
     let is = piece_is (record { item = x; bits = []; tables = p; units = [] }) w e in
-    rw (← is) record { spelled = λ m n paid_is. record { bits = refl; after = ap (λ (y : Metering). beside y p) (paid_none m n paid_is) }; sound = sound }
+    rw (← is) record { spelled = λ m n paid_is. record { bits = refl; after = ap (λ (y : Metering). context y p) (paid_none m n paid_is) }; sound = sound }
 
 told_fits : (g : Setting) (t : Telling) (n : QName) (p : Partitions) (w : Piece Named) → IsSound p.values → told_name g t n p ≡ Some w → Fits (SpellsTold g t) p w
 told_fits g spelled n p w sound e =
@@ -133,7 +133,7 @@ four_fit g x p w sound e =
 
 -- ---- every production
 pub record IsContent (plan : Plan) (p : Partitions) (w : Piece plan.Item) : Type 0 where
-  pub spelled : (m n : Metering) → paid w.units m ≡ Ok n → plan.Spells w.item (beside m p) (beside n w.tables) w.bits
+  pub spelled : (m n : Metering) → paid w.units m ≡ Ok n → plan.Spells w.item (context m p) (context n w.tables) w.bits
   pub sound : IsSound w.tables.values
 
 pub contents_agree : (g : Setting) (a : Alone) (c : Config) (r : Rule) (t : Terminal) (e : Happening) (p : Partitions) (w : Piece (plan_on g a c r t).Item) → IsSound p.values → written_on g a c r t e p ≡ Some w → IsContent (plan_on g a c r t) p w
@@ -156,7 +156,7 @@ contents_agree g a c r end_element e p w sound h = let k = nothing_fits (is_ee e
 contents_agree g a c r declaration e p w sound h =
     let o = of_parts (ns_parts e) (piece.declaration (align_of g.options)) p w h in
     let d = declaration_agrees (align_of g.options) o.0 p w sound o.2 in
-    record { spelled = λ m n paid_is. subst (λ (y : Declaration). (plan_on g a c r declaration).Spells y (beside m p) (beside n w.tables) w.bits) (sym d.item) (d.spelled m n paid_is); sound = d.sound }
+    record { spelled = λ m n paid_is. subst (λ (y : Declaration). (plan_on g a c r declaration).Spells y (context m p) (context n w.tables) w.bits) (sym d.item) (d.spelled m n paid_is); sound = d.sound }
 contents_agree g a c r self_contained e p w sound h = let k = nothing_fits (is_sc e) p w sound h in record { spelled = λ m n paid_is. k.spelled m n paid_is; sound = k.sound }
 contents_agree g a c r comment e p w sound h =
     let o = of_parts (cm_text e) (text g) p w h in

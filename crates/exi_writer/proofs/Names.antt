@@ -9,14 +9,14 @@ use Rattle.exi_names.specs.declared.names.NameId.{NameId}
 use Rattle.exi_names.specs.declared.names.QName.{QName}
 use Rattle.exi_tables.specs.Growth.{IsSound}
 use Rattle.exi_tables.specs.Partitions.{Partitions, live_at, locals, uris}
-use Rattle.exi_typed.specs.Courses.{Beside}
+use Rattle.exi_typed.specs.ReadStates.{Context}
 use Rattle.exi_typed.specs.NameValues.{SpellsNameValue}
 use Rattle.exi_typed.specs.Spelled.{SpellsKnown, SpellsLocal, SpellsName, SpellsNameUnder, SpellsPrefix, SpellsUri}
 use Rattle.exi_typed.specs.Strings.{Named, place_in}
 use Rattle.exi_writer.specs.OneEvent.{paid}
 use Rattle.exi_writer.specs.Pieces as piece
 use Rattle.exi_writer.specs.Pieces.{Piece, Writing, both, turned, with_places}
-use Rattle.exi_writer.proofs.Agreed.{beside, both_agree, both_by_parts, local_agrees, paid_both, pays_one, piece_is, prefix_agrees, uri_agrees}
+use Rattle.exi_writer.proofs.Agreed.{context, both_agree, both_by_parts, local_agrees, paid_both, pays_one, piece_is, prefix_agrees, uri_agrees}
 
 -- the same bits, of another thing
 pub turned_parts : {X Y : Type 0} (f : X → Y) (o : Option (Piece X)) (w : Piece Y) → turned f o ≡ Some w → (v : Piece X) × (o ≡ Some v) × (w ≡ record { item = f v.item; bits = v.bits; tables = v.tables; units = v.units })
@@ -31,7 +31,7 @@ places_parts {X} space n (Some v) w e = (v, refl, sym (piece_is _ w e))
 
 pub record UnderAgrees (keep : Bool) (a : Align) (space : ℕ) (n : QName) (p : Partitions) (w : Piece Named) : Type 0 where
   pub name_is : w.item.name ≡ n
-  pub spelled : (m r : Metering) → paid w.units m ≡ Ok r → SpellsNameUnder keep a space n.uri w.item (beside m p) (beside r w.tables) w.bits
+  pub spelled : (m r : Metering) → paid w.units m ≡ Ok r → SpellsNameUnder keep a space n.uri w.item (context m p) (context r w.tables) w.bits
   pub sound : IsSound w.tables.values
 
 pub under_agrees : (keep : Bool) (a : Align) (space : ℕ) (n : QName) (p : Partitions) (w : Piece Named) → IsSound p.values → piece.name_under keep a space n p ≡ Some w → UnderAgrees keep a space n p w
@@ -51,9 +51,9 @@ under_agrees keep a space n p w sound e =
     }
 
 -- ---- a qualified name
-pub record NameAgrees (Spells : Named → Beside → Beside → List Bool → Type 0) (n : QName) (p : Partitions) (w : Piece Named) : Type 0 where
+pub record NameAgrees (Spells : Named → Context → Context → List Bool → Type 0) (n : QName) (p : Partitions) (w : Piece Named) : Type 0 where
   pub name_is : w.item.name ≡ n
-  pub spelled : (m r : Metering) → paid w.units m ≡ Ok r → Spells w.item (beside m p) (beside r w.tables) w.bits
+  pub spelled : (m r : Metering) → paid w.units m ≡ Ok r → Spells w.item (context m p) (context r w.tables) w.bits
   pub sound : IsSound w.tables.values
 
 pub name_agrees : (keep : Bool) (a : Align) (n : QName) (p : Partitions) (w : Piece Named) → IsSound p.values → piece.name keep a n p ≡ Some w → NameAgrees (SpellsName keep a) n p w
@@ -70,12 +70,12 @@ name_agrees keep a n p w sound e =
       spelled = λ m r paid_is. (
           let split = paid_both f.units s.units m r paid_is in
           let uri_is : s.item.name.uri ≡ n.uri = ap (λ (q : QName). q.uri) na.name_is in record {
-            between = beside split.between f.tables;
+            between = context split.between f.tables;
             first = f.bits;
             second = s.bits;
             parts = refl;
-            uri = subst (λ (x : List ℕ). SpellsUri a x (beside m p) (beside split.between f.tables) f.bits) (sym uri_is) (ua.spelled m split.between split.first);
-            under = subst (λ (x : List ℕ). SpellsNameUnder keep a (place_in (uris f.tables) x) x s.item (beside split.between f.tables) (beside r s.tables) s.bits) (sym uri_is) (na.spelled split.between r split.second);
+            uri = subst (λ (x : List ℕ). SpellsUri a x (context m p) (context split.between f.tables) f.bits) (sym uri_is) (ua.spelled m split.between split.first);
+            under = subst (λ (x : List ℕ). SpellsNameUnder keep a (place_in (uris f.tables) x) x s.item (context split.between f.tables) (context r s.tables) s.bits) (sym uri_is) (na.spelled split.between r split.second);
           }
           );
       sound = na.sound;
@@ -108,11 +108,11 @@ known_agrees keep a id n p w sound e =
                   uri_stands = text_stands (live_at (uris p) id.uri) n.uri both_stand.0;
                   local_stands = text_stands (live_at (locals p id.uri) id.local) n.local both_stand.1;
                   spelled = record {
-                    between = beside split.between p;
+                    between = context split.between p;
                     first = [];
                     second = v.bits;
                     parts = refl;
-                    front = record { bits = refl; between = beside texts.between p; uri = pays_one (length n.uri) m texts.between p texts.first; local = pays_one (length n.local) texts.between split.between p texts.second };
+                    front = record { bits = refl; between = context texts.between p; uri = pays_one (length n.uri) m texts.between p texts.first; local = pays_one (length n.local) texts.between split.between p texts.second };
                     behind = pa.spelled split.between r split.second;
                   };
                 }
@@ -136,7 +136,7 @@ name_value_agrees keep a n p w sound e =
       name_is = na.name_is;
       spelled = λ m r paid_is. (
           let split = paid_both (1 ∷ []) v.units m r paid_is in record {
-            between = beside split.between p;
+            between = context split.between p;
             first = [];
             second = v.bits;
             parts = refl;

@@ -18,7 +18,7 @@ use Rattle.exi_reader.specs.Runs.{has_ended}
 use Rattle.exi_reader.specs.Spelled.{IsFollowed, IsOne, IsPadding, counted_by, entered_by, further}
 use Rattle.exi_writer.specs.OneEvent.{Refused, Written, ◌>>=◌, behind_code, by_code, chosen, fewest, first_of, followed, followed_by, is_taken, matches, one_deeper, one_more, or_else, padding, paid, written, written_by}
 use Rattle.exi_writer.specs.Pieces.{Piece}
-use Rattle.exi_writer.proofs.Agreed.{beside}
+use Rattle.exi_writer.proofs.Agreed.{context}
 use Rattle.exi_writer.specs.Sound.{HasSoundTables}
 use Rattle.exi_writer.proofs.Contents.{IsContent, contents_agree}
 use Rattle.exi_writer.proofs.Tables.{made_sound, made_start}
@@ -90,7 +90,7 @@ pub record MayStand (plan : Plan) : Type 1 where
 pub record FollowedBy (plan : Plan) (c : Config) (piece : Piece plan.Item) (w : Written) : Type 0 where
   pub followed : IsFollowed plan c w.given w.bits
   pub meter : Metering
-  pub given_is : w.given ≡ remembered (plan.make piece.item (further c (length w.bits) (beside meter piece.tables)))
+  pub given_is : w.given ≡ remembered (plan.make piece.item (further c (length w.bits) (context meter piece.tables)))
 
 followed_spelled : (plan : Plan) (c : Config) (piece : Piece plan.Item) (w : Written) → MayStand plan → plan.refused piece.item ≡ None → IsContent plan c.tables piece → followed_by plan c piece ≡ Ok w → FollowedBy plan c piece w
 unfolding followed_by
@@ -116,7 +116,7 @@ followed_spelled plan c piece w may free content e =
         content = piece.bits;
         padding = padding plan.padded (c.place + length piece.bits);
         parts = refl;
-        after = beside d.0 piece.tables;
+        after = context d.0 piece.tables;
         spelled = content.spelled b.0 d.0 d.1;
         free = free;
         padded = is_padded plan.padded (c.place + length piece.bits);
@@ -165,8 +165,8 @@ one_spelled_by g c e w (Some x) sound is h =
         told = record { place = stands.place; parts = x.parts; there = stands.there; bits = refl };
         followed = f.followed;
       };
-      sound = subst (λ (z : Given). HasSoundTables z.1) (sym f.given_is) (made_sound g (alone_in c.elements c.outer) c x.item x.item.on piece.item (further further_on (length v.bits) (beside f.meter piece.tables)) record { here = content.sound; aside = sound.aside });
-      start = ap (λ (z : Given). z.1.start) f.given_is ∙ made_start g (alone_in c.elements c.outer) c x.item x.item.on piece.item (further further_on (length v.bits) (beside f.meter piece.tables));
+      sound = subst (λ (z : Given). HasSoundTables z.1) (sym f.given_is) (made_sound g (alone_in c.elements c.outer) c x.item x.item.on piece.item (further further_on (length v.bits) (context f.meter piece.tables)) record { here = content.sound; aside = sound.aside });
+      start = ap (λ (z : Given). z.1.start) f.given_is ∙ made_start g (alone_in c.elements c.outer) c x.item x.item.on piece.item (further further_on (length v.bits) (context f.meter piece.tables));
     }
 
 record Went (g : Setting) (c : Config) (e : Happening) (w : Written) : Type 0 where

@@ -23,7 +23,7 @@ use Rattle.exi_typed.specs.Spelled.{Follows, IsHit, IsMissed, SpellsDeclaration,
 use Rattle.exi_typed.specs.Strings.{Declaration, Growth, listed, own_values, place_in}
 use Rattle.exi_writer.specs.Pieces as piece
 use Rattle.exi_writer.specs.Pieces.{Piece, Writing, as_bits, both, unsigned}
-use Rattle.exi_writer.proofs.Agreed.{Agrees, beside, behind_number, both_agree, indexed_agrees, is_hit, is_missed, missed_parts, paid_none, piece_is, prefix_keeps, spelled_parts, uri_agrees, value_keeps}
+use Rattle.exi_writer.proofs.Agreed.{Agrees, context, behind_number, both_agree, indexed_agrees, is_hit, is_missed, missed_parts, paid_none, piece_is, prefix_keeps, spelled_parts, uri_agrees, value_keeps}
 use Rattle.exi_writer.proofs.Names.{turned_parts}
 
 -- ---- the least place under a name
@@ -94,7 +94,7 @@ other_agrees_by a name x p w sound (Some place) found e =
     let is = piece_is (record { item = x; bits = unsigned 1 ++ hit; tables = p; units = length x ∷ [] }) w e in
     rw (← is) record {
       item = refl;
-      spelled = λ m n paid_is. inr (inl (behind_number 1 (IsHit a (listed (values p)) x (beside m p) (beside n p)) hit (omega arith) (is_hit a (listed (values p)) x place p m n within stands paid_is)));
+      spelled = λ m n paid_is. inr (inl (behind_number 1 (IsHit a (listed (values p)) x (context m p) (context n p)) hit (omega arith) (is_hit a (listed (values p)) x place p m n within stands paid_is)));
       sound = sound;
     }
 other_agrees_by a name x p w sound None found e =
@@ -103,7 +103,7 @@ other_agrees_by a name x p w sound None found e =
     let s = spelled_parts x q.can in
     rw q.is record {
       item = refl;
-      spelled = λ m n paid_is. inr (inr (behind_number (suc (suc (length x))) (IsMissed None a grow x (beside m p) (beside n (grow p x))) (chars_bits None a x) (omega (arith, s.1)) (is_missed a grow x p m n s.0 paid_is)));
+      spelled = λ m n paid_is. inr (inr (behind_number (suc (suc (length x))) (IsMissed None a grow x (context m p) (context n (grow p x))) (chars_bits None a x) (omega (arith, s.1)) (is_missed a grow x p m n s.0 paid_is)));
       sound = value_keeps name p x sound;
     }
 
@@ -114,7 +114,7 @@ value_agrees_by a name x p w sound (Some place) found e =
     let is = piece_is (record { item = x; bits = unsigned 0 ++ hit; tables = p; units = length x ∷ [] }) w e in
     rw (← is) record {
       item = refl;
-      spelled = λ m n paid_is. inl (behind_number 0 (IsHit a (own_values p name) x (beside m p) (beside n p)) hit (omega arith) (is_hit a (own_values p name) x place p m n own.within own.stands paid_is));
+      spelled = λ m n paid_is. inl (behind_number 0 (IsHit a (own_values p name) x (context m p) (context n p)) hit (omega arith) (is_hit a (own_values p name) x place p m n own.within own.stands paid_is));
       sound = sound;
     }
 value_agrees_by a name x p w sound None found e = other_agrees_by a name x p w sound (least_place (values p) x) refl e
@@ -127,7 +127,7 @@ value_agrees a name x p w sound e = value_agrees_by a name x p w sound (name_val
 flag_agrees : (a : Align) (element : Bool) (text : List Bool) (p : Partitions) (w : Piece (Unit {0})) → text ≡ number 1 a (piece.flag_bit element) → IsSound p.values → as_bits {X = Unit {0}} tt text p ≡ Some w → Agrees (λ x u v bits. SpellsFlag a element u v bits) tt p w
 flag_agrees a element text p w is_flag sound e =
     let is = piece_is (record { item = tt; bits = text; tables = p; units = [] }) w e in
-    rw (← is) record { item = refl; spelled = λ m n paid_is. record { bits = is_flag; after = ap (λ (x : Metering). beside x p) (paid_none m n paid_is) }; sound = sound }
+    rw (← is) record { item = refl; spelled = λ m n paid_is. record { bits = is_flag; after = ap (λ (x : Metering). context x p) (paid_none m n paid_is) }; sound = sound }
 
 new_prefix_agrees : (a : Align) (space x : List ℕ) (p : Partitions) (w : Piece (List ℕ)) → IsSound p.values → piece.new_prefix a space x p ≡ Some w → Agrees (λ y u v text. SpellsNewPrefix a space y u v text) x p w
 new_prefix_agrees a space x p w sound e =

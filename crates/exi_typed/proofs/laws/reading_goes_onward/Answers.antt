@@ -1,5 +1,5 @@
 use Rattle.exi_typed.proofs.Goings.{declaration_goes, known_goes, literal_goes, local_goes, name_goes, name_value_goes, uri_goes, value_goes}
-use Rattle.exi_typed.proofs.laws.reading_goes_onward.Goals as goal
+use Rattle.exi_typed.proofs.laws.reading_goes_on.Goals as goal
 
 pub returns : goal.returns
 returns c = record {

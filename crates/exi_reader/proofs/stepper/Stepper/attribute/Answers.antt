@@ -1,5 +1,5 @@
 use Rattle.std.proofs.Common.{Result, false, sym, subst, ◌∙◌}
-use Rattle.exi_typed.specs.Courses.{Failure, course}
+use Rattle.exi_typed.specs.ReadStates.{Failure, read_state}
 use Rattle.exi_typed.specs.Places.{name_in}
 use Rattle.exi_typed.specs.Strings.{Named}
 use Rattle.exi_reader.specs.Configurations.{Config, reached}
@@ -24,5 +24,5 @@ returns-clause-hands g c =
     rw (← c.self.view_is)
     (subst (λ (r : Result Given Failure). HandsAny g.E.EventOut.took g.E.EventOut.broke c.string_value.result c.string_value.new.self r c.args.out.now c.string_value.new.out)
     (sym (valued c.self.inside.book.now c.self.inside.input.bytes c.args.bit (alone_of c.args.alone) (telling_of c.args.telling) c.args.to before name _ c.in_ok-name.ensures.read
-    ∙ string_is c.self.inside.book.now _ c.args.bit (alone_of c.args.alone) name (with_attribute (telling_of c.args.telling) c.args.to name (reached (course c.told_name.new.input c.told_name.new.meter (g.T.Tables.held c.told_name.new.tables)) before)) (sym c.is_type.ensures ∙ c.if-is_type.false)))
+    ∙ string_is c.self.inside.book.now _ c.args.bit (alone_of c.args.alone) name (with_attribute (telling_of c.args.telling) c.args.to name (reached (read_state c.told_name.new.input c.told_name.new.meter (g.T.Tables.held c.told_name.new.tables)) before)) (sym c.is_type.ensures ∙ c.if-is_type.false)))
     (rw (c.go_to.ensures.elements, c.go_to.ensures.outer, c.in_ok-learn_name.ensures.ok) at c.string_value.ensures.hands))

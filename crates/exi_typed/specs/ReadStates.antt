@@ -8,17 +8,17 @@ use Rattle.exi_meter.specs.Metering.{Metering}
 use Rattle.exi_tables.specs.Partitions.{Partitions, with_uri}
 
 -- what stands beside the bits
-pub record Beside : Type 0 where
+pub record Context : Type 0 where
   pub meter : Metering
   pub tables : Partitions
 
 -- where reading goes on, and what stands beside
-pub record Course : Type 0 where
+pub record ReadState : Type 0 where
   pub spot : Spot
-  pub beside : Beside
+  pub context : Context
 
 -- the same, further on
-abbrev pub at_spot_of : Course → Spot → Course
+abbrev pub at_spot_of : ReadState → Spot → ReadState
 at_spot_of c s = record c { spot = s }
 
 -- what is wrong, and the meter with all that was charged before
@@ -32,21 +32,21 @@ failing meter (Ok x) = Ok x
 failing meter (Err f) = Err (record { fault = f; meter = meter })
 
 -- a reading that may charge the meter and let the tables grow
-abbrev pub Courser : Type 0 → Type 0
-Courser X = Course → Result (X × Course) Failure
+abbrev pub ContextReader : Type 0 → Type 0
+ContextReader X = ReadState → Result (X × ReadState) Failure
 
 -- ---- what a reader answers
-abbrev pub course : Spot → Metering → Partitions → Course
-course s m p = record { spot = s; beside = record { meter = m; tables = p } }
+abbrev pub read_state : Spot → Metering → Partitions → ReadState
+read_state s m p = record { spot = s; context = record { meter = m; tables = p } }
 
 -- What was answered, and where reading goes on with what stands beside, is what reading gives. After a fault the meter is
 -- this one.
-abbrev pub Goes : {X Y : Type 0} → (X → Y × Course) → Metering → Result X Fault → Result (Y × Course) Failure → Type 0
+abbrev pub Goes : {X Y : Type 0} → (X → Y × ReadState) → Metering → Result X Fault → Result (Y × ReadState) Failure → Type 0
 Goes view m (Ok x) read = read ≡ Ok (view x)
 Goes view m (Err f) read = read ≡ Err (record { fault = f; meter = m })
 
 -- the same, where memory may run out
-abbrev pub GoesOrStops : {X Y : Type 0} → (X → Y × Course) → Metering → Result X Stop → Result (Y × Course) Failure → Type 0
+abbrev pub GoesOrStops : {X Y : Type 0} → (X → Y × ReadState) → Metering → Result X Stop → Result (Y × ReadState) Failure → Type 0
 GoesOrStops view m (Ok x) read = read ≡ Ok (view x)
 GoesOrStops view m (Err stop.Memory) read = Unit {0}
 GoesOrStops view m (Err (stop.Fault f)) read = read ≡ Err (record { fault = f; meter = m })
