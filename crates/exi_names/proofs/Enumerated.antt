@@ -1,11 +1,8 @@
 -- The least place among values is the one among what they stand for.
-use Rattle.std.proofs.Common.{◌≡◌, ℕ, ◌+◌, Bool, true, false, List, [], ◌∷◌, map, refl, sym, ap, inl, inr}
+use Rattle.std.proofs.Common.{◌≡◌, Bool, List, [], ◌∷◌, map, refl, inl, inr}
 use Rattle.std.proofs.lemmas.Bool.{cases_Bool}
 use Rattle.std.proofs.lemmas.List.{length-map}
 use Rattle.std.specs.List.{position, position_or_len}
-use Rattle.exi_names.specs.Equality.{place_among}
-use Rattle.exi_names.specs.Seen.{Value, seen, vals}
-use Rattle.exi_names.specs.declared.val.Val.{Val}
 
 first_mapped : {X Y : Type 0} (p : Y → Bool) (f : X → Y) (xs : List X) → position_or_len p (map f xs) ≡ position_or_len (λ x. p (f x)) xs
 first_mapped p f [] = refl

@@ -22,7 +22,7 @@ rise_from (c ∷ cs) least (suc i) h lt =
     let more : c + 1 ≤ get_or cs i 0 = rise_from cs (c + 1) i p.1 (omega arith) in
     omega (arith, p.0)
 
-rise_up : (cs : List ℕ) (least i j : ℕ) → rises_from least cs ≡ true → i < j → j < length cs → get_or cs i 0 < get_or cs j 0
+pub rise_up : (cs : List ℕ) (least i j : ℕ) → rises_from least cs ≡ true → i < j → j < length cs → get_or cs i 0 < get_or cs j 0
 rise_up [] least i j h lt in_cs = absurd (omega arith)
 rise_up (c ∷ cs) least i zero h lt in_cs = absurd (omega arith)
 rise_up (c ∷ cs) least zero (suc j) h lt in_cs =

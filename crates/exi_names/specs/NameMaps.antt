@@ -1,5 +1,5 @@
 -- What is kept for names, which are told apart by their places in the string tables (EXI 1.0, section 7.3).
-use Rattle.std.specs.Prelude.{ℕ, ◌==◌, ◌&&◌, Bool, Option, None, List, [], slice_index_or}
+use Rattle.std.specs.Prelude.{◌==◌, ◌&&◌, Bool, Option, None, List, [], slice_index_or}
 use Rattle.exi_names.specs.declared.names.NameId.{NameId}
 
 -- names are the same where both places are: whoever asks has looked up the least places of their texts

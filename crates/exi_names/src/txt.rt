@@ -1,6 +1,6 @@
 ghost use Rattle.std.specs.Prelude.{◌≡◌, [], ◌∷◌, ◌++◌, ◌||◌, nat_lt, nat_le, count_by, length, Some, IfOk, OnOk, OnErr, IsTrue, ◌↔◌, encode_utf8_all};
 ghost use Rattle.std.proofs.Common.{refl};
-ghost use Rattle.std.specs.Str.{chars, bytes_eq};
+ghost use Rattle.std.specs.Str.{chars, bytes_eq, IsAscii};
 ghost use Rattle.std.specs.String.{string_bytes};
 ghost use Rattle.std.specs.Cmp.Lexicographic.{slice_cmp, nat_list_eq_equiv, nat_list_cmp_total};
 ghost use Rattle.std.specs.Ordering.{nat_cmp};
@@ -17,20 +17,23 @@ use std::marker::Model;
 /// A text, seen as the list of its characters.
 ///
 /// Texts are equal where they have the same characters, and are ordered by their UTF-8. So a set of
-/// texts is looked up by `&Txt`, and holds each of them once.
+/// texts is looked up by `&Txt`, and holds each of them once. The number of the characters is kept.
 #[derive(Debug, Drop)]
 pub struct Txt {
     text: String,
+    characters: u64,
 }
 
 impl Model for Txt {
-    ghost use Rattle.std.specs.Prelude.{List, ℕ};
+    ghost use Rattle.std.specs.Prelude.{◌≡◌, List, ℕ, length};
     ghost use Rattle.std.specs.String.{string_bytes};
     ghost use Rattle.std.specs.Str.{chars};
 
     ghost Value = { List ℕ };
 
     ghost view = { λ t. chars (string_bytes t.text) };
+
+    ghost invariant = { λ t. t.characters ≡ length (chars (string_bytes t.text)) };
 }
 
 impl Txt {
@@ -40,6 +43,7 @@ impl Txt {
     {
         Txt {
             text: String::new(alloc),
+            characters: 0,
         }
     }
 
@@ -51,16 +55,15 @@ impl Txt {
     pub fn of(alloc: Global, text: &str) -> Result<Txt, AllocError>
         ensures { IfOk result (λ t. t ≡ chars text.now) }
     {
-        Ok(Txt {
-            text: String::from_str(alloc, text)?,
-        })
+        Ok(Txt::from_string(String::from_str(alloc, text)?))
     }
 
-    /// The text that the string holds, in the string's own memory.
+    /// The text that the string holds, in the string's own memory. Counts its characters.
     pub fn from_string(text: String) -> Txt
         ensures { result ≡ chars (string_bytes text) }
     {
-        Txt { text }
+        let characters = count_chars(text.as_str());
+        Txt { text, characters }
     }
 
     /// The text as a string, in the same memory.
@@ -81,6 +84,7 @@ impl Txt {
     {
         Ok(Txt {
             text: self.text.clone()?,
+            characters: self.characters,
         })
     }
 
@@ -94,6 +98,7 @@ impl Txt {
         ensures err { OnErr result (self.new ≡ self.old) }
     {
         self.text.push(c)?;
+        self.characters += 1;
         Ok(())
     }
 
@@ -107,6 +112,24 @@ impl Txt {
         ensures err { OnErr result (self.new ≡ self.old) }
     {
         self.text.push_str(text)?;
+        self.characters += count_chars(text);
+        Ok(())
+    }
+
+    /// Puts ASCII characters at the end, a byte each, with one copy and nothing to count.
+    ///
+    /// # Errors
+    ///
+    /// `AllocError` where memory is refused; the text is then unchanged.
+    pub fn push_ascii(&mut self, bytes: &[u8]) -> Result<(), AllocError>
+        requires ascii { IsAscii bytes.now }
+        ensures ok { OnOk result (self.new ≡ self.old ++ bytes.now) }
+        ensures err { OnErr result (self.new ≡ self.old) }
+    {
+        // What is ASCII is UTF-8, and is each its own character.
+        self.text
+            .push_str(unsafe { std::str::from_utf8_unchecked(bytes) })?;
+        self.characters += bytes.len() as u64;
         Ok(())
     }
 
@@ -126,7 +149,7 @@ impl Txt {
     pub fn count(&self) -> u64
         ensures { result ≡ length self.now }
     {
-        count_begins(self.text.as_str().as_bytes()) as u64
+        self.characters
     }
 
     /// The characters in UTF-8.
@@ -192,6 +215,13 @@ impl Hash for Txt {
     fn hash<H: Hasher>(&self, state: &mut H) {
         self.as_str().hash(state);
     }
+}
+
+/// How many characters there are.
+fn count_chars(text: &str) -> u64
+    ensures { result ≡ length (chars text.now) }
+{
+    count_begins(text.as_bytes()) as u64
 }
 
 /// How many of the bytes begin a character in UTF-8.

@@ -1,4 +1,3 @@
-use Rattle.std.proofs.Common.{◌∙◌}
 use Rattle.exi_names.specs.Equality.{equal}
 use Rattle.exi_names.specs.Seen.{seen, Value}
 use Rattle.exi_names.proofs.Enumerated.{place_mapped}
