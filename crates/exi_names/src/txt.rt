@@ -93,6 +93,7 @@ impl Txt {
     /// # Errors
     ///
     /// `AllocError` where memory is refused; the text is then unchanged.
+    #[inline]
     pub fn push(&mut self, c: char) -> Result<(), AllocError>
         ensures ok { OnOk result (self.new ≡ self.old ++ c ∷ []) }
         ensures err { OnErr result (self.new ≡ self.old) }
@@ -121,6 +122,7 @@ impl Txt {
     /// # Errors
     ///
     /// `AllocError` where memory is refused; the text is then unchanged.
+    #[inline]
     pub fn push_ascii(&mut self, bytes: &[u8]) -> Result<(), AllocError>
         requires ascii { IsAscii bytes.now }
         ensures ok { OnOk result (self.new ≡ self.old ++ bytes.now) }
@@ -146,6 +148,7 @@ impl Txt {
     }
 
     /// How many characters the text has.
+    #[inline]
     pub fn count(&self) -> u64
         ensures { result ≡ length self.now }
     {
@@ -153,6 +156,7 @@ impl Txt {
     }
 
     /// The characters in UTF-8.
+    #[inline]
     pub fn as_str(&self) -> &str
         ensures chars { self.now ≡ chars result.now }
         ensures bytes { result.now ≡ encode_utf8_all self.now }
@@ -161,6 +165,7 @@ impl Txt {
     }
 
     /// Whether the other text has the same characters.
+    #[inline]
     pub fn same(&self, other: &Txt) -> bool
         ensures same { IsTrue result ↔ (self.now ≡ other.now) }
         ensures test { result ≡ bytes_eq self.now other.now }
