@@ -79,8 +79,8 @@ fn new_chunk(alloc: Global) -> Result<Vec<u8>, AllocError>
     vec![in alloc; 0u8; CHUNK]
 }
 
-/// Reads a source to its end, chunk by chunk, unless it has more than `most` bytes left; of those at most
-/// `most` + 1 are kept.
+/// Reads a source to its end, chunk by chunk, unless it has more than `most` bytes left; no more than `most`
+/// are kept.
 fn read_all<S: Read>(alloc: Global, source: &mut S, chunk: &mut [u8], most: u64) -> Fetch
     requires { 0 < length chunk.old }
     ensures read { Reads (S.remaining source.old) most result }
@@ -94,6 +94,9 @@ fn read_all<S: Read>(alloc: Global, source: &mut S, chunk: &mut [u8], most: u64)
         match source.read(&mut chunk[..room]) {
             Ok(0) => return Fetch::Bytes(Octets::from_vec(all)),
             Ok(count) => {
+                if count as u64 > most - all.len() as u64 {
+                    return Fetch::TooLong;
+                }
                 if all.extend_from_slice(&chunk[..count]).is_err() {
                     return Fetch::Memory;
                 }
