@@ -1,5 +1,5 @@
 -- Texts that are told by the indices of their keys.
-use Rattle.std.proofs.Common.{◌≡◌, ℕ, zero, suc, ◌<◌, ◌≤◌, ◌+◌, ◌-◌, ◌^◌, Bool, not, cond, true, false, List, [], ◌∷◌, ◌++◌, map, length, get_or, Option, Some, None, is_some, refl, sym, ap, ◌∙◌, arith, inl, inr, true≢false, length-append}
+use Rattle.std.proofs.Common.{◌≡◌, ℕ, zero, suc, ◌<◌, ◌+◌, ◌-◌, ◌^◌, cond, true, false, List, [], ◌∷◌, ◌++◌, length, get_or, Option, Some, None, is_some, refl, sym, ap, ◌∙◌, arith, inl, inr, true≢false, length-append}
 use Rattle.std.specs.Prelude.{position, slice_get}
 use Rattle.std.specs.List.{position_or_len}
 use Rattle.std.specs.Map.{keys_of, lookup}

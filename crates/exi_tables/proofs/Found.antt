@@ -1,15 +1,13 @@
 -- What is found among live values, and what is not.
-use Rattle.std.proofs.Common.{◌≡◌, ◌≢◌, ℕ, zero, suc, ◌<◌, ◌≤◌, ◌+◌, ◌-◌, ◌*◌, ◌^◌, ◌&&◌, ◌||◌, min, Bool, not, true, false, cond, eqb, ltb, List, [], ◌∷◌, ◌++◌, length, get_or, Option, Some, None, refl, sym, ap, ◌∙◌, arith, inl, inr, true≢false}
-use Rattle.std.specs.Prelude.{find, position, slice_get, nat_eq, option_map}
+use Rattle.std.proofs.Common.{◌≡◌, ◌≢◌, ℕ, zero, suc, ◌<◌, ◌≤◌, Bool, not, true, ltb, List, [], ◌∷◌, length, get_or, Option, Some, None, refl, sym, ap, ◌∙◌, arith, inl, inr, true≢false}
+use Rattle.std.specs.Prelude.{find, position, slice_get, option_map}
 use Rattle.std.specs.List.{prefix_len}
-use Rattle.std.specs.Str.{bytes_eq}
 use Rattle.std.proofs.lemmas.Bool.{cases_Bool, cases_lt, lt-ltb}
 use Rattle.std.proofs.lemmas.List.Quantifiers.{position-Some}
 use Rattle.std.proofs.lemmas.Option.{slice_get-get_or, slice_get_within, get_or_from_slice_get}
-use Rattle.exi_names.specs.NameMaps.{same_name}
 use Rattle.exi_names.specs.declared.names.NameId.{NameId}
 use Rattle.exi_tables.specs.declared.live.Live.{Live}
-use Rattle.exi_tables.specs.Values.{is_value, least_under, or_less, put_at, stands_under, text_under}
+use Rattle.exi_tables.specs.Values.{is_value, least_under, put_at, stands_under, text_under}
 use Rattle.exi_tables.proofs.Least.{prefix_below}
 
 some_is : {X : Type 0} (a b : X) → Some a ≡ Some b → a ≡ b
@@ -50,7 +48,7 @@ module _ {X : Type 0} (p : X → Bool) where
       by (Some i) e = absurd (an_item xs i e (λ d. (let at = position-Some p xs i d e in never i (get_or xs i d) (slice_get-get_or xs i d at.0) at.1)))
 
   -- where one passes, there is a place
-  not_absent : (xs : List X) (i : ℕ) (x : X) → slice_get xs i ≡ Some x → p x ≡ true → position p xs ≡ None → ⊥
+  pub not_absent : (xs : List X) (i : ℕ) (x : X) → slice_get xs i ≡ Some x → p x ≡ true → position p xs ≡ None → ⊥
   not_absent xs i x at ok none =
       let inside : i < length xs = slice_get_within xs i x at in
       let passes : p (get_or xs i x) ≡ true = ap p (get_or_from_slice_get xs i x x at) ∙ ok in

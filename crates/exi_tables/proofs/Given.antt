@@ -1,8 +1,8 @@
 -- How many places are given under a name, once one more is.
-use Rattle.std.proofs.Common.{◌≡◌, ◌≢◌, ℕ, zero, suc, ◌<◌, ◌≤◌, ◌+◌, ◌&&◌, Bool, true, false, cond, List, [], ◌∷◌, ◌++◌, length, get_or, Option, Some, None, refl, ap, sym, ◌∙◌, arith, inl, inr, true≢false}
-use Rattle.std.specs.Prelude.{nat_eq, position, slice_get, unwrap_or, option_map, option_and_then}
+use Rattle.std.proofs.Common.{◌≡◌, ◌≢◌, ℕ, zero, suc, ◌+◌, ◌&&◌, Bool, true, false, cond, List, [], ◌∷◌, ◌++◌, length, get_or, Option, Some, None, refl, ap, sym, ◌∙◌, arith, inl, inr, true≢false}
+use Rattle.std.specs.Prelude.{nat_eq, slice_get, unwrap_or, option_map, option_and_then}
 use Rattle.std.specs.List.{position_from}
-use Rattle.std.proofs.lemmas.Bool.{cases_Bool, cases_eq, eq-eqb, eqb-true}
+use Rattle.std.proofs.lemmas.Bool.{cases_Bool, eq-eqb, eqb-true}
 use Rattle.std.proofs.lemmas.Iterator.Adapters.{position_from-zero}
 use Rattle.std.proofs.lemmas.List.Quantifiers.{position-Some}
 use Rattle.std.proofs.lemmas.Option.{slice_get-get_or}
@@ -11,7 +11,7 @@ use Rattle.exi_names.specs.declared.names.NameId.{NameId}
 use Rattle.exi_tables.specs.declared.live.Given.{Given}
 use Rattle.exi_tables.specs.Values.{changed_at, given_to, name_place, one_more, one_more_at}
 use Rattle.exi_tables.proofs.Growing.{get_changed, get_others}
-use Rattle.exi_tables.proofs.Least.{get_before, get_last, position_append, position_new, position_other}
+use Rattle.exi_tables.proofs.Least.{get_before, get_last, position_new, position_other}
 
 both : (a b : Bool) → (a && b) ≡ true → (a ≡ true) × (b ≡ true)
 both true b h = (refl, h)

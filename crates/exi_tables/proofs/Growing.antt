@@ -1,13 +1,12 @@
 -- What growth adds and keeps.
 use Rattle.std.proofs.Common.{◌≡◌, ◌≢◌, ℕ, zero, suc, ◌<◌, ◌≤◌, ◌+◌, List, [], ◌∷◌, ◌++◌, map, length, refl, ap, ◌∙◌, arith, inl, inr, Option, Some, None, length-append, ◌⊎◌, get_or}
-use Rattle.std.specs.Prelude.{slice_get, filter, option_map}
-use Rattle.std.proofs.lemmas.Bool.{cases_Bool, cases_eq}
+use Rattle.std.specs.Prelude.{slice_get, option_map}
+use Rattle.std.proofs.lemmas.Bool.{cases_eq}
 use Rattle.std.proofs.lemmas.List.{length-map, map-append}
-use Rattle.std.proofs.lemmas.List.Elements.{filter-append}
 use Rattle.std.proofs.lemmas.Option.{slice_get_within, slice_get-get_or}
 use Rattle.exi_names.specs.declared.names.NameId.{NameId}
 use Rattle.exi_tables.specs.Partitions.{Namespace, Partitions, IsName, uris, locals, locals_in, prefixes, prefixes_in, and_local, and_prefix, with_uri, with_local, with_prefix, with_value}
-use Rattle.exi_tables.specs.Values.{ValueTable, changed_at}
+use Rattle.exi_tables.specs.Values.{changed_at}
 use Rattle.exi_tables.specs.Growth.{KeepsPlaces, KeepsAll, NoneLonger}
 
 -- lists that have grown

@@ -12,6 +12,8 @@ pub mod ByHash
 pub mod SpotSets
 pub mod Found
 pub mod Completes
+pub mod Owns
+pub mod Lesser
 pub mod Looked
 pub mod Sound
 pub mod Rows

@@ -1,13 +1,12 @@
 -- A value more makes no partition longer by more than one.
-use Rattle.std.proofs.Common.{◌≡◌, ℕ, zero, suc, ◌≤◌, ◌+◌, Bool, true, false, cond, List, [], ◌∷◌, length, refl, arith, inl, inr}
+use Rattle.std.proofs.Common.{ℕ, zero, suc, ◌≤◌, ◌+◌, Bool, true, false, cond, List, [], ◌∷◌, length, arith, inl, inr}
 use Rattle.std.proofs.lemmas.Bool.{cases_Bool}
 use Rattle.std.proofs.lemmas.List.{length-map}
 use Rattle.exi_names.specs.NameMaps.{same_name}
 use Rattle.exi_names.specs.declared.names.NameId.{NameId}
-use Rattle.exi_tables.specs.declared.live.Live.{Live}
 use Rattle.exi_tables.specs.Growth.{NoneLonger}
-use Rattle.exi_tables.specs.Partitions.{Partitions, name_values, values, with_value}
-use Rattle.exi_tables.specs.Values.{ValueTable, given_to, is_added, one_more, put_at, texts_of, with_added, with_missed}
+use Rattle.exi_tables.specs.Partitions.{Partitions, with_value}
+use Rattle.exi_tables.specs.Values.{ValueTable, given_to, is_added, put_at, texts_of, with_missed}
 use Rattle.exi_tables.proofs.Given.{given_more}
 
 put_longer : {X : Type 0} (place : ℕ) (x : X) (xs : List X) → length (put_at place x xs) ≤ length xs + 1

@@ -1,6 +1,6 @@
 -- What a value that is added changes, and what it leaves.
-use Rattle.std.proofs.Common.{◌≡◌, ◌≢◌, ℕ, ◌<◌, ◌≤◌, ◌+◌, ◌&&◌, Bool, true, false, cond, List, length, Option, Some, None, refl, sym, ap, ◌∙◌, subst, arith, ◌⊎◌, inl, inr}
-use Rattle.std.specs.Prelude.{slice_get, nat_eq, option_map}
+use Rattle.std.proofs.Common.{◌≡◌, ◌≢◌, ℕ, ◌<◌, ◌≤◌, ◌+◌, true, false, cond, List, Some, None, refl, sym, ap, ◌∙◌, subst, arith, ◌⊎◌, inl, inr}
+use Rattle.std.specs.Prelude.{slice_get, option_map}
 use Rattle.std.proofs.lemmas.Bool.{cases_Bool, cases_eq, eq-eqb}
 use Rattle.std.proofs.lemmas.Option.{slice_get-map}
 use Rattle.exi_names.specs.NameMaps.{same_name}
@@ -9,7 +9,7 @@ use Rattle.exi_tables.specs.declared.live.Bounds.{Bounds}
 use Rattle.exi_tables.specs.declared.live.Live.{Live}
 use Rattle.exi_tables.specs.Growth.{IsSound}
 use Rattle.exi_tables.specs.Partitions.{live_at}
-use Rattle.exi_tables.specs.Values.{ValueTable, given_to, is_added, no_values, one_more, place_after, put_at, stands_under, text_under, texts_of, with_added, with_missed}
+use Rattle.exi_tables.specs.Values.{ValueTable, given_to, is_added, no_values, one_more, put_at, stands_under, text_under, texts_of, with_added, with_missed}
 use Rattle.exi_tables.proofs.Completes.{one_or_none, same_itself}
 use Rattle.exi_tables.proofs.Counts.{after_within, length_put}
 use Rattle.exi_tables.proofs.Found.{get_put_here, get_put_other, no_text, one_text}

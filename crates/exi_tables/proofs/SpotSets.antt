@@ -1,10 +1,9 @@
 -- Places one more or one less.
-use Rattle.std.proofs.Common.{◌≡◌, ◌≢◌, ℕ, zero, suc, ◌<◌, ◌≤◌, ◌||◌, Bool, true, false, cond, eqb, ltb, List, [], ◌∷◌, length, All, refl, sym, ap, ◌∙◌, arith, inl, inr, true≢false}
-use Rattle.std.specs.List.{list_any}
+use Rattle.std.proofs.Common.{◌≡◌, ◌≢◌, ℕ, suc, ◌<◌, ◌||◌, Bool, true, false, cond, eqb, ltb, List, [], ◌∷◌, All, refl, sym, ap, ◌∙◌, arith, inl, inr, true≢false}
 use Rattle.std.specs.Ordering.{is_eq, nat_cmp}
 use Rattle.std.specs.declared.cmp.Ordering.TheVariants.{Less, Equal, Greater}
 use Rattle.std.proofs.lemmas.Bool.{cases_Bool, eqb-true, eqb-false, eq-eqb, ltb-true, ne_eqb}
-use Rattle.exi_tables.specs.Spots.{SpotSet, holds, is_spot}
+use Rattle.exi_tables.specs.Spots.{holds}
 
 is_equal : (b : Bool) → is_eq (cond b Equal Greater) ≡ b
 is_equal true = refl

@@ -1,5 +1,5 @@
 -- What look-ups find and growth keeps: laws about the definitions of string tables.
-use Rattle.std.specs.Prelude.{◌≡◌, ◌≢◌, ◌<◌, ◌≤◌, ℕ, List, length, Option, Some, None, slice_get}
+use Rattle.std.specs.Prelude.{◌≡◌, ◌≢◌, ◌<◌, ◌≤◌, ℕ, List, length, Some, slice_get}
 use Rattle.exi_names.specs.declared.names.NameId.{NameId}
 use Rattle.exi_tables.specs.Partitions.{Partitions, live_at, locals, name_values, prefixes, uris, values}
 use Rattle.exi_tables.specs.Values.{ValueTable, given_to}

@@ -1,5 +1,5 @@
 -- What is kept beside texts and values, so that no list has to be walked.
-use Rattle.std.specs.Prelude.{◌≡◌, ◌<◌, ◌≤◌, ◌^◌, ℕ, ◌+◌, ◌*◌, Bool, true, false, List, [], ◌∷◌, length, map, fold, nat_eq, encode_utf8_all, Option, Some, None, option_and_then, slice_get, slice_index_or}
+use Rattle.std.specs.Prelude.{◌≡◌, ◌≢◌, ◌<◌, ◌≤◌, ◌^◌, ℕ, ◌+◌, ◌-◌, Bool, true, false, List, [], ◌∷◌, ◌++◌, length, map, fold, nat_eq, nat_lt, encode_utf8_all, Option, Some, None, option_and_then, slice_get, slice_index_or, if◌then◌else◌}
 use Rattle.std.specs.Hash as fed
 use Rattle.std.specs.Hash.FoldHasher as folding
 use Rattle.std.specs.Map.{keys_of, lookup}
@@ -11,7 +11,7 @@ use Rattle.exi_tables.specs.declared.live.Live.{Live}
 use Rattle.exi_names.specs.NameMaps.{kept_for}
 use Rattle.exi_names.specs.declared.names.NameId.{NameId}
 use Rattle.exi_tables.specs.Spots.{SpotSet, is_listed}
-use Rattle.exi_tables.specs.Values.{given_to, name_place}
+use Rattle.exi_tables.specs.Values.{given_to, is_value, name_place, or_less}
 
 -- the local names and the prefixes of a URI
 pub record Space : Type 0 where
@@ -61,17 +61,76 @@ has_text text (Some l) = bytes_eq l.text text
 pub record IsNumbered (numbers : List (List (Option ℕ))) (given : List Given) : Type 0 where
   pub number : (name : NameId) → kept_for numbers name ≡ name_place name given
 
--- a place under a name as one number
-abbrev pub own_key : NameId → ℕ → ℕ
-own_key name place = (name.uri * 0x1_0000_0000 + name.local) * 0x1_0000_0000 + place
+-- what was given under a name: the places among all of the places from `first` on
+pub record Row : Type 0 where
+  pub name : NameId
+  pub first : ℕ
+  pub places : List ℕ
+
+abbrev pub given_of : Row → Given
+given_of r = record { name = r.name; count = r.first + length r.places }
+
+abbrev pub givens : List Row → List Given
+givens rows = map given_of rows
+
+abbrev pub row_of : NameId → List Row → Option Row
+row_of name rows = option_and_then (slice_get rows) (name_place name (givens rows))
+
+-- the place among all that is kept for a place
+abbrev pub kept_in : Row → ℕ → Option ℕ
+kept_in r local = if nat_lt local r.first then None else slice_get r.places (local - r.first)
+
+abbrev pub kept_under : Option Row → ℕ → Option ℕ
+kept_under None local = None
+kept_under (Some r) local = kept_in r local
+
+abbrev pub kept_place : List Row → NameId → ℕ → Option ℕ
+kept_place rows name local = kept_under (row_of name rows) local
+
+-- one more place is given
+abbrev pub with_place : ℕ → Row → Row
+with_place global r = record { name = r.name; first = r.first; places = r.places ++ global ∷ [] }
+
+-- the first place for which one is kept is let go
+abbrev pub without_first : Row → List ℕ → Row
+without_first r [] = r
+without_first r (p ∷ ps) = record { name = r.name; first = r.first + 1; places = ps }
+
+abbrev pub without_place : ℕ → Row → Row
+without_place local r = if nat_eq local r.first then without_first r r.places else r
+
+-- every place but this one is kept
+abbrev pub IsForgotten : NameId → ℕ → List Row → List Row → Type 0
+IsForgotten name local old new = (n : NameId) (other : ℕ) → (n ≡ name → other ≢ local) → kept_place new n other ≡ kept_place old n other
 
 -- the hash of a text
 unfoldable pub text_hash : List ℕ → ℕ
 text_hash text = folding.finish (fold folding.write folding.initial (fed.str (encode_utf8_all text)))
 
--- each live value is found under its name and by the hash of its text; what else is found is looked at again
-pub record IsComplete (live : List Live) (given : List Given) (own : List (ℕ × ℕ)) (index : List (ℕ × SpotSet)) : Type 0 where
-  pub named : (place : ℕ) (l : Live) → slice_get live place ≡ Some l → (l.name.uri < 2 ^ 32) × (l.name.local < 2 ^ 32)
-  pub below : (place : ℕ) (l : Live) → slice_get live place ≡ Some l → (l.local < given_to l.name given) × (l.local < 2 ^ 32)
-  pub owned : (place : ℕ) (l : Live) → slice_get live place ≡ Some l → lookup (nat_eq (own_key l.name l.local)) own ≡ Some place
-  pub listed : (place : ℕ) (l : Live) → slice_get live place ≡ Some l → is_listed index (text_hash l.text) place ≡ true
+-- each live value is found under its name; what else is found is looked at again
+pub record IsOwned (live : List Live) (rows : List Row) : Type 0 where
+  pub below : (place : ℕ) (l : Live) → slice_get live place ≡ Some l → l.local < given_to l.name (givens rows)
+  pub owned : (place : ℕ) (l : Live) → slice_get live place ≡ Some l → kept_place rows l.name l.local ≡ Some place
+
+-- each live value is found by the hash of its text; what else is found is looked at again
+abbrev pub IsListed : List Live → List (ℕ × SpotSet) → Type 0
+IsListed live index = (place : ℕ) (l : Live) → slice_get live place ≡ Some l → is_listed index (text_hash l.text) place ≡ true
+
+-- ---- the least among places
+-- the place under the name of the value that stands here, where it has the text
+abbrev pub local_of : NameId → List ℕ → Option Live → Option ℕ
+local_of name text None = None
+local_of name text (Some l) = if is_value name text l then Some l.local else None
+
+-- the place, where a value with the text stands here
+abbrev pub place_of : List ℕ → ℕ → Option Live → Option ℕ
+place_of text place o = if has_text text o then Some place else None
+
+abbrev pub lesser : Option ℕ → Option ℕ → Option ℕ
+lesser None o = o
+lesser (Some place) o = Some (or_less place o)
+
+-- the least of what is told of these places
+abbrev pub least_of : (ℕ → Option ℕ) → List ℕ → Option ℕ
+least_of told [] = None
+least_of told (place ∷ more) = lesser (told place) (least_of told more)

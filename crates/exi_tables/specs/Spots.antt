@@ -1,5 +1,5 @@
 -- The places among all of live values whose texts have the same hash.
-use Rattle.std.specs.Prelude.{◌≡◌, ◌||◌, ℕ, Bool, true, false, List, Option, Some, None, nat_eq}
+use Rattle.std.specs.Prelude.{◌||◌, ℕ, Bool, false, List, Option, Some, None, nat_eq}
 use Rattle.std.specs.List.{list_any}
 use Rattle.std.specs.Map.{lookup}
 use Rattle.std.specs.Ordering.{is_eq, nat_cmp}

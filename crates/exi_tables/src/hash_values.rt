@@ -1,16 +1,12 @@
-ghost use Rattle.std.specs.Prelude.{◌≡◌, ◌≢◌, ◌<◌, ◌^◌, ℕ, true, Some, length, position, slice_get, nat_eq};
-ghost use Rattle.std.specs.Map.{lookup};
-ghost use Rattle.std.specs.Option.{option_copied};
+ghost use Rattle.std.specs.Prelude.{◌≡◌, ◌≢◌, ℕ, true, Some, position, slice_get};
 ghost use Rattle.std.specs.Str.{bytes_eq};
-ghost use Rattle.exi_names.specs.NameMaps.{same_name};
 ghost use Rattle.exi_tables.specs.declared.live.Live.{Live};
-ghost use Rattle.exi_tables.specs.Kept.{has_text, own_key, text_hash};
+ghost use Rattle.exi_tables.specs.Kept.{has_text, lesser, local_of, place_of, text_hash};
 ghost use Rattle.exi_tables.specs.Spots.{is_listed, is_spot};
-ghost use Rattle.exi_tables.specs.Values.{is_value, least_under, stands_under};
+ghost use Rattle.exi_tables.specs.Values.{least_under};
 
-use crate::list_texts::narrowed;
-use crate::live::{Bounds, Live, is_value, least_under, least_value, put};
-use crate::name_counts::NameCounts;
+use crate::live::{Live, is_value, or_less};
+use crate::place_values::PlaceValues;
 use crate::spots::{Spots, list_place, unlist_place};
 use crate::value_store::ValueStore;
 use exi_names::{NameId, Txt};
@@ -19,37 +15,24 @@ use std::alloc::{AllocError, Global};
 use std::hash::{FoldHasher, Hash, Hasher};
 use std::marker::Model;
 
-/// Values by hash.
-///
-/// Each live value's text is stored once, at its place among all. Beside them are the place of each name's
-/// live values, and for each hash the places of the live values whose texts have it. What was pushed out is
-/// taken out of both.
+/// Values by their places and by hash: beside them, for each hash, the places among all of the live values
+/// whose texts have it.
 #[derive(Drop)]
 pub struct HashValues {
     alloc: Global,
-    bounds: Bounds,
-    live: Vec<Live>,
-    next: u32,
-    given: NameCounts,
-    own: IndexMap<u128, u32>,
+    values: PlaceValues,
     index: IndexMap<u64, Spots>,
 }
 
 impl Model for HashValues {
     ghost use Rattle.exi_tables.specs.Values.{ValueTable};
-    ghost use Rattle.exi_tables.specs.Kept.{IsComplete, IsRound};
+    ghost use Rattle.exi_tables.specs.Kept.{IsListed};
 
     ghost Value = { ValueTable };
 
-    ghost view = { λ v. record {
-      bounds = v.bounds;
-      live = v.live.items;
-      next = v.next;
-      given = v.given;
-    } };
+    ghost view = { λ v. v.values };
 
-    ghost invariant = { λ v. IsRound v.bounds v.live.items v.next
-        × IsComplete v.live.items v.given v.own.entries v.index.entries };
+    ghost invariant = { λ v. IsListed v.values.live v.index.entries };
 }
 
 impl ValueStore for HashValues {
@@ -58,67 +41,51 @@ impl ValueStore for HashValues {
     fn new(alloc: Global, most: Option<u128>, capacity: Option<u128>) -> HashValues {
         HashValues {
             alloc,
-            bounds: Bounds { most, capacity },
-            live: Vec::new(alloc),
-            next: 0,
-            given: NameCounts::new(alloc),
-            own: IndexMap::new(alloc),
+            values: PlaceValues::new(alloc, most, capacity),
             index: IndexMap::new(alloc),
         }
     }
 
     fn count(&self) -> u32 {
-        self.live.len() as u32
+        self.values.count()
     }
 
     fn at(&self, place: u32) -> Option<&Txt> {
-        match value_at(&self.live, place) {
-            Some(value) => Some(&value.text),
-            None => None,
-        }
+        self.values.at(place)
     }
 
     fn of(&self, text: &Txt) -> Option<u32> {
         match self.index.get(&hash_of(text)) {
-            Some(spots) => least_among(&self.live, spots, text),
+            Some(spots) => least_among(self.values.live(), spots, text),
             None => None,
         }
     }
 
     fn given(&self, name: NameId) -> u32 {
-        self.given.of(name)
+        self.values.given(name)
     }
 
     fn own_at(&self, name: NameId, place: u32) -> Option<&Txt> {
-        let global = *self.own.get(&own_key(name, place))?;
-        let value = value_at(&self.live, global)?;
-        if !stands_under(value, name, place) {
-            return None;
-        }
-        Some(&value.text)
+        self.values.own_at(name, place)
     }
 
     fn own_of(&self, name: NameId, text: &Txt) -> Option<u32> {
         match self.index.get(&hash_of(text)) {
-            Some(spots) => own_among(&self.live, spots, name, text),
+            Some(spots) => own_among(self.values.live(), spots, name, text),
             None => None,
         }
     }
 
     fn add(&mut self, name: NameId, text: Txt) -> Result<(), AllocError> {
-        if !self.bounds.adds(&text) {
+        if !self.values.bounds().adds(&text) {
             return Ok(());
         }
-        let place = self.next;
-        let local = self.given.of(name);
+        let place = self.values.next();
         let hash = hash_of(&text);
-        self.live.reserve(1)?;
+        let pushed_out = hash_at(self.values.live(), place);
         list_place(&mut self.index, self.alloc, hash, place)?;
-        self.own.insert(own_key(name, local), place)?;
-        self.given.count_one(self.alloc, name)?;
-        push_out(&self.live, &mut self.own, &mut self.index, place, hash);
-        put(&mut self.live, place as usize, Live { name, local, text });
-        self.next = self.bounds.after(place);
+        self.values.push(name, text)?;
+        unlist_other(&mut self.index, pushed_out, hash, place);
         Ok(())
     }
 }
@@ -133,22 +100,6 @@ fn hash_of(text: &Txt) -> u64
     hasher.finish()
 }
 
-/// A place under a name as one number.
-fn own_key(name: NameId, place: u32) -> u128
-    ensures key { result ≡ own_key name place }
-    ensures small { (name.uri < 2 ^ 32) × (name.local < 2 ^ 32) × (place < 2 ^ 32) }
-{
-    (u128::from(name.uri) * 0x1_0000_0000 + u128::from(name.local)) * 0x1_0000_0000
-        + u128::from(place)
-}
-
-/// The live value at a place among all.
-fn value_at(live: &[Live], place: u32) -> Option<&Live>
-    ensures { option_copied result ≡ slice_get live.now place }
-{
-    live.get(place as usize)
-}
-
 /// Whether a value with this text stands at a place.
 fn stands_at(live: &[Live], place: u32, text: &Txt) -> bool
     ensures { result ≡ has_text text.now (slice_get live.now place) }
@@ -159,28 +110,54 @@ fn stands_at(live: &[Live], place: u32, text: &Txt) -> bool
     }
 }
 
-/// Whether a value has this place under this name.
-fn stands_under(value: &Live, name: NameId, place: u32) -> bool
-    ensures { result ≡ stands_under name place value.now }
+/// The place, where a value with this text stands at it.
+fn place_at(live: &[Live], place: u32, text: &Txt) -> Option<u32>
+    ensures { result ≡ place_of text.now place (slice_get live.now place) }
 {
-    value.name == name && value.local == place
+    if stands_at(live, place, text) {
+        Some(place)
+    } else {
+        None
+    }
+}
+
+/// The place under the name of the value at a place, where it has this name and text.
+fn local_at(live: &[Live], place: u32, name: NameId, text: &Txt) -> Option<u32>
+    ensures { result ≡ local_of name text.now (slice_get live.now place) }
+{
+    let value = live.get(place as usize)?;
+    if is_value(value, name, text) {
+        Some(value.local)
+    } else {
+        None
+    }
+}
+
+/// The lesser of two places, where there are two.
+fn lesser(place: Option<u32>, other: Option<u32>) -> Option<u32>
+    ensures { result ≡ lesser place other }
+{
+    match place {
+        Some(place) => Some(or_less(place, other)),
+        None => other,
+    }
 }
 
 /// The least place among all of a value with this text, which each place that has it is listed for.
 fn least_among(live: &[Live], spots: &Spots, text: &Txt) -> Option<u32>
-    requires few { length live.now < 2 ^ 32 }
     requires listed { (place : ℕ) (l : Live) → slice_get live.now place ≡ Some l →
         bytes_eq l.text text.now ≡ true → is_spot spots.now place ≡ true }
     ensures { result ≡ position (λ l. bytes_eq l.text text.now) live.now }
 {
-    let least = spots.least();
-    if stands_at(live, least, text) {
-        return Some(least);
+    let first = spots.least();
+    if stands_at(live, first, text) {
+        return Some(first);
     }
-    if spots.is_one() {
-        return None;
+    let mut least = None;
+    for place in spots.more() {
+        least = lesser(place_at(live, *place, text), least);
     }
-    narrowed(least_value(live, text))
+    least
 }
 
 /// The least place under a name of a value with this text, which each place that has it is listed for.
@@ -189,37 +166,28 @@ fn own_among(live: &[Live], spots: &Spots, name: NameId, text: &Txt) -> Option<u
         bytes_eq l.text text.now ≡ true → is_spot spots.now place ≡ true }
     ensures { result ≡ least_under name text.now live.now }
 {
-    if !spots.is_one() {
-        return least_under(live, name, text);
+    let mut least = local_at(live, spots.least(), name, text);
+    for place in spots.more() {
+        least = lesser(local_at(live, *place, name, text), least);
     }
-    let value = value_at(live, spots.least())?;
-    if !is_value(value, name, text) {
-        return None;
-    }
-    Some(value.local)
+    least
 }
 
-/// Takes the value at a place out of what is found under names and by hash, where another with this hash
-/// takes its place.
-fn push_out(
-    live: &[Live],
-    own: &mut IndexMap<u128, u32>,
-    index: &mut IndexMap<u64, Spots>,
-    place: u32,
-    hash: u64,
-)
-    ensures own { (key : ℕ) →
-        ((l : Live) → slice_get live.now place ≡ Some l → own_key l.name l.local ≢ key) →
-        lookup (nat_eq key) own.new.entries ≡ lookup (nat_eq key) own.old.entries }
-    ensures index { (other p : ℕ) → is_listed index.old.entries other p ≡ true →
-        (p ≡ place → other ≡ hash) → is_listed index.new.entries other p ≡ true }
+/// The hash of the text of the value at a place.
+fn hash_at(live: &[Live], place: u32) -> Option<u64> {
+    let value = live.get(place as usize)?;
+    Some(hash_of(&value.text))
+}
+
+/// Lists a place no longer under the hash of what was pushed out, but where it stands under that again.
+fn unlist_other(index: &mut IndexMap<u64, Spots>, pushed_out: Option<u64>, hash: u64, place: u32)
+    ensures kept { (other p : ℕ) → is_listed index.old.entries other p ≡ true → p ≢ place →
+        is_listed index.new.entries other p ≡ true }
+    ensures stays { is_listed index.old.entries hash place ≡ true →
+        is_listed index.new.entries hash place ≡ true }
 {
-    let Some(old) = live.get(place as usize) else {
-        return;
-    };
-    own.swap_remove(&own_key(old.name, old.local));
-    let old_hash = hash_of(&old.text);
-    if old_hash != hash {
-        unlist_place(index, old_hash, place);
+    match pushed_out {
+        Some(old) if old != hash => unlist_place(index, old, place),
+        _ => {}
     }
 }

@@ -32,10 +32,27 @@
 //!
 //! # Implementations
 //!
-//! [`Tables`] is what readers and writers need: each partition's count, its texts by place, the
-//! least place of a text, and growth at a miss. [`ListTables`] keeps plain lists, which a look-up by text,
-//! and one under a name, walks. [`HashTables`] takes a step or two for each look-up. Both keep a text no
-//! longer than it is live, and no look-up takes memory.
+//! [`Tables`] is what readers and writers need: each partition's count, its texts by place, the least place of
+//! a text, and growth at a miss. Three kinds meet it; each keeps a text no longer than it is live and stores a
+//! value's text once, and no look-up takes memory. What the proofs say is the same for all; the steps below
+//! are read and measured, not proved.
+//!
+//! ```text
+//!                                  ListTables    PlaceTables     HashTables
+//! a text by its place              one step      one step        one step
+//! a value by its own place         all values    a few indices   a few indices
+//! a URI, local name, prefix        all texts     by hash         by hash
+//! a value's text                   all values    all values      by hash
+//! ```
+//!
+//! By hash the steps are as many as the live texts with that hash: each place that has it is looked at, under a
+//! name, and else until the least one has the text. A writer adds no text that is live, so in its tables that is
+//! one but for texts that have their hash in common. The hash has no key: whoever makes the texts can choose
+//! such texts. Adding one costs no more than the logarithm of their number, so a reader stays fast on them; a
+//! writer looks at each.
+//!
+//! With a capacity, what is kept for values is bounded by it, and not by the stream: a name keeps the places
+//! of its live values alone, and gives room back once it has four times too much.
 #![tactic(auto)]
 
 mod hash_texts;
@@ -44,8 +61,9 @@ pub mod laws;
 mod list_texts;
 mod list_values;
 mod live;
-mod name_counts;
+mod own_places;
 mod partitioned;
+mod place_values;
 mod spots;
 mod tables;
 #[cfg(test)]
@@ -58,10 +76,14 @@ use hash_values::HashValues;
 use list_texts::ListTexts;
 use list_values::ListValues;
 use partitioned::Partitioned;
+use place_values::PlaceValues;
 pub use tables::{Tables, is_name};
 
 /// String tables as plain lists.
 pub type ListTables = Partitioned<ListTexts, ListValues>;
 
-/// String tables by hash: look-ups by text and by place take a step or two, however many texts there are.
+/// String tables for readers: names by hash and values by place. A reader looks no value up by its text.
+pub type PlaceTables = Partitioned<HashTexts, PlaceValues>;
+
+/// String tables for writers: names and values by hash, however many there are.
 pub type HashTables = Partitioned<HashTexts, HashValues>;

@@ -43,12 +43,11 @@ impl Spots {
         self.least
     }
 
-    /// Whether there is no other place.
-    pub fn is_one(&self) -> bool
-        ensures { IsTrue result →
-            (place : ℕ) → is_spot self.now place ≡ true → place ≡ self.now.least }
+    /// The other places.
+    pub fn more(&self) -> &BTreeSet<u32>
+        ensures { result.now.keys ≡ self.now.more }
     {
-        self.more.is_empty()
+        &self.more
     }
 
     /// Adds a place.

@@ -1,16 +1,23 @@
-use Rattle.std.proofs.Common.{sym, ◌∙◌}
-use Rattle.exi_tables.proofs.Looked.{none_there, other_there, own_stands}
+use Rattle.std.proofs.Common.{◌∷◌, ap, ◌∙◌}
+use Rattle.exi_tables.specs.Kept.{least_of, lesser}
+use Rattle.exi_tables.proofs.Lesser.{own_least, own_told, walk_ends, walks_on}
 use Rattle.exi_tables.proofs.hash_values.own_among.Goals as goal
 
-pub returns-in_err-value : goal.returns-in_err-value
-returns-in_err-value c =
-    c.from_residual.ensures
-    ∙ none_there c.args.live.now c.args.spots.now c.args.text.now c.requires.listed c.least.result (c.is_one.ensures c.if-not-is_one.false) c.least.ensures.least c.args.name (sym c.in_err-value.ensures)
+pub loop-place-init : goal.loop-place-init
+loop-place-init c =
+    ap (λ o. lesser o (least_of (own_told c.args.name c.args.text.now c.args.live.now) c.into_iter-place-iterator.result))
+    (c.local_at-least.ensures ∙ ap (own_told c.args.name c.args.text.now c.args.live.now) c.least.ensures.least)
+    ∙ ap (λ ps. lesser (own_told c.args.name c.args.text.now c.args.live.now c.args.spots.now.least) (least_of (own_told c.args.name c.args.text.now c.args.live.now) ps))
+    (c.into_iter-place-iterator.ensures.into_iter_gives.0 ∙ c.more-place-items.ensures)
 
-pub returns-then-not-is_value : goal.returns-then-not-is_value
-returns-then-not-is_value c =
-    other_there c.args.live.now c.args.spots.now c.args.text.now c.requires.listed c.least.result (c.is_one.ensures c.if-not-is_one.false) c.least.ensures.least c.args.name c.in_ok-value.value.now c.in_ok-value.ensures (sym c.is_value.ensures ∙ c.if-not-is_value.true)
+pub loop-place-preserved : goal.loop-place-preserved
+loop-place-preserved c =
+    walks_on (own_told c.args.name c.args.text.now c.args.live.now) c.loop-place.place-iterator c.next.new.self c.in-Some.place.now c.loop-place.least c.lesser-least.result
+    (least_of (own_told c.args.name c.args.text.now c.args.live.now) (c.args.spots.now.least ∷ c.args.spots.now.more)) c.in-Some.ensures.steps
+    (c.lesser-least.ensures ∙ ap (λ o. lesser o c.loop-place.least) c.local_at.ensures) c.loop-place.invariant
 
 pub returns : goal.returns
 returns c =
-    own_stands c.args.live.now c.args.spots.now c.args.text.now c.requires.listed c.least.result (c.is_one.ensures c.if-not-is_one.false) c.least.ensures.least c.args.name c.in_ok-value.value.now c.in_ok-value.ensures (sym c.is_value.ensures ∙ c.if-not-is_value.false)
+    walk_ends (own_told c.args.name c.args.text.now c.args.live.now) c.loop-place.place-iterator c.loop-place.least
+    (least_of (own_told c.args.name c.args.text.now c.args.live.now) (c.args.spots.now.least ∷ c.args.spots.now.more)) c.in-None.ensures.steps.0 c.loop-place.invariant
+    ∙ own_least c.args.name c.args.text.now c.args.live.now c.args.spots.now c.requires.listed

@@ -3,12 +3,10 @@ use Rattle.exi_tables.proofs.hash_values.HashValuesValueStore.own_of.Goals as go
 
 pub own_among-requires : goal.own_among-requires
 own_among-requires c =
-    rw c.deref.ensures.value
-    (record {
-      listed = lists_all c.self.inside.live.items c.self.inside.given c.self.inside.own.entries c.self.inside.index.entries c.self.invariant.1 c.args.text.now c.hash_of.result c.in-Some.spots.now c.hash_of.ensures c.in-Some.ensures.value;
-    })
+    rw c.live.ensures.live
+    (record { listed = lists_all c.self.inside.values.live c.self.inside.index.entries c.self.invariant c.args.text.now c.hash_of.result c.in-Some.spots.now c.hash_of.ensures c.in-Some.ensures.value })
 
 pub returns-in-None : goal.returns-in-None
 returns-in-None c =
     rw (← c.self.view_is)
-    (no_own_hash c.self.inside.live.items c.self.inside.given c.self.inside.own.entries c.self.inside.index.entries c.self.invariant.1 c.args.name c.args.text.now c.hash_of.result c.hash_of.ensures c.in-None.ensures.value)
+    (no_own_hash c.self.inside.values.live c.self.inside.index.entries c.self.invariant c.args.name c.args.text.now c.hash_of.result c.hash_of.ensures c.in-None.ensures.value)

@@ -1,4 +1,4 @@
-use Rattle.std.proofs.Common.{sym, ap, ◌∷◌, ◌++◌, []}
+use Rattle.std.proofs.Common.{ap, []}
 use Rattle.exi_tables.specs.Kept.{Space}
 use Rattle.exi_tables.proofs.Spaces.{pushed_with, uris_are}
 use Rattle.exi_tables.proofs.partitioned.PartitionedTables.add_uri.Goals as goal
