@@ -1,6 +1,6 @@
 -- Characters: spelled and read.
-use Rattle.std.proofs.Common.{◌≡◌, ℕ, ◌%◌, ◌^◌, ◌<◌, ◌≤◌, inl, inr, Bool, true, false, cond, eqb, leb, ltb, ◌||◌, List, [], ◌∷◌, ◌++◌, length, get_or, Option, Some, None, Result, Ok, Err, refl, sym, ap, ◌∙◌, subst, arith}
-use Rattle.std.proofs.lemmas.Bool.{and_parts, eq-eqb, eqb-true, le-ltb, leb-true, lt-ltb, ltb-true}
+use Rattle.std.proofs.Common.{◌≡◌, ℕ, ◌%◌, ◌^◌, ◌<◌, ◌≤◌, inl, inr, Bool, true, false, cond, eqb, ltb, List, [], ◌∷◌, ◌++◌, length, get_or, Option, Some, None, Result, Ok, Err, refl, sym, ap, ◌∙◌, subst, arith}
+use Rattle.std.proofs.lemmas.Bool.{and_parts, eq-eqb, eqb-true, le-ltb, lt-ltb, ltb-true}
 use Rattle.exi_bits.specs.declared.align.Align.{Align}
 use Rattle.exi_bits.specs.declared.align.Align.TheVariants as align
 use Rattle.exi_bits.specs.declared.fault.Fault.{Fault}
@@ -16,7 +16,7 @@ use Rattle.exi_items.proofs.Items.{Item, Row, Taken, bind_ok, given, item_field,
 use Rattle.exi_items.proofs.NoPrefix.{item_no_prefix}
 use Rattle.exi_meter.specs.Metering.{Metering}
 use Rattle.exi_names.specs.Alphabets.{place_of}
-use Rattle.exi_names.specs.Characters.{between, is_xml_char}
+use Rattle.exi_names.specs.Characters.{is_xml_char}
 use Rattle.exi_text.specs.Literals.{all_xml, char_at, char_bits, chars_at, chars_bits, code_at, in_set_at, placed_bits, width_in}
 use Rattle.exi_text.specs.Spelled.{CharsAreNoPrefix, CharsAreRead, CharsAreSpelled, IsEscaped, SpellsChar, SpellsCode}
 use Rattle.exi_names.proofs.Places.{place_is}

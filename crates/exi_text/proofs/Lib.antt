@@ -1,2 +1,3 @@
 pub mod Sets
+mod Runs
 pub mod Letters

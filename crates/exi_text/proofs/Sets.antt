@@ -1,12 +1,6 @@
 -- Places in a sorted set, the width of a place, and characters that are written one after another.
-use Rattle.std.proofs.Common.{◌≡◌, ℕ, zero, suc, ◌+◌, ◌^◌, ◌<◌, ◌≤◌, inl, inr, Bool, true, false, cond, eqb, leb, ◌&&◌, ◌||◌, List, [], ◌∷◌, ◌++◌, length, get_or, Option, Some, None, Result, Ok, Err, MatchResult, refl, sym, ap, ◌∙◌, arith}
-use Rattle.std.proofs.Common.{lit<}
-use Rattle.std.proofs.Math.Nat.{pow-succ'}
-use Rattle.std.proofs.lemmas.Bool.{and_parts, cases_lt, eq-eqb, eqb-true, le-leb, leb-true, lt-leb, ne_eqb}
-use Rattle.std.proofs.lemmas.List.Sorted.{searched}
-use Rattle.std.specs.List.Sorted.{IsBinarySearchResult}
-use Rattle.std.specs.Ordering.{nat_cmp}
-use Rattle.std.specs.Result.{result_ok}
+use Rattle.std.proofs.Common.{◌≡◌, ℕ, ◌+◌, ◌^◌, ◌<◌, ◌≤◌, Bool, true, false, leb, ◌||◌, List, [], ◌∷◌, ◌++◌, length, Option, Some, Ok, refl, sym, arith}
+use Rattle.std.proofs.lemmas.Bool.{and_parts, leb-true}
 use Rattle.exi_bits.specs.declared.align.Align.{Align}
 use Rattle.exi_bits.specs.Widths.{width_for}
 use Rattle.exi_bits.proofs.WidthLaws.{width_least}
@@ -14,17 +8,17 @@ use Rattle.exi_bits.specs.Bits.{Spot}
 use Rattle.exi_bits.specs.Repeat.{times}
 use Rattle.exi_items.specs.Charges.{text_charge}
 use Rattle.exi_meter.specs.Metering.{Metering}
-use Rattle.exi_names.specs.Alphabets.{is_alphabet, one_more, place_of, rises_from}
+use Rattle.exi_names.specs.Alphabets.{place_of}
 use Rattle.exi_names.specs.Characters.{between, is_xml_char}
 use Rattle.exi_names.proofs.Places.{place_is}
 use Rattle.exi_text.specs.Literals.{char_bits, chars_at, chars_bits, width_in}
 
 -- ---- characters of XML
-either : (x y : Bool) (P : Type 0) → (x ≡ true → P) → (y ≡ true → P) → (x || y) ≡ true → P
+pub either : (x y : Bool) (P : Type 0) → (x ≡ true → P) → (y ≡ true → P) → (x || y) ≡ true → P
 either true y P f g h = f refl
 either false y P f g h = g h
 
-at_most : (least most c : ℕ) → between least most c ≡ true → c ≤ most
+pub at_most : (least most c : ℕ) → between least most c ≡ true → c ≤ most
 at_most least most c h = leb-true c most (and_parts (leb least c) (leb c most) h).1
 
 pub xml_last : (c : ℕ) → is_xml_char c ≡ true → c < 1114112

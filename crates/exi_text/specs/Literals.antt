@@ -2,7 +2,7 @@
 -- point. Where a pattern leaves a set of N characters, each is a number of as many bits as tell N + 1 values
 -- apart: below N it is the place of the character in the sorted set, N says that the code point follows.
 -- A number above N, and a code point that is no character of XML, are faults.
-use Rattle.std.specs.Prelude.{◌≡◌, ◌==◌, ℕ, suc, ◌+◌, Bool, true, ◌&&◌, Option, Some, None, Result, Ok, nat_lt, if◌then◌else◌, List, [], ◌∷◌, ◌++◌, length, get_or}
+use Rattle.std.specs.Prelude.{◌==◌, ℕ, ◌+◌, Bool, true, ◌&&◌, ◌||◌, Option, Some, None, Result, Ok, nat_lt, if◌then◌else◌, List, [], ◌∷◌, ◌++◌, length, get_or}
 use Rattle.exi_bits.specs.declared.align.Align.{Align}
 use Rattle.exi_bits.specs.declared.fault.Fault.{Fault}
 use Rattle.exi_bits.specs.declared.fault.Kind.TheVariants as kind
@@ -12,7 +12,7 @@ use Rattle.exi_bits.specs.Unsigned.{◌>>=◌, fault_at, field_at, shortest, uns
 use Rattle.exi_bits.specs.Widths.{width_for}
 use Rattle.exi_items.specs.Charges.{Charged, text_charge}
 use Rattle.exi_names.specs.Alphabets.{place_of}
-use Rattle.exi_names.specs.Characters.{is_xml_char}
+use Rattle.exi_names.specs.Characters.{between, is_xml_char}
 
 -- how many bits the place in a set takes, or the escape
 abbrev pub width_in : List ℕ → ℕ
@@ -24,6 +24,10 @@ unfoldable pub code_at : Reader ℕ
 code_at s = do
   code ← unsigned_at s
   if is_xml_char code.0 then Ok code else fault_at kind.BadChar s
+
+-- a character that is one octet: tab, line feed, carriage return, and 20 to 7F
+abbrev pub is_plain : ℕ → Bool
+is_plain c = between 0x9 0xA c || between 0xD 0xD c || between 0x20 0x7F c
 
 -- a character by its place in the set, or by its code point behind the escape
 unfoldable pub in_set_at : List ℕ → Align → Reader ℕ

@@ -3,8 +3,9 @@ ghost use Rattle.exi_bits.specs.Bits.{IsAligned};
 ghost use Rattle.exi_bits.specs.Unsigned.{Reads, ReadsSome, Stops};
 ghost use Rattle.exi_bits.specs.Repeat.{times};
 ghost use Rattle.exi_items.specs.Charges.{Charges, after_text, meter_after};
-ghost use Rattle.exi_text.specs.Literals.{code_at, in_set_at, char_at, chars_at};
+ghost use Rattle.exi_text.specs.Literals.{code_at, in_set_at, chars_at};
 
+use crate::plain::add_plain;
 use crate::set::Set;
 use exi_bits::{Align, BitIn, Fault, Kind, Stop};
 use exi_items::charge_text;
@@ -60,45 +61,51 @@ fn in_set(input: &mut BitIn<'_>, set: &Set<'_>, align: Align) -> Result<char, Fa
     })
 }
 
-/// A character, in a set or not. After an `Err` the place is anything.
-fn character(input: &mut BitIn<'_>, set: Option<&Set<'_>>, align: Align) -> Result<char, Fault>
-    requires aligned { IsAligned align input.old }
-    ensures read { ReadsSome (λ x. x) result input.new (char_at (option_copied set.entry) align input.old) }
-    ensures bytes { input.new.bytes ≡ input.old.bytes }
-    ensures aligned { IsAligned align input.new }
-{
-    match set {
-        None => code(input),
-        Some(set) => in_set(input, set, align),
-    }
-}
-
 /// How many bytes so many characters take at least, as far as the bits that are left can hold them.
-fn room_for(input: &BitIn<'_>, count: u128, set: Option<&Set<'_>>) -> usize {
-    let width = match set {
-        Some(set) if set.width() > 0 => set.width(),
-        _ => 8,
-    };
+fn room_for(input: &BitIn<'_>, count: u128, width: u32) -> usize {
+    let width = width.max(1);
     u128::from(input.left() / u64::from(width)).min(count) as usize
 }
 
-/// So many characters. After an `Err` the place is anything.
+/// So many characters by their code points. After an `Err` the place is anything.
+fn codes(alloc: Global, input: &mut BitIn<'_>, count: u128) -> Result<Txt, Stop>
+    ensures read { Stops (λ t. t) result input.new (times code_at count input.old) }
+    ensures bytes { input.new.bytes ≡ input.old.bytes }
+    ensures phase { input.new.place % 8 ≡ input.old.place % 8 }
+{
+    let mut text = Txt::new(alloc);
+    text.reserve(room_for(input, count, 8))?;
+    let mut left = count;
+    while left > 0 {
+        let run = add_plain(input, &mut text, left)?;
+        if run > 0 {
+            left -= u128::from(run);
+        } else {
+            let c = code(input)?;
+            text.push(c)?;
+            left -= 1;
+        }
+    }
+    Ok(text)
+}
+
+/// So many characters by their places in the set. After an `Err` the place is anything.
 fn characters(
     alloc: Global,
     input: &mut BitIn<'_>,
     count: u128,
-    set: Option<&Set<'_>>,
+    set: &Set<'_>,
     align: Align,
 ) -> Result<Txt, Stop>
     requires aligned { IsAligned align input.old }
-    ensures read { Stops (λ t. t) result input.new (times (char_at (option_copied set.entry) align) count input.old) }
+    ensures read { Stops (λ t. t) result input.new (times (in_set_at set.now align) count input.old) }
     ensures bytes { input.new.bytes ≡ input.old.bytes }
     ensures aligned { IsAligned align input.new }
 {
     let mut text = Txt::new(alloc);
-    text.reserve(room_for(input, count, set))?;
+    text.reserve(room_for(input, count, set.width()))?;
     for _ in 0..count {
-        let c = character(input, set, align)?;
+        let c = in_set(input, set, align)?;
         text.push(c)?;
     }
     Ok(text)
@@ -122,13 +129,13 @@ fn charged_chars(
 {
     charge_text(meter, count, input.at())?;
     let Some(alphabet) = set else {
-        return characters(alloc, input, count, None, align);
+        return codes(alloc, input, count);
     };
     if count == 0 {
         return Ok(Txt::new(alloc));
     }
     let set = Set::of(alloc, alphabet)?;
-    characters(alloc, input, count, Some(&set), align)
+    characters(alloc, input, count, &set, align)
 }
 
 /// Reads the characters of a string whose length is `count`, with a set of characters or without

@@ -1,4 +1,4 @@
-ghost use Rattle.std.specs.Prelude.{◌≡◌, ◌++◌, OnOk, OnErr, IsTrue, option_copied};
+ghost use Rattle.std.specs.Prelude.{◌≡◌, ◌++◌, None, OnOk, OnErr, IsTrue, option_copied};
 ghost use Rattle.std.specs.Str.{chars};
 ghost use Rattle.exi_bits.specs.Written.{IsWholeBytes};
 ghost use Rattle.exi_items.specs.Fronts.{HoldsFront};
@@ -49,6 +49,19 @@ fn put_chars(
     Ok(())
 }
 
+/// Adds the code points one after another: those of a text of ASCII alone are its octets.
+fn put_codes(out: &mut BitOut, text: &str, align: Align) -> Result<(), AllocError>
+    requires aligned { IsWholeBytes align out.old }
+    ensures ok { OnOk result (out.new ≡ out.old ++ chars_bits None align (chars text.now)) }
+    ensures err { OnErr result (HoldsFront out.old (chars_bits None align (chars text.now)) out.new) }
+    ensures aligned { IsWholeBytes align out.new }
+{
+    if text.is_ascii() {
+        return out.octets(text.as_bytes());
+    }
+    put_chars(out, text, None, align)
+}
+
 /// Adds the characters of a text without its length, with a set of characters or without
 /// (EXI 1.0, sections 7.1.10 and 7.1.10.1). A character of the set is written by its place, each other
 /// one by its code point. Each has to be an XML character, and under [`Align::Bytes`] there have to be
@@ -71,7 +84,7 @@ pub fn write_chars(
     ensures aligned { IsWholeBytes align out.new }
 {
     let Some(alphabet) = set else {
-        return put_chars(out, text.as_str(), None, align);
+        return put_codes(out, text.as_str(), align);
     };
     if text.as_str().is_empty() {
         return Ok(());

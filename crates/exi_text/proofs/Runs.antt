@@ -1,0 +1,229 @@
+-- Characters that are one octet each: read one by one, and a word at a time.
+use Rattle.std.proofs.Common.{◌≡◌, ℕ, zero, suc, ◌+◌, ◌*◌, ◌-◌, ◌^◌, ◌<◌, ◌≤◌, inl, inr, Bool, true, false, not, cond, ltb, ◌||◌, List, [], ◌∷◌, ◌++◌, length, get_or, take, drop, Option, Some, None, Result, Ok, Err, add-zero, refl, sym, ap, ◌∙◌, append_assoc, subst, arith}
+use Rattle.std.specs.Int.{w64, to_be_bytes}
+use Rattle.std.specs.List.{position, position_or_len}
+use Rattle.std.specs.Str.{IsAscii, chars}
+use Rattle.std.proofs.lemmas.Str.{chars-IsAscii}
+use Rattle.std.proofs.lemmas.Bool.{and_parts, cases_lt, leb-true, le-leb, le-ltb, lt-ltb, ltb-false}
+use Rattle.std.proofs.lemmas.List.{append-nil, drop-drop, get_or-take, get_or_past, take_at}
+use Rattle.std.proofs.lemmas.List.Sums.{fails_before_first, prefix_len-le-length}
+use Rattle.exi_bits.specs.declared.align.Align.{Align}
+use Rattle.exi_bits.specs.declared.align.Align.TheVariants as align
+use Rattle.exi_bits.specs.declared.fault.Fault.{Fault}
+use Rattle.exi_bits.specs.Bits.{Spot, at_bit, bits, left, moved, number_at, octets_of, rest, value_of}
+use Rattle.exi_bits.specs.Repeat.{Reader, times, with_front}
+use Rattle.exi_bits.specs.Unsigned.{◌>>=◌, groups, groups_at, shortest, narrow_groups_at, unsigned_at}
+use Rattle.exi_bits.proofs.BitLaws.{one_byte}
+use Rattle.exi_bits.proofs.OctetLaws.{octets_add, word_octets}
+use Rattle.exi_bits.proofs.Repeats.{times_goes_on, times_fails, times_done}
+use Rattle.exi_bits.proofs.Spelled.{guard_some, length-rest}
+use Rattle.exi_items.proofs.Items.{bind_ok, given, ok_is}
+use Rattle.exi_names.specs.Characters.{between, is_xml_char}
+use Rattle.exi_text.specs.Literals.{chars_bits, code_at, is_plain}
+use Rattle.exi_text.proofs.Sets.{at_most, either}
+
+-- ---- what is plain
+plain_last : (c : ℕ) → is_plain c ≡ true → c < 128
+plain_last c h = either _ _ (c < 128) (either _ _ (c < 128)
+    (λ e. let k = at_most 0x9 0xA c e in omega arith)
+    (λ e. let k = at_most 0xD 0xD c e in omega arith))
+    (λ e. let k = at_most 0x20 0x7F c e in omega arith) h
+
+at_least : (least most c : ℕ) → between least most c ≡ true → least ≤ c
+at_least least most c h = leb-true least c (and_parts _ _ h).0
+
+or_right : (x : Bool) → (x || true) ≡ true
+or_right true = refl
+or_right false = refl
+
+plain_xml : (c : ℕ) → is_plain c ≡ true → is_xml_char c ≡ true
+unfolding is_xml_char
+plain_xml c h = either (between 0x9 0xA c || between 0xD 0xD c) (between 0x20 0x7F c) (is_xml_char c ≡ true)
+    (λ e. rw e refl)
+    (λ e. let low = at_least 0x20 0x7F c e in let high = at_most 0x20 0x7F c e in
+    rw (le-leb 0x20 c low, le-leb c 0xD7FF (omega (arith, high)), or_right (between 0x9 0xA c || between 0xD 0xD c)) refl) h
+
+-- ---- one of them is read
+plain_at : (s : Spot) → 8 ≤ left s → is_plain (value_of (take 8 (rest s))) ≡ true → code_at s ≡ Ok (value_of (take 8 (rest s)), moved s 8)
+unfolding code_at unsigned_at narrow_groups_at groups_at number_at
+plain_at s long plain =
+    let v : ℕ = value_of (take 8 (rest s)) in
+    let small : v < 128 = plain_last v plain in
+    rw (le-ltb (left s) 8 long, lt-ltb (value_of (take 8 (rest s))) 128 small, lt-ltb (value_of (take 8 (rest s))) (2 ^ 128) (omega (arith, small)), plain_xml v plain) refl
+
+-- each of the octets is plain
+AllPlain : List ℕ → Type 0
+AllPlain os = (i : ℕ) → i < length os → is_plain (get_or os i 0) ≡ true
+
+pub length-octets_of : (n : ℕ) (text : List Bool) → length (octets_of n text) ≡ n
+unfolding octets_of
+length-octets_of zero text = refl
+length-octets_of (suc n) text = ap suc (length-octets_of n (drop 8 text))
+
+pub plain_read : (n : ℕ) (s : Spot) → 8 * n ≤ left s → ((i : ℕ) → i < n → is_plain (get_or (octets_of n (rest s)) i 0) ≡ true) → times code_at n s ≡ Ok (octets_of n (rest s), moved s (8 * n))
+unfolding times octets_of
+plain_read zero s long plain = ap (λ (p : ℕ). Ok ([], at_bit s p)) (sym (add-zero s.place))
+plain_read (suc n) s long plain =
+    let behind : rest (moved s 8) ≡ drop 8 (rest s) = sym (drop-drop 8 s.place (bits s.bytes)) in
+    let again : times code_at n (moved s 8) ≡ Ok (octets_of n (rest (moved s 8)), moved (moved s 8) (8 * n)) = plain_read n (moved s 8) (omega arith) (λ i lt. rw behind (plain (suc i) (omega arith))) in
+    let e : s.place + 8 + 8 * n ≡ s.place + 8 * suc n = omega arith in
+    rw (plain_at s (omega arith) (plain 0 (omega arith)), again, behind) (ap (λ (p : ℕ). Ok (value_of (take 8 (rest s)) ∷ octets_of n (drop 8 (rest s)), at_bit s p)) e)
+
+-- the first octets of a word
+pub first_octets : (n : ℕ) (text : List Bool) → n ≤ 8 → take n (octets_of 8 text) ≡ octets_of n text
+first_octets n text le =
+    let e : n + (8 - n) ≡ 8 = omega arith in
+    ap (λ (k : ℕ). take n (octets_of k text)) (sym e) ∙ ap (λ (t : List ℕ). take n t) (octets_add n (8 - n) text) ∙ take_at (octets_of n text) (octets_of (8 - n) (drop (8 * n) text)) n (length-octets_of n text)
+
+-- ---- a word
+word_taken : (s : Spot) (v : ℕ) (t : Spot) → number_at 64 align.Bits s ≡ Some (v, t) → (64 ≤ left s) × (v ≡ value_of (take 64 (rest s)))
+unfolding number_at
+word_taken s v t e =
+    let p = guard_some (ltb (left s) 64) (value_of (take 64 (rest s)), moved s 64) (v, t) e in
+    (ltb-false (left s) 64 p.0, sym (ap (λ (w : ℕ × Spot). w.0) p.1))
+
+-- the first octets of a word, where each is plain, are as many characters
+pub record Begins (n : ℕ) (os : List ℕ) (s : Spot) : Type 0 where
+  pub text : take n os ≡ octets_of n (rest s)
+  pub ascii : IsAscii (take n os)
+  pub read : times code_at n s ≡ Ok (octets_of n (rest s), moved s (8 * n))
+  pub within : s.place + 8 * n ≤ 8 * length s.bytes
+  pub long : n ≤ length os
+
+all_ascii : (n : ℕ) (os : List ℕ) → length os ≡ n → ((i : ℕ) → i < n → is_plain (get_or os i 0) ≡ true) → IsAscii os
+all_ascii n os len plain i = elim (cases_lt i n) [
+  | inl lt ↦ plain_last (get_or os i 0) (plain i lt)
+  | inr ge ↦ let e : get_or os i 0 ≡ 0 = get_or_past os i 0 (omega arith) in rw e (omega arith)
+]
+
+pub word_begins : (n v : ℕ) (os : List ℕ) (s t : Spot) → n ≤ 8 → number_at 64 align.Bits s ≡ Some (v, t) → os ≡ to_be_bytes w64 v → ((i : ℕ) → i < n → is_plain (get_or os i 0) ≡ true) → Begins n os s
+word_begins n v os s t le e spelled plain =
+    let w = word_taken s v t e in
+    let all : os ≡ octets_of 8 (rest s) = spelled ∙ ap (λ (k : ℕ). to_be_bytes w64 k) w.1 ∙ word_octets (rest s) (omega (arith, w.0, length-rest s)) in
+    let first : take n os ≡ octets_of n (rest s) = ap (λ (os : List ℕ). take n os) all ∙ first_octets n (rest s) le in
+    let each : (i : ℕ) → i < n → is_plain (get_or (octets_of n (rest s)) i 0) ≡ true = λ i lt. ap (λ (os : List ℕ). is_plain (get_or os i 0)) (sym first) ∙ ap is_plain (get_or-take n os i 0 lt) ∙ plain i lt in
+    let fits : 8 * n ≤ left s = omega (arith, w.0) in
+    record {
+      text = first;
+      ascii = subst (λ (os : List ℕ). IsAscii os) (sym first) (all_ascii n (octets_of n (rest s)) (length-octets_of n (rest s)) each);
+      read = plain_read n s fits each;
+      within = omega (arith, w.0);
+      long = let l : length os ≡ 8 = ap length all ∙ length-octets_of 8 (rest s) in omega (arith, l);
+    }
+
+-- the octets before the first that is not plain
+not_false : (b : Bool) → not b ≡ false → b ≡ true
+not_false true e = refl
+not_false false e = absurd cc
+
+some_place : ℕ → Option ℕ
+some_place i = Some i
+
+found_is : (b : Bool) (n i : ℕ) → some_place i ≡ cond b (some_place n) None → i ≡ n
+unfolding some_place
+found_is true n i e = cc
+found_is false n i e = absurd cc
+
+none_is : (b : Bool) (n : ℕ) → None ≡ cond b (some_place n) None → b ≡ false
+unfolding some_place
+none_is true n e = absurd cc
+none_is false n e = refl
+
+plain_before : (os : List ℕ) (i : ℕ) → i < position_or_len (λ octet. not (is_plain octet)) os → is_plain (get_or os i 0) ≡ true
+plain_before os i lt = not_false (is_plain (get_or os i 0)) (fails_before_first (λ octet. not (is_plain octet)) os i 0 lt)
+
+pub found_plain : (os : List ℕ) (n : ℕ) → Some n ≡ position (λ octet. not (is_plain octet)) os → (n ≤ length os) × ((i : ℕ) → i < n → is_plain (get_or os i 0) ≡ true)
+unfolding some_place
+found_plain os n e =
+    let k : n ≡ position_or_len (λ octet. not (is_plain octet)) os = found_is _ _ n e in
+    (omega (arith, k, prefix_len-le-length (λ x. not (not (is_plain x))) os), λ i lt. plain_before os i (omega (arith, k, lt)))
+
+pub none_plain : (os : List ℕ) → None ≡ position (λ octet. not (is_plain octet)) os → (i : ℕ) → i < length os → is_plain (get_or os i 0) ≡ true
+unfolding some_place
+none_plain os e i lt =
+    let k = ltb-false (position_or_len (λ octet. not (is_plain octet)) os) (length os) (none_is (ltb (position_or_len (λ octet. not (is_plain octet)) os) (length os)) (position_or_len (λ octet. not (is_plain octet)) os) e) in
+    plain_before os i (omega (arith, k, lt))
+
+pub none_added : (os : List ℕ) (s : Spot) → os ≡ os ++ octets_of 0 (rest s)
+unfolding octets_of
+none_added os s = sym (append-nil os)
+
+-- what was read, and the place behind it
+pub at_run : (n : ℕ) (s t : Spot) (behind : ℕ) → times code_at n s ≡ Ok (octets_of n (rest s), moved s (8 * n)) → n ≤ 8 → behind ≡ s.place + 64 → t ≡ at_bit s (behind - (8 - n) * 8) → times code_at n s ≡ Ok (octets_of n (rest s), t)
+at_run n s t behind read le p e =
+    let q : s.place + 8 * n ≡ behind - (8 - n) * 8 = omega arith in
+    read ∙ ap (λ (k : ℕ). Ok (octets_of n (rest s), at_bit s k)) q ∙ ap (λ (w : Spot). Ok (octets_of n (rest s), w)) (sym e)
+
+pub none_read : (s : Spot) → times code_at 0 s ≡ Ok (octets_of 0 (rest s), s)
+unfolding octets_of times
+none_read s = refl
+
+-- ---- runs of characters
+cons_front : {X : Type 0} (x : X) (xs : List X) (r : Result (List X × Spot) Fault) → (with_front xs r >>= λ others. Ok (x ∷ others.0, others.1)) ≡ with_front (x ∷ xs) r
+cons_front x xs (Ok more) = refl
+cons_front x xs (Err f) = refl
+
+run_on : {X : Type 0} (read : Reader X) (n m : ℕ) (s t : Spot) (xs : List X) → times read n s ≡ given (xs, t) → times read (n + m) s ≡ with_front xs (times read m t)
+unfolding times
+run_on {X} read zero m s t xs h =
+    let e = ok_is {X = List X} ([], s) (xs, t) h in
+    let z : 0 + m ≡ m = omega arith in
+    rw z (subst (λ (p : List X × Spot). times read m s ≡ with_front p.0 (times read m p.1)) e (nothing_before (times read m s)))
+  where
+    nothing_before : {X : Type 0} (r : Result (List X × Spot) Fault) → r ≡ with_front [] r
+    nothing_before (Ok more) = refl
+    nothing_before (Err f) = refl
+run_on {X} read (suc n) m s t xs h =
+    let p = bind_ok (read s) (λ (first : X × Spot). times read n first.1 >>= λ others. given {X = List X} (first.0 ∷ others.0, others.1)) (xs, t) h in
+    let q = bind_ok (times read n p.0.1) (λ (others : List X × Spot). given {X = List X} (p.0.0 ∷ others.0, others.1)) (xs, t) p.2 in
+    let e = ok_is {X = List X} (p.0.0 ∷ q.0.0, q.0.1) (xs, t) q.2 in
+    let k : suc n + m ≡ suc (n + m) = omega arith in
+    subst (λ (w : List X × Spot). times read (suc n + m) s ≡ with_front w.0 (times read m w.1)) e (one_more p.0 q.0 k p.1 (run_on read n m p.0.1 q.0.1 q.0.0 q.1))
+  where
+    one_more : (p : X × Spot) (q : List X × Spot) → suc n + m ≡ suc (n + m) → read s ≡ given p → times read (n + m) p.1 ≡ with_front q.0 (times read m q.1) → times read (suc n + m) s ≡ with_front (p.0 ∷ q.0) (times read m q.1)
+    one_more p q k one again = rw (k, one, again) (cons_front p.0 q.0 (times read m q.1))
+
+two_fronts : {X : Type 0} (front xs : List X) (r : Result (List X × Spot) Fault) → with_front front (with_front xs r) ≡ with_front (front ++ xs) r
+two_fronts {X} front xs (Ok more) = ap (λ (ys : List X). Ok (ys, more.1)) (simp append_assoc)
+two_fronts front xs (Err f) = refl
+
+pub run_goes_on : {X : Type 0} (read : Reader X) (front xs : List X) (left n : ℕ) (s t : Spot) (total : Result (List X × Spot) Fault) → n ≤ left → times read n s ≡ given (xs, t)
+    → with_front front (times read left s) ≡ total → with_front (front ++ xs) (times read (left - n) t) ≡ total
+run_goes_on read front xs left n s t total le h so_far =
+    let k : n + (left - n) ≡ left = omega arith in
+    sym (two_fronts front xs (times read (left - n) t)) ∙ ap (λ r. with_front front r) (sym (run_on read n (left - n) s t xs h) ∙ ap (λ (m : ℕ). times read m s) k) ∙ so_far
+
+-- one character more, a fault, and the end
+same_left : {X : Type 0} (read : Reader X) (front : List X) (left : ℕ) (s : Spot) (total : Result (List X × Spot) Fault) → with_front front (times read left s) ≡ total → with_front front (times read (left - 0) s) ≡ total
+same_left read front left s total so_far = let e : left - 0 ≡ left = omega arith in ap (λ (n : ℕ). with_front front (times read n s)) e ∙ so_far
+
+pub one_goes_on : {X : Type 0} (read : Reader X) (front : List X) (left : ℕ) (s t : Spot) (x : X) (total : Result (List X × Spot) Fault) → 0 < left → read s ≡ Ok (x, t)
+    → with_front front (times read left s) ≡ total → with_front (front ++ x ∷ []) (times read (left - 1) t) ≡ total
+one_goes_on read front left s t x total lt h so_far = times_goes_on read front left 0 s t x total lt h (same_left read front left s total so_far)
+
+pub one_fails : {X : Type 0} (read : Reader X) (front : List X) (left : ℕ) (s : Spot) (f : Fault) (total : Result (List X × Spot) Fault) → 0 < left → read s ≡ Err f → with_front front (times read left s) ≡ total → total ≡ Err f
+one_fails read front left s f total lt h so_far = times_fails read front left 0 s f total lt h (same_left read front left s total so_far)
+
+pub run_ends : {X : Type 0} (read : Reader X) (front : List X) (left : ℕ) (s : Spot) (total : Result (List X × Spot) Fault) → left ≤ 0 → with_front front (times read left s) ≡ total → total ≡ Ok (front, s)
+run_ends read front left s total le so_far = times_done read front left 0 s total le (same_left read front left s total so_far)
+
+-- a run of none
+pub run_stands : {X : Type 0} (read : Reader X) (front text xs : List X) (left n : ℕ) (s t : Spot) (total : Result (List X × Spot) Fault) → text ≡ front ++ xs → n ≤ 0 → times read n s ≡ Ok (xs, t)
+    → with_front front (times read left s) ≡ total → with_front text (times read left t) ≡ total
+run_stands read front text xs left n s t total e none h so_far =
+    let k : left - n ≡ left = omega arith in
+    ap (λ (m : ℕ). with_front text (times read m t)) (sym k) ∙ ap (λ f. with_front f (times read (left - n) t)) e ∙ run_goes_on read front xs left n s t total (omega arith) h so_far
+
+-- ---- what is written
+ascii_octet : (c : ℕ) → c < 128 → shortest c ≡ c ∷ []
+unfolding groups
+ascii_octet c small = rw (lt-ltb c 128 small) refl
+
+-- characters of ASCII are written as their octets
+pub ascii_bits : (a : Align) (os : List ℕ) → IsAscii os → chars_bits None a os ≡ bits os
+unfolding chars_bits bits
+ascii_bits a [] ascii = refl
+ascii_bits a (c ∷ cs) ascii = rw (ascii_octet c (ascii 0), ascii_bits a cs (λ i. ascii (suc i))) (ap (λ (t : List Bool). t ++ bits cs) (one_byte c))
+
+pub text_bits : (a : Align) (os : List ℕ) → IsAscii os → chars_bits None a (chars os) ≡ bits os
+text_bits a os ascii = ap (λ (cs : List ℕ). chars_bits None a cs) (chars-IsAscii os ascii) ∙ ascii_bits a os ascii

@@ -1,0 +1,55 @@
+ghost use Rattle.std.specs.Prelude.{◌≡◌, ℕ, ◌++◌, ◌%◌, ◌<◌, ◌≤◌, IfOk, true, not, length, get_or, position};
+ghost use Rattle.exi_bits.specs.Bits.{octets_of, rest};
+ghost use Rattle.exi_bits.specs.Repeat.{times};
+ghost use Rattle.exi_text.specs.Literals.{code_at, is_plain};
+
+use exi_bits::{Align, BitIn};
+use exi_names::Txt;
+use std::alloc::AllocError;
+
+/// Whether an octet is a whole code point, of an XML character: ASCII but most of its controls.
+fn is_plain_octet(octet: u8) -> bool
+    ensures { result ≡ is_plain octet }
+{
+    matches!(octet, 0x9..=0xA | 0xD | 0x20..=0x7F)
+}
+
+/// The place of the first octet that is not plain.
+fn other_place(octets: &[u8]) -> Option<usize>
+    ensures { result ≡ position (λ octet. not (is_plain octet)) octets.now }
+{
+    octets.iter().position(|octet| !is_plain_octet(*octet))
+}
+
+/// How many plain octets there are before any other, at most so many.
+fn plain_front(octets: &[u8], most: usize) -> usize
+    ensures few { result ≤ most }
+    ensures within { result ≤ length octets.now }
+    ensures plain { (i : ℕ) → i < result → is_plain (get_or octets.now i 0) ≡ true }
+{
+    match other_place(octets) {
+        Some(place) => place.min(most),
+        None => octets.len().min(most),
+    }
+}
+
+/// Adds plain characters that stand at the place, and answers how many: at most eight, which a word holds,
+/// and at most so many. None where the word does not begin with one, or fewer bits than a word has are left.
+/// After an `Err` the place is anything.
+pub fn add_plain(input: &mut BitIn<'_>, text: &mut Txt, most: u128) -> Result<u64, AllocError>
+    ensures few { IfOk result (λ n. n ≤ most) }
+    ensures text { IfOk result (λ n. text.new ≡ text.old ++ octets_of n (rest input.old)) }
+    ensures read { IfOk result (λ n. times code_at n input.old ≡ Ok (octets_of n (rest input.old), input.new)) }
+    ensures bytes { input.new.bytes ≡ input.old.bytes }
+    ensures phase { input.new.place % 8 ≡ input.old.place % 8 }
+{
+    let Some(word) = input.take(64, Align::Bits) else {
+        return Ok(0);
+    };
+    let octets = word.to_be_bytes();
+    let run = plain_front(&octets, most.min(8) as usize);
+    let behind = input.at();
+    input.go_to_bit(behind - (8 - run as u64) * 8);
+    text.push_ascii(&octets[..run])?;
+    Ok(run as u64)
+}
