@@ -1,10 +1,12 @@
 -- Which productions of a state can write an event: those of a class and of a name or URI by its least places, in the
 -- order in which they are tried, with fewer parts first and then by their codes (EXI 1.0, section 6.2).
-use Rattle.std.specs.Prelude.{◌≡◌, ℕ, suc, ◌==◌, ◌&&◌, Bool, Option, Some, None, List, [], ◌∷◌, ◌++◌, length, get_or, if◌then◌else◌}
-use Rattle.exi_names.specs.NameMaps.{kept_for, same_name}
+use Rattle.std.specs.Prelude.{◌≡◌, ℕ, suc, ◌==◌, ◌&&◌, Bool, Option, Some, None, List, [], ◌∷◌, ◌++◌, length, if◌then◌else◌}
+use Rattle.std.specs.Map.{lookup}
+use Rattle.exi_names.specs.NameMaps.{same_name}
 use Rattle.exi_names.specs.declared.names.NameId.{NameId}
 use Rattle.exi_gram.specs.declared.class.Class.{Class}
 use Rattle.exi_gram.specs.declared.class.Class.TheVariants as class
+use Rattle.exi_gram.specs.declared.index.IndexKey.{IndexKey}
 use Rattle.exi_gram.specs.declared.named.Named.{Named}
 use Rattle.exi_gram.specs.declared.named.Named.TheVariants as named
 use Rattle.exi_gram.specs.Codes.{Coded, Productions, coded}
@@ -68,7 +70,7 @@ sought_by (named.Uri uri) = record { uri = uri; local = 0 }
 sought_by (named.Name name) = name
 
 abbrev pub is_sought : Class → NameId → Entry → Bool
-is_sought class name e = same_class class (class_of e.rule.on) && same_name name (sought_by e.named)
+is_sought class name e = same_class (class_of e.rule.on) class && same_name (sought_by e.named) name
 
 -- the places, from one on, of those that have so many parts
 abbrev pub sought_from : ℕ → Class → NameId → ℕ → List (Coded Entry) → List ℕ
@@ -79,25 +81,34 @@ sought_from parts class name place (c ∷ cs) = if length c.parts == parts && is
 abbrev pub candidates : Class → NameId → List (Coded Entry) → List ℕ
 candidates class name cs = sought_from 1 class name 0 cs ++ (sought_from 2 class name 0 cs ++ sought_from 3 class name 0 cs)
 
--- ---- how they are kept: for each class a map from names to places
+-- ---- how they are kept: the places of each class and name by a key
+abbrev pub Listed : Type 0
+Listed = List (IndexKey × List ℕ)
+
+abbrev pub index_key : Class → NameId → IndexKey
+index_key class name = record { class = class_number class; uri = name.uri; local = name.local }
+
+abbrev pub same_key : IndexKey → IndexKey → Bool
+same_key a b = (a.class == b.class) && ((a.uri == b.uri) && (a.local == b.local))
+
 abbrev pub listed_or : Option (List ℕ) → List ℕ
 listed_or None = []
 listed_or (Some places) = places
 
-abbrev pub found : List (List (List (Option (List ℕ)))) → Class → NameId → List ℕ
-found maps class name = listed_or (kept_for (get_or maps (class_number class) []) name)
+abbrev pub found : Listed → Class → NameId → List ℕ
+found kept class name = listed_or (lookup (same_key (index_key class name)) kept)
 
 -- an index finds the candidates of a state, and those of a grammar and of all grammars those of each of its states
-abbrev pub Finds : List (List (List (Option (List ℕ)))) → Productions Entry → Type 0
-Finds maps p = (class : Class) (name : NameId) → found maps class name ≡ candidates class name (coded p)
+abbrev pub Finds : Listed → Productions Entry → Type 0
+Finds kept p = (class : Class) (name : NameId) → found kept class name ≡ candidates class name (coded p)
 
-abbrev pub FindInStates : List (List (List (List (Option (List ℕ))))) → List (Productions Entry) → Type 0
+abbrev pub FindInStates : List Listed → List (Productions Entry) → Type 0
 FindInStates [] [] = Unit {0}
 FindInStates [] (p ∷ ps) = ⊥
-FindInStates (maps ∷ others) [] = ⊥
-FindInStates (maps ∷ others) (p ∷ ps) = Finds maps p × FindInStates others ps
+FindInStates (kept ∷ others) [] = ⊥
+FindInStates (kept ∷ others) (p ∷ ps) = Finds kept p × FindInStates others ps
 
-abbrev pub FindInAll : List (List (List (List (List (Option (List ℕ)))))) → List (List (Productions Entry)) → Type 0
+abbrev pub FindInAll : List (List Listed) → List (List (Productions Entry)) → Type 0
 FindInAll [] [] = Unit {0}
 FindInAll [] (ps ∷ pss) = ⊥
 FindInAll (indexes ∷ others) [] = ⊥

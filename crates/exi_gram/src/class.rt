@@ -1,4 +1,4 @@
-ghost use Rattle.std.specs.Prelude.{◌≡◌, ◌<◌};
+ghost use Rattle.std.specs.Prelude.{◌≡◌};
 ghost use Rattle.exi_gram.specs.Candidates.{class_number, class_of};
 ghost use Rattle.exi_gram.specs.Terminals.{symbol};
 
@@ -51,14 +51,10 @@ pub enum Class {
     Dt,
 }
 
-/// How many classes there are.
-pub const CLASSES: usize = 21;
-
 impl Class {
     /// Its number, from 0.
     pub fn number(self) -> usize
         ensures number { result ≡ class_number self }
-        ensures below { result < 21 }
     {
         match self {
             Class::Sd => 0,

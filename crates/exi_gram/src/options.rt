@@ -1,5 +1,5 @@
 ghost use Rattle.std.specs.Prelude.{◌≡◌, IfOk};
-ghost use Rattle.exi_gram.specs.Switches.{align_of, conflicts};
+ghost use Rattle.exi_gram.specs.Switches.{align_of, conflicts, default_options};
 ghost use Rattle.exi_gram.specs.Terminals.{is_left, symbol};
 
 use crate::terminal::Terminal;
@@ -101,6 +101,20 @@ impl SchemaWord {
 }
 
 impl Options {
+    /// What holds where the header tells nothing else (EXI 1.0, section 5.4): bit-packed, nothing switched on,
+    /// no word on the schema, blocks of 1,000,000 and no bounds on the values that the string tables take.
+    pub fn defaults() -> Options
+        ensures { result ≡ default_options }
+    {
+        Options {
+            flags: OptionFlags::empty(),
+            schema: SchemaWord::Absent,
+            block: 1_000_000,
+            most: None,
+            capacity: None,
+        }
+    }
+
     /// Others that are equal to these.
     ///
     /// # Errors

