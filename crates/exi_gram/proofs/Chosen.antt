@@ -1,18 +1,18 @@
 -- The codes of a state are read part by part as a tree: by their productions and by the codes alone.
-use Rattle.std.proofs.Common.{◌≡◌, ◌≢◌, ℕ, zero, suc, ◌+◌, ◌<◌, ◌≤◌, max, Bool, true, false, cond, eqb, List, [], ◌∷◌, ◌++◌, length, map, slice_get, Option, Some, None, Result, Ok, Err, ◌⊎◌, inl, inr, refl, sym, ap, ◌∙◌, subst, All, eq-eqb, ne_eqb, arith}
-use Rattle.std.proofs.lemmas.List.{append-nil, map-append}
+use Rattle.std.proofs.Common.{◌≡◌, ◌≢◌, ℕ, zero, suc, ◌+◌, ◌<◌, ◌≤◌, List, [], ◌∷◌, ◌++◌, length, map, slice_get, Option, Some, None, Result, Ok, Err, refl, sym, ap, ◌∙◌, All, eq-eqb, ne_eqb, arith}
+use Rattle.std.proofs.lemmas.List.{append-nil}
 use Rattle.std.proofs.lemmas.Option.{slice_get_within}
 use Rattle.exi_bits.specs.declared.align.Align.{Align}
 use Rattle.exi_bits.specs.declared.fault.Fault.{Fault}
 use Rattle.exi_bits.specs.Bits.{Spot}
 use Rattle.exi_bits.specs.Unsigned.{◌>>=◌}
 use Rattle.exi_gram.specs.Codes.{Coded, HasMembers, IsClosedUp, Productions, Second, code_at, coded, coded_from, coded_second, coded_seconds, first_told, first_values, group, member_at, part_at, second_at, second_told, single, told, values_of}
-use Rattle.exi_gram.specs.CodeTrees.{behind, chosen_at, counted, ended, parts_in, place_read, told_by, told_or}
+use Rattle.exi_gram.specs.CodeTrees.{behind, chosen_at, counted, ended, parts_in, place_read, told_by}
 use Rattle.exi_gram.specs.Laws.{codes, numbered, placed}
 use Rattle.exi_gram.proofs.CodeLaws.{get_none, longer_few, placed_closed, placed_numbered, second_count, third_count}
 use Rattle.exi_gram.proofs.CodeLists.{first_count, some_is}
 use Rattle.exi_gram.proofs.PartLaws.{part_within, within_get}
-use Rattle.exi_gram.proofs.Trees.{behind-append, ended-append, later}
+use Rattle.exi_gram.proofs.Trees.{behind-append, ended-append}
 
 -- ---- what is left of codes
 -- of the codes that count from a number those before it, and those that go on with another part

@@ -1,5 +1,5 @@
 -- Codes of which none is the front of another, and that leave no gaps, are a tree.
-use Rattle.std.proofs.Common.{◌≡◌, ◌≢◌, ℕ, zero, suc, ◌+◌, ◌<◌, ◌≤◌, Bool, true, false, cond, eqb, List, [], ◌∷◌, ◌++◌, length, map, get_or, Option, Some, None, ◌⊎◌, inl, inr, refl, sym, ap, ◌∙◌, subst, All, eq-eqb, eqb-true, arith}
+use Rattle.std.proofs.Common.{◌≡◌, ◌≢◌, ℕ, zero, suc, ◌<◌, ◌≤◌, true, false, eqb, List, [], ◌∷◌, length, Option, Some, None, ◌⊎◌, inl, inr, refl, sym, ap, ◌∙◌, subst, All, eq-eqb, eqb-true, arith}
 use Rattle.std.proofs.lemmas.Bool.{cases_Bool}
 use Rattle.exi_gram.specs.declared.code.Code.{Code}
 use Rattle.exi_gram.specs.declared.code.Code.TheVariants as code

@@ -1,8 +1,7 @@
 -- The codes of a state are distinct, none is the front of another, and they leave no gaps.
-use Rattle.std.proofs.Common.{◌≡◌, ◌≢◌, ℕ, zero, suc, ◌+◌, ◌<◌, ◌≤◌, max, Bool, true, false, cond, eqb, List, [], ◌∷◌, ◌++◌, length, map, slice_get, Option, Some, None, ◌⊎◌, inl, inr, refl, sym, ap, ◌∙◌, subst, All, eq-eqb, eqb-true, ne_eqb, arith}
-use Rattle.std.proofs.lemmas.Bool.{cases_Bool, eqb-false}
-use Rattle.std.proofs.lemmas.Option.{slice_get_within}
-use Rattle.exi_gram.specs.Codes.{Coded, HasMembers, IsClosedUp, Productions, Second, coded, coded_from, coded_second, coded_seconds, first_values, going_on, group, longer, single, values_of}
+use Rattle.std.proofs.Common.{◌≡◌, ◌≢◌, ℕ, zero, suc, ◌+◌, ◌<◌, ◌≤◌, true, false, eqb, List, [], ◌∷◌, length, slice_get, Option, Some, None, ◌⊎◌, inl, inr, refl, sym, ap, ◌∙◌, subst, All, eq-eqb, eqb-true, ne_eqb, arith}
+use Rattle.std.proofs.lemmas.Bool.{cases_Bool}
+use Rattle.exi_gram.specs.Codes.{HasMembers, IsClosedUp, Productions, Second, coded, coded_from, coded_seconds, first_values, going_on, group, longer, single, values_of}
 use Rattle.exi_gram.specs.CodeTrees.{AllApart, IsCodeSet, behind, go_apart, going_along, parts_in}
 use Rattle.exi_gram.specs.Laws.{codes, is_told}
 use Rattle.exi_gram.proofs.Chosen.{from_here, left_by, seconds_here, state_first, state_longer}

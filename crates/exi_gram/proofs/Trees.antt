@@ -1,11 +1,11 @@
 -- Codes as a tree: what is left of them behind some parts, and how many values the next part has.
-use Rattle.std.proofs.Common.{◌≡◌, ◌≢◌, ℕ, zero, suc, ◌+◌, ◌-◌, ◌^◌, ◌<◌, ◌≤◌, max, Bool, true, false, cond, eqb, List, [], ◌∷◌, ◌++◌, length, map, take, drop, set, get_or, Option, Some, None, Result, Ok, Err, ◌⊎◌, inl, inr, refl, sym, ap, ◌∙◌, subst, append_assoc, All, eq-eqb, ne_eqb, eqb-true, arith}
+use Rattle.std.proofs.Common.{◌≡◌, ◌≢◌, ℕ, zero, suc, ◌+◌, ◌-◌, ◌^◌, ◌<◌, ◌≤◌, max, Bool, true, false, eqb, List, [], ◌∷◌, ◌++◌, length, take, drop, set, get_or, Option, Some, None, ◌⊎◌, inl, inr, refl, sym, ap, ◌∙◌, subst, eqb-true, arith}
 use Rattle.std.proofs.lemmas.Bool.{cases_Bool, eqb-false}
 use Rattle.std.proofs.Math.Nat.{zero-max}
-use Rattle.std.proofs.lemmas.List.{append-nil, get_or-set_other, get_or-set_same, length-append, length-map, length-set, length-take, map-append, take-append-drop, take_more}
+use Rattle.std.proofs.lemmas.List.{get_or-set_other, get_or-set_same, length-map, length-set, length-take, map-append, take-append-drop, take_more}
 use Rattle.exi_gram.specs.declared.code.Code.{Code}
 use Rattle.exi_gram.specs.declared.front.Front.{Front}
-use Rattle.exi_gram.specs.Codes.{Coded, going_on, values_of}
+use Rattle.exi_gram.specs.Codes.{Coded, values_of}
 use Rattle.exi_gram.specs.CodeTrees.{along, behind, counted, ended, left_with, parts_in, told_by}
 use Rattle.exi_gram.specs.Cells.{Branches, IsTree, Kept, RowStands, CellStands, TellsEnds, all_parts, behind_front, cell_at, front_parts, leaf_of, next_part, parts_left}
 use Rattle.exi_gram.specs.declared.cell.Branch.{Branch}

@@ -1,15 +1,13 @@
 -- A code is read cell by cell.
-use Rattle.std.proofs.Common.{◌≡◌, ℕ, zero, suc, ◌+◌, ◌-◌, ◌<◌, ◌≤◌, Bool, true, false, eqb, List, [], ◌∷◌, ◌++◌, length, Option, Some, None, Result, Ok, Err, refl, sym, ap, ◌∙◌, inl, inr, subst, All, arith}
-use Rattle.std.proofs.lemmas.Bool.{cases_Bool}
+use Rattle.std.proofs.Common.{◌≡◌, ℕ, zero, suc, ◌+◌, ◌-◌, ◌<◌, ◌≤◌, List, [], ◌∷◌, length, Option, Some, None, Ok, Err, refl, ap, ◌∙◌, subst, All, arith}
 use Rattle.exi_bits.specs.declared.align.Align.{Align}
 use Rattle.exi_bits.specs.declared.fault.Fault.{Fault}
 use Rattle.exi_bits.specs.Bits.{Spot}
-use Rattle.exi_bits.specs.Unsigned.{◌>>=◌}
 use Rattle.exi_gram.specs.declared.cell.Branch.{Branch}
 use Rattle.exi_gram.specs.declared.cell.Cell.{Cell}
 use Rattle.exi_gram.specs.declared.cell.Cell.TheVariants as cell
-use Rattle.exi_gram.specs.Codes.{Coded, part_at, told, values_of}
-use Rattle.exi_gram.specs.CodeTrees.{along, behind, chosen_at, counted, ended, left_with, parts_in, place_read, told_or}
+use Rattle.exi_gram.specs.Codes.{Coded, part_at, values_of}
+use Rattle.exi_gram.specs.CodeTrees.{along, behind, chosen_at, counted, ended, left_with, parts_in, place_read}
 use Rattle.exi_gram.specs.Cells.{CellStands, Walked, cell_at}
 
 -- ---- the places of codes

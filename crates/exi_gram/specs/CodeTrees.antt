@@ -1,5 +1,5 @@
 -- Event codes as a tree (EXI 1.0, section 6.2): a code is read part by part, in whatever order the codes stand.
-use Rattle.std.specs.Prelude.{◌≡◌, ◌≢◌, ℕ, zero, suc, ◌+◌, ◌<◌, Bool, true, false, ◌==◌, Option, Some, None, Result, Ok, if◌then◌else◌, List, [], ◌∷◌, All, length, map}
+use Rattle.std.specs.Prelude.{◌≡◌, ◌≢◌, ℕ, zero, suc, ◌<◌, Bool, true, false, ◌==◌, Option, Some, None, Result, Ok, if◌then◌else◌, List, [], ◌∷◌, All, map}
 use Rattle.exi_bits.specs.declared.align.Align.{Align}
 use Rattle.exi_bits.specs.declared.fault.Fault.{Fault}
 use Rattle.exi_bits.specs.Bits.{Spot}

@@ -1,4 +1,3 @@
-use Rattle.std.proofs.Common.{◌≡◌, arith}
 use Rattle.exi_gram.proofs.CodeItems.{below_width}
 use Rattle.exi_gram.proofs.code_table.put_part.Goals as goal
 

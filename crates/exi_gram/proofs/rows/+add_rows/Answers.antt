@@ -1,11 +1,11 @@
-use Rattle.std.proofs.Common.{◌≡◌, ◌<◌, ◌≤◌, ◌+◌, ◌-◌, ◌∙◌, ℕ, None, Some, List, [], ◌∷◌, length, set, arith, rules, sym, subst, ap}
+use Rattle.std.proofs.Common.{◌≡◌, ◌<◌, ◌+◌, ◌-◌, ◌∙◌, None, List, [], ◌∷◌, length, arith, sym, subst, ap}
 use Rattle.std.proofs.lemmas.List.{get_or_read}
 use Rattle.exi_gram.specs.declared.cell.Cell.{Cell}
 use Rattle.exi_gram.specs.declared.cell.Cell.TheVariants as cell
 use Rattle.exi_gram.specs.Codes.{values_of}
 use Rattle.exi_gram.specs.CodeTrees.{behind, ended, parts_in}
-use Rattle.exi_gram.specs.Cells.{Branches, IsTree, RowStands, CellStands, behind_front, cell_at, leaf_of, parts_left}
-use Rattle.exi_gram.proofs.Trees.{behind_longer, branch_tree, longer_branches, never_last, row_branch, row_leaf, row_stands, tree_branch}
+use Rattle.exi_gram.specs.Cells.{IsTree, RowStands, CellStands, behind_front, cell_at, leaf_of, parts_left}
+use Rattle.exi_gram.proofs.Trees.{behind_longer, branch_tree, longer_branches, never_last, row_branch, row_leaf, row_stands}
 use Rattle.exi_gram.proofs.rows.+add_rows.Goals as goal
 use Rattle.exi_gram.proofs.rows.+add_rows.Goals.{in-Branch+in-Some+in_ok-branch, in-Branch+in_default-then, in_default}
 

@@ -1,6 +1,4 @@
-use Rattle.std.proofs.Common.{◌≡◌, ◌+◌, ◌<◌, ◌≤◌, ◌^◌, ℕ, length}
-use Rattle.exi_gram.specs.CodeTrees.{behind, ended}
-use Rattle.exi_gram.specs.Cells.{Kept, RowStands, behind_front, cell_at, leaf_of, parts_left}
+use Rattle.exi_gram.specs.Cells.{RowStands, behind_front, parts_left}
 use Rattle.exi_gram.proofs.rows.+add_rows.Given as goal
 
 abbrev pub decreases-add_rows : goal.decreases-add_rows

@@ -1,12 +1,11 @@
-use Rattle.std.proofs.Common.{◌≡◌, ◌<◌, ◌≤◌, ◌+◌, ◌∙◌, ℕ, None, Some, get_or, length, set, true, arith, rules, sym, subst, ap}
+use Rattle.std.proofs.Common.{◌≡◌, ◌<◌, ◌≤◌, ◌+◌, ◌∙◌, Some, get_or, length, set, true, arith, rules, sym, ap}
 use Rattle.std.proofs.lemmas.List.{get_or-set_other, length-set}
-use Rattle.exi_gram.specs.declared.cell.Cell.{Cell}
 use Rattle.exi_gram.specs.declared.cell.Cell.TheVariants as cell
 use Rattle.exi_gram.specs.declared.code.Code.{Code}
 use Rattle.exi_gram.specs.declared.code.Code.TheVariants as code
 use Rattle.exi_gram.specs.Codes.{values_of}
 use Rattle.exi_gram.specs.CodeTrees.{along, parts_in}
-use Rattle.exi_gram.specs.Cells.{TellsEnds, behind_front, cell_at, front_parts, next_part}
+use Rattle.exi_gram.specs.Cells.{behind_front, cell_at, front_parts, next_part}
 use Rattle.exi_gram.specs.Tables.{parts_of}
 use Rattle.exi_gram.proofs.Trees.{ends_here, ends_past, no_end, none_ends, values_here, values_rest}
 use Rattle.exi_gram.proofs.rows.mark_ends.Goals as goal

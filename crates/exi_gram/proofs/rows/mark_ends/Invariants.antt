@@ -1,4 +1,4 @@
-use Rattle.std.proofs.Common.{◌≡◌, ◌+◌, ◌<◌, ℕ, length, take}
+use Rattle.std.proofs.Common.{◌≡◌, ◌<◌, ℕ, length, take}
 use Rattle.exi_gram.specs.Codes.{values_of}
 use Rattle.exi_gram.specs.CodeTrees.{parts_in}
 use Rattle.exi_gram.specs.Cells.{TellsEnds, behind_front, cell_at}

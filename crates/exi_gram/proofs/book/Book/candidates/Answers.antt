@@ -1,7 +1,7 @@
-use Rattle.std.proofs.Common.{◌≡◌, ℕ, ◌<◌, List, length, get_or, [], sym, ap, ◌∙◌, subst, arith}
+use Rattle.std.proofs.Common.{◌≡◌, List, get_or, [], ap, ◌∙◌, subst, arith}
 use Rattle.exi_gram.specs.Books.{Contents}
-use Rattle.exi_gram.specs.Candidates.{FindInAll, candidates}
-use Rattle.exi_gram.specs.Codes.{Productions, coded}
+use Rattle.exi_gram.specs.Candidates.{FindInAll}
+use Rattle.exi_gram.specs.Codes.{Productions}
 use Rattle.exi_gram.specs.Naming.{Entry}
 use Rattle.exi_gram.proofs.Indexed.{index_at, row_at, states_count}
 use Rattle.exi_gram.proofs.book.Book.candidates.Goals as goal

@@ -1,4 +1,4 @@
-use Rattle.std.proofs.Common.{◌≡◌, ◌≤◌, ◌∙◌, length, map, take, arith, rules, sym, subst, ap}
+use Rattle.std.proofs.Common.{◌≡◌, ◌∙◌, length, map, sym, subst, ap}
 use Rattle.std.proofs.lemmas.List.{take_all}
 use Rattle.exi_gram.specs.CodeTrees.{IsCodeSet, counted}
 use Rattle.exi_gram.specs.Cells.{Branches, CellStands, all_parts, behind_front}

@@ -1,11 +1,10 @@
-use Rattle.std.proofs.Common.{◌≡◌, ◌≤◌, ◌<◌, ◌+◌, ◌∙◌, List, ℕ, length, refl, arith, rules, sym, subst, ap}
+use Rattle.std.proofs.Common.{◌≡◌, ◌<◌, ◌+◌, ◌∙◌, List, ℕ, length, refl, arith, sym, subst}
 use Rattle.std.proofs.lemmas.List.{get_or_read}
 use Rattle.std.proofs.lemmas.Result.{err_from_is_err_and}
-use Rattle.exi_gram.specs.Cells.{CellStands, Walked, all_parts, cell_at}
-use Rattle.exi_gram.specs.CodeTrees.{counted, place_read}
+use Rattle.exi_gram.specs.Cells.{Walked, all_parts, cell_at}
 use Rattle.exi_gram.specs.declared.cell.Cell.{Cell}
 use Rattle.exi_gram.specs.declared.cell.Cell.TheVariants as cell
-use Rattle.exi_gram.proofs.Walks.{walk_below, walk_ends, walk_fails, walk_next, walk_over, walk_starts, walk_within}
+use Rattle.exi_gram.proofs.Walks.{walk_below, walk_ends, walk_fails, walk_next, walk_starts, walk_within}
 use Rattle.exi_gram.proofs.code_table.CodeTable.walk.Goals as goal
 
 pub loop-init : goal.loop-init

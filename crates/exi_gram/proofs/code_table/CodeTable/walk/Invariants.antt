@@ -1,4 +1,4 @@
-use Rattle.std.proofs.Common.{◌≡◌, ◌+◌, ◌-◌, ◌≤◌, length}
+use Rattle.std.proofs.Common.{◌≡◌, ◌+◌}
 use Rattle.exi_bits.specs.Bits.{IsAligned}
 use Rattle.exi_gram.specs.Cells.{Walked}
 use Rattle.exi_gram.specs.declared.cell.Cell.TheVariants as cell

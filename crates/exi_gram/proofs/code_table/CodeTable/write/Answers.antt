@@ -1,13 +1,11 @@
-use Rattle.std.proofs.Common.{◌≡◌, ◌≤◌, ◌<◌, ◌+◌, ◌∙◌, List, ℕ, [], Some, None, get_or, inl, inr, length, slice_get, refl, arith, rules, sym, subst, ap}
+use Rattle.std.proofs.Common.{◌≡◌, ◌≤◌, ◌<◌, ◌+◌, ◌∙◌, List, ℕ, [], Some, get_or, inl, inr, length, slice_get, arith, rules, sym, subst, ap}
 use Rattle.std.proofs.lemmas.List.{get_or_read, length-map}
-use Rattle.exi_gram.specs.declared.cell.Cell.{Cell}
 use Rattle.exi_gram.specs.declared.cell.Cell.TheVariants as cell
 use Rattle.exi_gram.specs.declared.code.Code.{Code}
-use Rattle.exi_gram.specs.declared.code.Code.TheVariants as code
-use Rattle.exi_gram.specs.Cells.{CellStands, Writing, all_parts, cell_at}
+use Rattle.exi_gram.specs.Cells.{CellStands, all_parts, cell_at}
 use Rattle.exi_gram.specs.CodeTrees.{counted}
 use Rattle.exi_gram.specs.Tables.{parts_of}
-use Rattle.exi_gram.proofs.Puts.{code_at_place, few_parts, write_below, write_done, write_front, write_next, write_over, write_starts, write_within}
+use Rattle.exi_gram.proofs.Puts.{code_at_place, few_parts, write_below, write_done, write_next, write_over, write_starts, write_within}
 use Rattle.exi_gram.proofs.code_table.CodeTable.write.Goals as goal
 use Rattle.exi_gram.proofs.code_table.CodeTable.write.Goals.{in-Some+in_ok-put_part+in-Branch, in-Some+in_ok-put_part+in-Leaf, in_default}
 

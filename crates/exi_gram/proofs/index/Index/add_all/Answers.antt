@@ -1,9 +1,7 @@
-use Rattle.std.proofs.Common.{◌≡◌, ℕ, Option, List, sym, ap, ◌∙◌}
+use Rattle.std.proofs.Common.{sym, ap, ◌∙◌}
 use Rattle.std.proofs.lemmas.Bool.{eq-eqb, ne_eqb}
 use Rattle.std.proofs.lemmas.List.{append-nil}
-use Rattle.exi_names.specs.declared.names.NameId.{NameId}
 use Rattle.exi_gram.specs.Candidates.{Listed, found}
-use Rattle.exi_gram.specs.declared.class.Class.{Class}
 use Rattle.exi_gram.proofs.Indexed.{found_here, found_past}
 use Rattle.exi_gram.proofs.index.Index.add_all.Goals as goal
 use Rattle.exi_gram.proofs.index.Index.add_all.Goals.{then-parts+in_ok-add, else-parts}

@@ -1,4 +1,3 @@
-use Rattle.std.proofs.Common.{◌≡◌}
 use Rattle.exi_gram.proofs.Indexed.{kept_finds}
 use Rattle.exi_gram.proofs.state.CodedState.index.Goals as goal
 
