@@ -6,4 +6,5 @@ pub mod LearningLaws
 mod Worked
 pub mod Rules
 pub mod Least
+pub mod WrittenCodes
 pub mod Readers

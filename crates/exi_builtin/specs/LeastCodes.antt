@@ -1,10 +1,10 @@
 -- The least code of a production in a state (EXI 1.0, section 6.2), and which productions read an event.
-use Rattle.std.specs.Prelude.{◌≡◌, ◌⊎◌, ℕ, suc, ◌+◌, ◌&&◌, Bool, true, false, not, Option, Some, None, List, [], ◌∷◌, if◌then◌else◌}
+use Rattle.std.specs.Prelude.{◌≡◌, ◌⊎◌, ℕ, suc, ◌+◌, ◌&&◌, Bool, true, false, not, Option, Some, None, List, [], ◌∷◌, slice_get, if◌then◌else◌}
 use mathlib.Core.Bool.{beq}
 use Rattle.std.specs.Option.{option_map}
 use Rattle.exi_names.specs.declared.names.NameId.{NameId}
 use Rattle.exi_names.specs.NameMaps.{same_name}
-use Rattle.exi_gram.specs.Codes.{Coded}
+use Rattle.exi_gram.specs.Codes.{Coded, Productions, coded}
 use Rattle.exi_builtin.specs.declared.learnable.Learnable.{Learnable}
 use Rattle.exi_builtin.specs.declared.learnable.Learnable.TheVariants as learnable
 use Rattle.exi_builtin.specs.declared.event_kind.EventKind.{EventKind}
@@ -78,6 +78,12 @@ first_place test (x ∷ xs) = if test x then Some 0 else option_map suc (first_p
 abbrev pub first_code : {X : Type 0} → (X → Bool) → List (Coded X) → Option (List ℕ)
 first_code test [] = None
 first_code test (c ∷ cs) = if test c.item then Some c.parts else first_code test cs
+
+-- the parts are those of a production's code
+pub record IsCodeOf {X : Type 0} (p : Productions X) (parts : List ℕ) : Type 0 where
+  pub place : ℕ
+  pub item : X
+  pub there : slice_get (coded p) place ≡ Some (record { parts = parts; item = item })
 
 -- ---- what reads an event
 -- the production for the event alone, where it may have one: it was learned, or has a code of one part

@@ -1,4 +1,4 @@
-ghost use Rattle.std.specs.Prelude.{◌≡◌, ◌<◌, ◌≤◌, ◌^◌, [], ◌∷◌, ℕ, None, Some, if◌then◌else◌, length, slice_get, OnOk, OnErr};
+ghost use Rattle.std.specs.Prelude.{◌≡◌, ◌<◌, ◌≤◌, ◌^◌, [], ◌∷◌, ℕ, None, Some, if◌then◌else◌, All, length, slice_get, OnOk, OnErr};
 ghost use Rattle.exi_builtin.specs.LeastCodes.{first_place, is_it, is_named};
 ghost use Rattle.indexmap.specs.IndexMap.{get};
 ghost use Rattle.exi_names.specs.declared.names.NameId.{NameId};
@@ -70,6 +70,7 @@ impl LearnedList {
     pub fn len(&self) -> u32
         ensures count { result ≡ length self.now }
         ensures few { result ≤ 2 ^ 31 }
+        ensures only { All IsLearned self.now }
     {
         self.items.len() as u32
     }

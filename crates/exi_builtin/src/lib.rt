@@ -32,6 +32,7 @@ mod reading;
 #[cfg(test)]
 mod tests;
 mod uses;
+mod writing;
 mod written;
 
 pub use code_list::CodeList;

@@ -1,12 +1,15 @@
-ghost use Rattle.std.specs.Prelude.{◌≡◌, ◌<◌, ◌^◌, ◌∷◌, ◌++◌, [], None, ◌↔◌, length, map, IsTrue, IfOk, OnOk, OnErr};
+ghost use Rattle.std.specs.Prelude.{◌≡◌, ◌<◌, ◌^◌, ◌∷◌, ◌++◌, [], None, ◌↔◌, All, length, map, IsTrue, IfOk, OnOk, OnErr};
 ghost use Rattle.exi_bits.specs.Bits.{IsAligned};
 ghost use Rattle.exi_bits.specs.Unsigned.{Reads};
-ghost use Rattle.exi_gram.specs.Codes.{code_at, coded};
+ghost use Rattle.exi_bits.specs.Written.{IsWholeBytes};
+ghost use Rattle.exi_gram.specs.Codes.{code_at, code_bits, coded};
+ghost use Rattle.exi_gram.specs.Laws.{codes};
+ghost use Rattle.exi_items.specs.Fronts.{HoldsFront};
 ghost use Rattle.exi_gram.specs.Switches.{align_of};
 ghost use Rattle.std.specs.Option.{option_map};
 ghost use Rattle.exi_gram.specs.Tables.{parts_of};
 ghost use Rattle.exi_builtin.specs.CodeParts.{coded_of};
-ghost use Rattle.exi_builtin.specs.LeastCodes.{first_code, is_it};
+ghost use Rattle.exi_builtin.specs.LeastCodes.{IsCodeOf, first_code, is_it};
 ghost use Rattle.exi_builtin.specs.Marks.{IsLearned};
 ghost use Rattle.exi_builtin.specs.Learning.{
   IsRoom,
@@ -29,7 +32,8 @@ use crate::learned_list::LearnedList;
 use crate::least_code::least_code;
 use crate::reading::read_behind;
 use crate::uses::{added_by, stands_written};
-use exi_bits::{BitIn, Fault};
+use crate::writing::write_behind;
+use exi_bits::{BitIn, BitOut, Fault};
 use exi_gram::{Code, Options};
 use exi_names::{NameId, NameMap};
 use std::alloc::{AllocError, Global};
@@ -129,7 +133,8 @@ impl Overlay {
     /// How many productions a state learned.
     pub fn learned(&self, room: Room) -> u32
         requires { IsRoom self.now room }
-        ensures { result ≡ length (learned_in self.now room) }
+        ensures count { result ≡ length (learned_in self.now room) }
+        ensures only { All IsLearned (learned_in self.now room) }
     {
         self.learned_list(room).len()
     }
@@ -199,6 +204,29 @@ impl Overlay {
             ≡ first_code (is_it production) (coded (productions options.now self.now room)) }
     {
         least_code(self.learned_list(room), room, production, options)
+    }
+
+    /// Writes a code that the state has, as [`Overlay::read_code`] reads it. The number of the state has to be one
+    /// that [`Overlay::grammar`] gave, and under [`Align::Bytes`](exi_bits::Align) there have to be whole bytes of bits.
+    ///
+    /// # Errors
+    ///
+    /// `AllocError` where memory is refused. The bits then end with a front of the code, maybe none of it.
+    pub fn write_code(
+        &self,
+        out: &mut BitOut,
+        room: Room,
+        code: Code,
+        options: &Options,
+    ) -> Result<(), AllocError>
+        requires room { IsRoom self.now room }
+        requires code { IsCodeOf (productions options.now self.now room) (parts_of code) }
+        requires aligned { IsWholeBytes (align_of options.now) out.old }
+        ensures ok { OnOk result (out.new ≡ out.old ++ code_bits (align_of options.now) (codes (productions options.now self.now room)) (parts_of code)) }
+        ensures err { OnErr result (HoldsFront out.old (code_bits (align_of options.now) (codes (productions options.now self.now room)) (parts_of code)) out.new) }
+        ensures aligned { IsWholeBytes (align_of options.now) out.new }
+    {
+        write_behind(out, self.learned_list(room), room, code, options)
     }
 
     /// Learns from a use in a state, and tells whether a production was added: false where the use is of CH,

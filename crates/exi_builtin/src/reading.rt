@@ -36,7 +36,7 @@ fn kept_at(options: &Options, list: &[Learnable], place: u32) -> Option<Learnabl
 }
 
 /// How many second parts the options leave.
-fn second_count(options: &Options, written: &Written) -> u32
+pub fn second_count(options: &Options, written: &Written) -> u32
     requires singles { length written.now.singles.now ≤ 8 }
     requires members { length written.now.members.now ≤ 8 }
     ensures { result ≡ length (kept_seconds (is_kept options.now)
@@ -122,7 +122,7 @@ fn first_at(learned: &LearnedList, written: &Written, first: u32) -> Option<Lear
 }
 
 /// How many values the first part of a code has.
-fn first_count(learned: &LearnedList, written: &Written, options: &Options) -> u32
+pub fn first_count(learned: &LearnedList, written: &Written, options: &Options) -> u32
     requires { length written.now.firsts.now ≤ 8 }
     ensures { result ≡ length (learned.now ++ written.now.firsts.now)
         + longer (kept_seconds (is_kept options.now)
