@@ -1,6 +1,6 @@
 //! Texts and names between quotes.
 
-ghost use Rattle.std.specs.Prelude.{◌≡◌, ◌<◌, ◌++◌, [], ◌∷◌, OnOk, OnErr, OnSome, MatchOption, string_bytes};
+ghost use Rattle.std.specs.Prelude.{◌≡◌, ◌<◌, ◌++◌, [], ◌∷◌, IsTrue, OnOk, OnErr, OnSome, MatchOption, string_bytes};
 ghost use Rattle.std.specs.List.{flat_map};
 ghost use Rattle.exi_names.specs.Shown.{named};
 ghost use Rattle.exi_evtext.specs.Kept.{Keeps};
@@ -24,8 +24,60 @@ fn escape(byte: u8) -> Option<&'static str>
     }
 }
 
-/// The text's bytes as they stand between quotes: those that stand for themselves in runs.
+/// Whether a byte surely stands for itself between quotes.
+fn stands(byte: u8) -> bool
+    ensures { IsTrue result → escaped byte ≡ byte ∷ [] }
+{
+    (byte >= 32) & (byte != b'"') & (byte != b'\\')
+}
+
+/// Whether all bytes surely stand for themselves between quotes, looked at one by one.
+fn each_stands(bytes: &[u8]) -> bool
+    ensures { IsTrue result → flat_map escaped bytes.now ≡ bytes.now }
+{
+    for byte in bytes {
+        if !stands(*byte) {
+            return false;
+        }
+    }
+    true
+}
+
+/// The same, looked at many at once: no byte ends the search.
+fn all_stand(bytes: &[u8]) -> bool
+    ensures { IsTrue result → flat_map escaped bytes.now ≡ bytes.now }
+{
+    let mut all = true;
+    for byte in bytes {
+        all = all & stands(*byte);
+    }
+    all
+}
+
+/// Whether all bytes surely stand for themselves between quotes.
+fn is_plain(bytes: &[u8]) -> bool
+    ensures { IsTrue result → flat_map escaped bytes.now ≡ bytes.now }
+{
+    if bytes.len() < 8 {
+        each_stands(bytes)
+    } else {
+        all_stand(bytes)
+    }
+}
+
+/// The text's bytes as they stand between quotes.
 fn push_escaped(out: &mut String, text: &str) -> Result<(), AllocError>
+    ensures ok { OnOk result (string_bytes out.new ≡ string_bytes out.old ++ flat_map escaped text.now) }
+    ensures err { OnErr result (Keeps (string_bytes out.old) (string_bytes out.new)) }
+{
+    if is_plain(text.as_bytes()) {
+        return out.push_str(text);
+    }
+    push_runs(out, text)
+}
+
+/// The text's bytes as they stand between quotes: those that stand for themselves in runs.
+fn push_runs(out: &mut String, text: &str) -> Result<(), AllocError>
     ensures ok { OnOk result (string_bytes out.new ≡ string_bytes out.old ++ flat_map escaped text.now) }
     ensures err { OnErr result (Keeps (string_bytes out.old) (string_bytes out.new)) }
 {

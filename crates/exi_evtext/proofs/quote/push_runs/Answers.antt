@@ -3,8 +3,8 @@ use Rattle.std.specs.Prelude.{slice_range, slice_index, string_bytes}
 use Rattle.std.proofs.lemmas.Str.{IsCharBoundary-before_ascii, IsCharBoundary-after_ascii}
 use Rattle.exi_evtext.proofs.Holds.{kept_both, kept_by}
 use Rattle.exi_evtext.proofs.Escapes.{escape_step, plain_more, plain_none}
-use Rattle.exi_evtext.proofs.quote.push_escaped.Goals.{in-Some+in_ok-push_str+in_ok-push_str-2, in_default}
-use Rattle.exi_evtext.proofs.quote.push_escaped.Goals as goal
+use Rattle.exi_evtext.proofs.quote.push_runs.Goals.{in-Some+in_ok-push_str+in_ok-push_str-2, in_default}
+use Rattle.exi_evtext.proofs.quote.push_runs.Goals as goal
 
 pub range-requires-clause-end_boundary : goal.range-requires-clause-end_boundary
 range-requires-clause-end_boundary c =

@@ -4,7 +4,7 @@ use Rattle.std.specs.List.{flat_map}
 use Rattle.std.specs.Str.{IsCharBoundary}
 use Rattle.exi_evtext.specs.Lines.{escaped}
 use Rattle.exi_evtext.specs.Kept.{Keeps}
-use Rattle.exi_evtext.proofs.quote.push_escaped.Given as goal
+use Rattle.exi_evtext.proofs.quote.push_runs.Given as goal
 
 abbrev pub invariant-loop-place : goal.invariant-loop-place
 invariant-loop-place l = record {
