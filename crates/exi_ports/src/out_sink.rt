@@ -154,6 +154,10 @@ fn write_out<W: Write>(to: &mut W, waiting: &mut Vec<u8>) -> bool
     ensures capacity { vec_capacity waiting.new ≡ vec_capacity waiting.old }
 {
     let count = write_run(to, waiting);
+    if count == waiting.len() {
+        waiting.clear();
+        return true;
+    }
     waiting.drain(..count);
     waiting.is_empty()
 }
