@@ -1,5 +1,6 @@
 -- The last event of a body is ED.
-use Rattle.std.proofs.Common.{◌≡◌, ◌⊎◌, inl, inr, ℕ, zero, suc, Bool, true, false, cond, List, [], ◌∷◌, ◌++◌, Option, Some, None, Result, Ok, Err, refl, sym, ap, ◌∙◌, subst}
+use Rattle.std.proofs.Common.{◌≡◌, ◌⊎◌, inl, inr, ℕ, zero, suc, Bool, true, false, cond, ltb, List, [], ◌∷◌, ◌++◌, length, Option, Some, None, Result, Ok, Err, refl, sym, ap, ◌∙◌, subst}
+use Rattle.std.proofs.lemmas.Bool.{cases_Bool, ltb-false, ltb-true}
 use Rattle.exi_bits.specs.declared.fault.Fault.{Fault}
 use Rattle.exi_bits.specs.declared.fault.Kind.TheVariants as kind
 use Rattle.exi_gram.specs.Switches.{fragment}
@@ -12,11 +13,11 @@ use Rattle.exi_typed.specs.ReadStates.{Failure}
 use Rattle.exi_typed.proofs.ContextItems.{told}
 use Rattle.exi_reader.specs.Changes.{is_alone, outer_behind, resumed}
 use Rattle.exi_reader.specs.Configurations.{Body, Config, Setting, body_outer, reached}
-use Rattle.exi_reader.specs.Laws.{EndIs, EndsAtEd, EndsBehind, EndsIn}
+use Rattle.exi_reader.specs.Laws.{EndIs, EndsAtEd, EndsBehind, EndsIn, IsDone, IsTrailing}
 use Rattle.exi_reader.specs.OneEvent.{behind, one}
 use Rattle.exi_reader.specs.Plans.{Alone, Given, Plan, alone_in, at_end, at_first, at_start, nowhere, plan_of, plan_on}
 use Rattle.exi_reader.specs.Rules.{Rule, Terminal, attribute, characters, comment, declaration, document_type, element, end_document, end_element, entity, informed, instruction, known, self_contained, spelled, start_document}
-use Rattle.exi_reader.specs.Runs.{Job, Leads, closing, ends, failed_end, first, goes, has_ended, is_end, turned_by}
+use Rattle.exi_reader.specs.Runs.{Job, Leads, closing, ends, failed_end, first, goes, has_ended, is_end, turned_by, whole_bytes}
 use Rattle.exi_reader.specs.declared.end.End.{End}
 use Rattle.exi_reader.specs.declared.end.End.TheVariants as end
 use Rattle.exi_reader.specs.declared.frames.Element.{Element}
@@ -222,8 +223,14 @@ ended_by j true given x e h k l =
     (sym s.0 ∙ l.leaves.last h, sym s.1 ∙ ap (λ (z : Start). closing z j.bytes given.1) l.body)
 ended_by j false given x e h k l = absurd cc
 
+closes : (bytes : List ℕ) (c : Config) (e : End) → e ≡ closing start.Body bytes c → IsDone bytes c e ⊎ IsTrailing bytes c e
+closes bytes c e h = elim (cases_Bool (ltb (whole_bytes c.place) (length bytes))) [
+  | inl more ↦ inr (record { more = ltb-true (whole_bytes c.place) (length bytes) more; is = h ∙ rw more refl })
+  | inr none ↦ inl (record { none = ltb-false (whole_bytes c.place) (length bytes) none; is = h ∙ rw none refl })
+]
+
 end_by : (j : Job) (c : Config) (x : Option Happening) (e : End) (r : Result Given Failure) → one j.setting j.bytes c ≡ r → turned_by j.bytes c r ≡ ends x e → ((given : Given) → r ≡ told given → LeavesBody given) → EndsBehind j c x e ⊎ EndsIn j c x e
-end_by j c x e (Ok given) h k f = let s = ended_by j (has_ended given.1) given x e refl k (f given refl) in inl (record { given = given; steps = h; last = s.0; closed = s.1 })
+end_by j c x e (Ok given) h k f = let s = ended_by j (has_ended given.1) given x e refl k (f given refl) in inl (record { given = given; steps = h; last = s.0; closed = closes j.bytes given.1 e s.1 })
 end_by j c x e (Err failure) h k f = let s = ends_same None x (failed_end c failure) e k in inr (record { failure = failure; fails = h; none = sym s.0; closed = sym s.1 })
 
 pub end_is : EndIs

@@ -13,7 +13,7 @@ use Rattle.exi_gram.specs.Switches.{align_of}
 use Rattle.exi_gram.proofs.CodeLaws.{spelled_item}
 use Rattle.exi_meter.specs.Metering.{Metering, event_fits, level_fits, with_event, with_level}
 use Rattle.exi_typed.specs.ReadStates.{Context, ReadState, Failure, failing}
-use Rattle.exi_typed.proofs.ContextItems.{ContextItem, bind_told, fine, not_failing, told, told_is}
+use Rattle.exi_typed.proofs.ContextItems.{ContextItem, bind_told, fine, not_failing, told, told_is, was_taken, where_taken}
 use Rattle.exi_reader.specs.Configurations.{Config, Setting, read_state_in, reached, rules_of, spot_in}
 use Rattle.exi_reader.specs.OneEvent.{at_event, behind, charge_at, event_charge, followed, level_charge, one, remembered, unless}
 use Rattle.exi_reader.specs.Plans.{Given, Plan, alone_in, plan_of}
@@ -217,7 +217,9 @@ module _ (b : Align) (bytes : List ℕ) (fits : IsBytes bytes) where
           padding = pad.text;
           parts = refl;
           after = k.context;
+          charges = t.charges;
           spelled = t.spelled;
+          taken = was_taken b p.Spells p.read item h.item (read_state_in bytes h.meter c) k fits al h.read t;
           free = h.free;
           padded = subst (λ (z : ℕ). IsPadding p.padded z pad.text) t.front.place pad.padding;
           is = h.is ∙ ap (λ (z : Config). remembered (p.make h.item z)) (further_is c (behind p.padded k) k.context (length (t.text ++ pad.text)) front.place (behind_context p.padded k));
@@ -233,7 +235,7 @@ module _ (b : Align) (bytes : List ℕ) (fits : IsBytes bytes) where
       let parts : rest (spot_in bytes c) ≡ h.content ++ (h.padding ++ more) = e ∙ ap (λ (x : List Bool). x ++ more) h.parts ∙ append_assoc h.content h.padding more in
       let r1 : charge_at bit p c.meter ≡ told h.meter = charge_again bit p c.meter h.meter h.charged in
       let at_item : ReadState = record { spot = moved (spot_in bytes c) (length h.content); context = h.after } in
-      let r2 : p.read (read_state_in bytes h.meter c) ≡ told (h.item, at_item) = item.again h.item (spot_in bytes c) w h.after h.content (h.padding ++ more) fits al h.spelled parts in
+      let r2 : p.read (read_state_in bytes h.meter c) ≡ told (h.item, at_item) = where_taken b p.Spells p.read item h.item (spot_in bytes c) w h.after h.charges h.content (h.padding ++ more) fits al h.spelled h.taken parts in
       let far : behind p.padded at_item ≡ record { spot = moved (moved (spot_in bytes c) (length h.content)) (length h.padding); context = h.after } = padded_place p.padded (moved (spot_in bytes c) (length h.content)) h.after h.padding h.padded in
       let count : length text ≡ length h.content + length h.padding = ap (λ (x : List Bool). length x) h.parts ∙ length-append h.content h.padding in
       let place : (behind p.padded at_item).spot.place ≡ c.place + length text = ap (λ (z : ReadState). z.spot.place) far ∙ omega (arith, count) in

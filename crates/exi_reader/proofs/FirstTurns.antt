@@ -9,9 +9,10 @@ use Rattle.exi_gram.proofs.CodeLaws.{spelled_item}
 use Rattle.exi_meter.specs.Metering.{Metering, with_text}
 use Rattle.exi_names.specs.declared.names.QName.{QName}
 use Rattle.exi_typed.specs.ReadStates.{ReadState}
-use Rattle.exi_typed.proofs.ContextItems.{fine, told, told_is}
+use Rattle.exi_typed.proofs.ContextItems.{fine, told, told_is, was_taken}
 use Rattle.exi_reader.specs.Changes.{moved_elements, outer_behind, root_in}
 use Rattle.exi_reader.specs.Configurations.{Body, Config, Setting, read_state_in, rules_of, spot_in}
+use Rattle.exi_reader.specs.Contents.{SpellsTold, told_name_at}
 use Rattle.exi_reader.specs.OneEvent.{one}
 use Rattle.exi_reader.specs.Plans.{Alone, Given, alone_in, at_first, at_start, plan_on}
 use Rattle.exi_reader.specs.Rules.{Rule, Telling, Terminal, attribute, characters, comment, declaration, document_type, element, end_document, end_element, entity, informed, instruction, known, self_contained, spelled, start_document}
@@ -110,7 +111,8 @@ module _ (g : Setting) (bytes : List ℕ) where
   element_rooted : (f : Config) (r : Rule) (tl : Telling) (place : ℕ) (given : Given) → IsBytes bytes → prefixes g.options ≡ false → IsAligned (align_of g.options) (spot_in bytes (at_place f place)) → IsFirst f → (t : Parted bytes (plan_on g at_first f r (element tl)) (at_place f place) given) → given.0 ≡ None → given.1.root ≡ root_in f.aside t.item.name f.root → given.1.outer ≡ outer_behind r.to f.elements f.outer → given.1.aside ≡ f.aside → given.1.meter ≡ t.read_state.context.meter → Rooted f given
   element_rooted f r tl place given octets plain al b t none root out aside meter =
       let k = (name_reads g tl).item.takes t.item (read_state_in bytes t.meter (at_place f place)) t.read_state octets al t.read in
-      let text : t.read_state.context.meter ≡ with_text t.meter (length t.item.name.uri + length t.item.name.local) = told_text g tl t.item (read_state_in bytes t.meter (at_place f place)).context t.read_state.context k.text plain k.spelled in
+      let text : t.read_state.context.meter ≡ with_text t.meter (length t.item.name.uri + length t.item.name.local) = told_text g tl t.item f.tables t.read_state.context.tables k.charges k.text t.meter t.read_state.context.meter plain k.spelled
+      (was_taken (align_of g.options) (SpellsTold g tl) (told_name_at g tl) (name_reads g tl).item t.item (read_state_in bytes t.meter (at_place f place)) t.read_state octets al t.read k) in
       record {
         none = none;
         name = t.item.name;

@@ -284,10 +284,10 @@ outer_fits g p l b s outer.AloneFirst h = fragment_fits g p l s
 outer_fits g p l b s outer.AloneOver h = fragment_fits g p l s
 outer_fits g p l b s outer.Ended h = record { firsts = All-nil (Outside p outer.Ended); seconds = All-nil (EachOf (Outside p outer.Ended)) }
 
-abbrev Fits : Partitions → Outer → List Element → Rule → Type 0
+abbrev pub Fits : Partitions → Outer → List Element → Rule → Type 0
 Fits p o es r = FitsIn p o es r.on r.to
 
-state_fits : (g : Setting) (p : Partitions) (l : Learning) → IsBook g → (es : List Element) (o : Outer) → IsSoundBody p l es o → Each (Fits p o es) (rules_in g l es o)
+pub state_fits : (g : Setting) (p : Partitions) (l : Learning) → IsBook g → (es : List Element) (o : Outer) → IsSoundBody p l es o → Each (Fits p o es) (rules_in g l es o)
 state_fits g p l b [] o s = outer_fits g p l b s.learned o s.outer_is
 state_fits g p l b (e ∷ es) o s = element_fits g p l e s.learned e.state (All-head (IsSoundElement p l) e es s.elements).state
 

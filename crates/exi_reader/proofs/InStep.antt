@@ -13,7 +13,7 @@ use Rattle.exi_meter.specs.declared.tally.Tally.{Tally}
 use Rattle.exi_names.specs.declared.names.QName.{QName}
 use Rattle.exi_tables.specs.Partitions.{Partitions}
 use Rattle.exi_typed.specs.ReadStates.{Failure, failing}
-use Rattle.exi_typed.specs.Metered.{Unmetered, charging}
+use Rattle.exi_typed.specs.Charging.{Unmetered, charging}
 use Rattle.exi_typed.proofs.ContextItems.{context, read_state, told}
 use Rattle.exi_reader.specs.Changes.{enclosing, has_level, is_alone, left_level, outer_behind, resumed, same_texts}
 use Rattle.exi_reader.specs.Configurations.{Body, Config, Setting, read_state_in, reached, rules_of, spot_in}

@@ -1,3 +1,4 @@
+mod Asked
 mod Bodies
 mod ClosedUp
 mod CodeParts

@@ -11,7 +11,8 @@ use Rattle.exi_meter.specs.Metering.{Metering, event_fits, level_fits, text_fits
 use Rattle.exi_names.specs.Events.{Happening}
 use Rattle.exi_tables.specs.Partitions.{Partitions}
 use Rattle.exi_typed.specs.ReadStates.{ReadState, Failure, failing}
-use Rattle.exi_typed.specs.Metered.{Charge, IsMetered, Unmetered, charging}
+use Rattle.exi_typed.specs.Charging.{Charge, Unmetered, charging}
+use Rattle.exi_typed.specs.Metered.{IsMetered}
 use Rattle.exi_typed.proofs.ContextItems.{context, read_state, told}
 use Rattle.exi_reader.specs.Changes.{has_level, left_level, resumed}
 use Rattle.exi_reader.specs.Configurations.{Body, Config, Setting, read_state_in, reached, rules_of, spot_in}

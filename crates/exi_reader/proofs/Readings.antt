@@ -1,5 +1,5 @@
 -- What stands behind a code: what is read is what is spelled, and it goes onward.
-use Rattle.std.proofs.Common.{◌≡◌, ℕ, Bool, true, false, cond, List, [], ◌++◌, length, Result, Err, refl, subst}
+use Rattle.std.proofs.Common.{◌≡◌, ℕ, Bool, true, false, cond, List, [], ◌++◌, length, Result, Ok, Err, refl, ap, ◌∙◌, subst}
 use Rattle.exi_bits.specs.declared.align.Align.{Align}
 use Rattle.exi_bits.specs.declared.fault.Kind.TheVariants as kind
 use Rattle.exi_bits.specs.Bits.{Spot, IsAligned, IsBytes, moved, rest}
@@ -7,14 +7,17 @@ use Rattle.exi_bits.specs.Unsigned.{◌>>=◌}
 use Rattle.exi_gram.specs.Switches.{align_of, prefixes}
 use Rattle.exi_names.specs.declared.names.NameId.{NameId}
 use Rattle.exi_names.specs.Seen.{Value}
-use Rattle.exi_typed.specs.ReadStates.{Context, ReadState, ContextReader, Failure}
+use Rattle.exi_meter.specs.Metering.{Metering}
+use Rattle.exi_tables.specs.Partitions.{Partitions}
+use Rattle.exi_typed.specs.Charging.{Charge, charging, later}
+use Rattle.exi_typed.specs.ReadStates.{ReadState, ContextReader, Failure}
 use Rattle.exi_typed.specs.Items.{item_at, string}
 use Rattle.exi_typed.specs.Laws.{Spelling}
 use Rattle.exi_typed.specs.Metered.{IsMetered}
 use Rattle.exi_typed.specs.Continues.{ReadsOn, Continues}
 use Rattle.exi_typed.specs.Spelled.{Follows, SpellsDeclaration}
 use Rattle.exi_typed.specs.Strings.{Declaration, Named, declaration_at, no_growth}
-use Rattle.exi_typed.proofs.ContextItems.{Chained, ContextItem, IsPure, MadeInContext, Went, bind_told, chained, read_state, in_words, made, pure, told, told_is}
+use Rattle.exi_typed.proofs.ContextItems.{Chained, ContextItem, IsPure, MadeInContext, Went, bind_told, chained, context, read_state, in_words, made, pure, told, told_is}
 use Rattle.exi_typed.proofs.Goings.{chained_goes, declaration_goes, known_goes, literal_goes, name_goes, same_keeps, told_goes}
 use Rattle.exi_typed.proofs.ItemLaws.{item_goes, item_item}
 use Rattle.exi_typed.proofs.Meters.{bind_metered, declaration_metered, item_metered, known_metered, literal_metered, name_metered, pure_metered}
@@ -36,33 +39,36 @@ one_unit tt = refl
 
 pub nothing_reads : (a : Align) → Reads {X = Unit {0}} a nothing_at SpellsNothing
 nothing_reads a = record {
-  item = in_words a nothing_at (IsPure tt) SpellsNothing (λ x w v text h. record { bits = h.nothing.bits; after = h.nothing.after }) (λ x w v text h. record { is = one_unit x; nothing = record { bits = h.bits; after = h.after } }) (pure a tt);
+  item = in_words a nothing_at (IsPure tt) SpellsNothing (λ x w v ks text h. h.nothing) (λ x w v ks text h. record { is = one_unit x; nothing = h }) (pure a tt);
   goes = told_goes (λ c. tt);
   metered = pure_metered tt;
 }
 
 -- ---- one behind the other
 module _ {X Y : Type 0} (a : Align) (one : ContextReader X) (two : X → ContextReader Y) (One : Spelling X) (Two : X → Spelling Y) where
-  abbrev in_pair : X → Y → Context → X × Y
+  abbrev in_pair : X → Y → Partitions → X × Y
   in_pair x y b = (x, y)
 
   abbrev Pairs : Spelling (X × Y)
   Pairs = Chained One (λ x. MadeInContext (in_pair x) (Two x))
 
-  to_pair : (p : X × Y) (w v : Context) (text : List Bool) → Pairs p w v text → SpellsBoth One Two p w v text
-  to_pair p w v text z = subst (λ (q : X × Y). Follows (One q.0) (Two q.0 q.1) w v text) z.spelled.behind.is (record {
+  to_pair : (p : X × Y) (w v : Partitions) (ks : List Charge) (text : List Bool) → Pairs p w v ks text → SpellsBoth One Two p w v ks text
+  to_pair p w v ks text z = subst (λ (q : X × Y). Follows (One q.0) (Two q.0 q.1) w v ks text) z.spelled.behind.is (record {
     between = z.spelled.between;
     first = z.spelled.first;
     second = z.spelled.second;
     parts = z.spelled.parts;
+    paid = z.spelled.paid;
+    owed = z.spelled.owed;
+    charges = z.spelled.charges;
     front = z.spelled.front;
     behind = z.spelled.behind.spelled;
   })
 
-  from_pair : (p : X × Y) (w v : Context) (text : List Bool) → SpellsBoth One Two p w v text → Pairs p w v text
-  from_pair p w v text h = record {
+  from_pair : (p : X × Y) (w v : Partitions) (ks : List Charge) (text : List Bool) → SpellsBoth One Two p w v ks text → Pairs p w v ks text
+  from_pair p w v ks text h = record {
     from = p.0;
-    spelled = record { between = h.between; first = h.first; second = h.second; parts = h.parts; front = h.front; behind = record { from = p.1; is = refl; spelled = h.behind } };
+    spelled = record { between = h.between; first = h.first; second = h.second; parts = h.parts; paid = h.paid; owed = h.owed; charges = h.charges; front = h.front; behind = record { from = p.1; is = refl; spelled = h.behind } };
   }
 
   both_item : ContextItem a one One → ((x : X) → ContextItem a (two x) (Two x)) → ContextItem {X = X × Y} a (both_at one two) (SpellsBoth One Two)
@@ -102,9 +108,13 @@ module _ (g : Setting) (name : NameId) where
   lax true c p q e = absurd cc
   lax false c p q e = (refl, told_is p q e)
 
+  told_again : (r : Result (Value × ReadState) Failure) → (r >>= λ found. told found) ≡ r
+  told_again (Ok x) = refl
+  told_again (Err f) = refl
+
   value_item : ContextItem {X = Value} a (attribute_value_at g name) (SpellsAttributeValue g name)
   unfolding attribute_value_at no_type
-  value_item = record { takes = taking; again = reading; whole = λ x w v text h. (item_item (represented_by g name) a name).whole x w v text h.spelled }
+  value_item = record { takes = taking; again = reading; whole = λ x w v ks text h. (item_item (represented_by g name) a name).whole x w v ks text h.spelled }
     where
       taking : (x : Value) (c d : ReadState) → IsBytes c.spot.bytes → IsAligned a c.spot → attribute_value_at g name c ≡ told (x, d) → Went a (SpellsAttributeValue g name x) c d
       taking x c d fits al r =
@@ -113,16 +123,18 @@ module _ (g : Setting) (name : NameId) where
           let k = (item_item (represented_by g name) a name).takes u.0.0 c u.0.1 fits al u.1 in
           subst (λ (z : Value × ReadState). Went a (SpellsAttributeValue g name z.0) c z.1) e.1 (record {
             text = k.text;
+            charges = k.charges;
             spelled = record { there = e.0; spelled = k.spelled };
             front = k.front;
             aligned = k.aligned;
             fits = k.fits;
           })
 
-      reading : (x : Value) (s : Spot) (w v : Context) (text more : List Bool) → IsBytes s.bytes → IsAligned a s → SpellsAttributeValue g name x w v text → rest s ≡ text ++ more → attribute_value_at g name (read_state s w) ≡ told (x, read_state (moved s (length text)) v)
-      reading x s w v text more fits al h e =
-          let r = (item_item (represented_by g name) a name).again x s w v text more fits al h.spelled e in
-          rw (r, h.there) refl
+      reading : (x : Value) (s : Spot) (w v : Partitions) (ks : List Charge) (text more : List Bool) → IsBytes s.bytes → IsAligned a s → SpellsAttributeValue g name x w v ks text → rest s ≡ text ++ more
+          → (m : Metering) → attribute_value_at g name (read_state s (context m w)) ≡ charging (later s.place ks) m (Ok (x, (moved s (length text), v)))
+      reading x s w v ks text more fits al h e m =
+          let r = (item_item (represented_by g name) a name).again x s w v ks text more fits al h.spelled e m in
+          rw h.there (ap (λ (z : Result (Value × ReadState) Failure). z >>= λ found. told found) r ∙ told_again (charging (later s.place ks) m (Ok (x, (moved s (length text), v)))))
 
   value_goes : ReadsOn {X = Value} (attribute_value_at g name)
   unfolding attribute_value_at no_type

@@ -12,7 +12,7 @@ use Rattle.exi_gram.specs.Switches.{align_of}
 use Rattle.exi_gram.proofs.CodeLaws.{spelled_item}
 use Rattle.exi_meter.specs.Metering.{Metering, event_fits, level_fits, with_event, with_level}
 use Rattle.exi_typed.specs.ReadStates.{Context, ReadState, Failure, failing}
-use Rattle.exi_typed.proofs.ContextItems.{ContextItem, fine, told, told_is}
+use Rattle.exi_typed.proofs.ContextItems.{ContextItem, fine, told, told_is, was_taken, where_taken}
 use Rattle.exi_reader.specs.Configurations.{Config, Setting, read_state_in, reached, rules_of, spot_in}
 use Rattle.exi_reader.specs.OneEvent.{at_event, behind, charge_at, event_charge, followed, level_charge, moved_limit, one, remembered, unless}
 use Rattle.exi_reader.specs.Plans.{Given, Plan, alone_in, plan_of}
@@ -111,7 +111,7 @@ module _ (b : Align) (bytes : List ℕ) (octets : IsBytes bytes) where
         | inl u ↦ (
             let k = unless_fails (p.refused found.0) bit found.1.context.meter e u in
             let t = item.takes found.0 (read_state_in bytes m c) found.1 octets al r in
-            inr (inr (record { meter = m; charged = charged; item = found.0; content = t.text; more = rest found.1.spot; stands = t.front.parts; after = found.1.context; spelled = t.spelled; kind = k.0; refused = k.1; is = k.2 }))
+            inr (inr (record { meter = m; charged = charged; item = found.0; content = t.text; more = rest found.1.spot; stands = t.front.parts; after = found.1.context; charges = t.charges; spelled = t.spelled; taken = was_taken b p.Spells p.read item found.0 (read_state_in bytes m c) found.1 octets al r t; kind = k.0; refused = k.1; is = k.2 }))
             )
         | inr u ↦ absurd (no_told (remembered (p.make found.0 (reached (behind p.padded found.1) c))) e u.2)
       ]
@@ -128,7 +128,7 @@ module _ (b : Align) (bytes : List ℕ) (octets : IsBytes bytes) where
   plan_again bit p item c e al (inr (inl h)) = rw (charge_again bit p c.meter h.meter h.charged, h.refused) (ap (λ (z : Failure). fails z) (sym h.is))
   plan_again bit p item c e al (inr (inr h)) =
       let w : Context = record { meter = h.meter; tables = c.tables } in
-      let r = item.again h.item (spot_in bytes c) w h.after h.content h.more octets al h.spelled h.stands in
+      let r = where_taken b p.Spells p.read item h.item (spot_in bytes c) w h.after h.charges h.content h.more octets al h.spelled h.taken h.stands in
       rw (charge_again bit p c.meter h.meter h.charged, r, h.refused) (ap (λ (z : Failure). fails z) (sym h.is))
 
 -- ---- one event

@@ -12,7 +12,8 @@ use Rattle.exi_meter.specs.Metering.{Bounds, Metering, event_fits, level_fits, t
 use Rattle.exi_meter.specs.declared.tally.Tally.{Tally}
 use Rattle.exi_names.specs.Events.{Happening}
 use Rattle.exi_typed.specs.ReadStates.{ReadState, ContextReader, Failure, failing}
-use Rattle.exi_typed.specs.Metered.{Charge, IsMetered, Unmetered, charging}
+use Rattle.exi_typed.specs.Charging.{Charge, Unmetered, charging}
+use Rattle.exi_typed.specs.Metered.{IsMetered}
 use Rattle.exi_typed.proofs.ContextItems.{told}
 use Rattle.exi_reader.specs.Configurations.{Config, Setting, read_state_in, reached, rules_of, spot_in}
 use Rattle.exi_reader.specs.Laws.{IsWithinLimits, LimitsAreKept}

@@ -1,5 +1,6 @@
 -- The laws of sequential processing.
-use Rattle.std.specs.Prelude.{◌≡◌, ◌≢◌, ◌⊎◌, ◌≤◌, ℕ, ◌+◌, ◌*◌, false, List, [], ◌∷◌, ◌++◌, Option, Some, None, Ok, Err}
+use Rattle.std.specs.Prelude.{◌≡◌, ◌≢◌, ◌⊎◌, ◌<◌, ◌≤◌, ℕ, length, ◌+◌, ◌*◌, false, List, [], ◌∷◌, ◌++◌, Option, Some, None, Ok, Err}
+use Rattle.exi_bits.specs.declared.fault.Kind.TheVariants as kind
 use Rattle.exi_meter.specs.Metering.{Bounds}
 use Rattle.exi_meter.specs.declared.tally.Tally.{Tally}
 use Rattle.exi_names.specs.Events.{Happening, ed}
@@ -9,7 +10,7 @@ use Rattle.exi_reader.specs.Configurations.{Config, Setting}
 use Rattle.exi_reader.specs.Fragments.{fragments_at, fragments_in}
 use Rattle.exi_reader.specs.OneEvent.{one}
 use Rattle.exi_reader.specs.Plans.{Given}
-use Rattle.exi_reader.specs.Runs.{IsRun, IsSequence, Job, Leads, closing, events_of, failed_end, first, has_ended}
+use Rattle.exi_reader.specs.Runs.{IsRun, IsSequence, Job, Leads, events_of, failed_end, first, has_ended, whole_bytes}
 use Rattle.exi_reader.specs.Splices.{tally_of}
 use Rattle.exi_reader.specs.declared.end.End.{End}
 use Rattle.exi_reader.specs.declared.end.End.TheVariants as end
@@ -69,12 +70,22 @@ OneSequence = (j : Job) (start : Start) (limits : Bounds) (es fs : List Happenin
 abbrev pub FewTurns : Type 0
 FewTurns = (j : Job) (start : Start) (limits : Bounds) (es : List Happening) (e : End) (count : ℕ) → IsSequence j start limits es e count → count ≤ limits.events + 1 + 3 * (fragments_at start + fragments_in es)
 
+-- behind ED no whole byte is left, and the end is done at the place
+pub record IsDone (bytes : List ℕ) (c : Config) (e : End) : Type 0 where
+  pub none : length bytes ≤ whole_bytes c.place
+  pub is : e ≡ end.Done c.place c.meter.used c.root
+
+-- or one is, and it is at fault at its first bit
+pub record IsTrailing (bytes : List ℕ) (c : Config) (e : End) : Type 0 where
+  pub more : whole_bytes c.place < length bytes
+  pub is : e ≡ end.Fault (record { kind = kind.TrailingBytes; bit = 8 * whole_bytes c.place }) c.meter.used c.root
+
 -- The last event of a body is ED, behind which its end is done, or a whole byte more is at fault; or the end is a fault
 pub record EndsBehind (j : Job) (reached : Config) (event : Option Happening) (e : End) : Type 0 where
   pub given : Given
   pub steps : one j.setting j.bytes reached ≡ Ok given
   pub last : event ≡ Some ed
-  pub closed : e ≡ closing start.Body j.bytes given.1
+  pub closed : IsDone j.bytes given.1 e ⊎ IsTrailing j.bytes given.1 e
 
 pub record EndsIn (j : Job) (reached : Config) (event : Option Happening) (e : End) : Type 0 where
   pub failure : Failure

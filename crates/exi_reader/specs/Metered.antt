@@ -1,15 +1,18 @@
 -- One event charges a list of dues, whatever the meter is, and goes on without the meter. The limits are the codec's own.
-use Rattle.std.specs.Prelude.{◌≡◌, ℕ, Bool, List, [], ◌∷◌, Option, Result, Ok, Err, if◌then◌else◌}
+use Rattle.std.specs.Prelude.{◌≡◌, ℕ, Bool, List, [], ◌∷◌, ◌++◌, Option, Result, Ok, Err, if◌then◌else◌}
+use Rattle.exi_bits.specs.Bits.{rest}
 use Rattle.exi_bits.specs.declared.fault.Fault.{Fault}
 use Rattle.exi_bits.specs.declared.fault.Kind.{Kind}
 use Rattle.exi_bits.specs.declared.fault.Kind.TheVariants as kind
+use Rattle.exi_gram.specs.Books.{IsBook}
 use Rattle.exi_meter.specs.Metering.{Metering, event_fits, level_fits, text_fits, with_event, with_level, with_text}
 use Rattle.exi_names.specs.Events.{Happening}
 use Rattle.exi_typed.specs.ReadStates.{Failure}
 use Rattle.exi_reader.specs.Changes.{left_level}
-use Rattle.exi_reader.specs.Configurations.{Config, Setting}
+use Rattle.exi_reader.specs.Configurations.{Config, Setting, spot_in}
 use Rattle.exi_reader.specs.OneEvent.{one}
 use Rattle.exi_reader.specs.Plans.{Given}
+use Rattle.exi_reader.specs.Spelled.{IsIn, IsOne}
 
 -- one event, one level, so many units of text
 pub data Due : Type 0 where
@@ -58,3 +61,14 @@ pub record IsPaid (bit : ℕ) (read : Metering → Result Given Failure) : Type 
 
 abbrev pub OneIsMetered : Type 0
 OneIsMetered = (g : Setting) (bytes : List ℕ) (c : Config) → IsPaid c.place (λ m. one g bytes (with_meter m c))
+
+-- What is spelled here is read under any meter, whatever follows: the dues are asked in turn, and the first that does not fit is
+-- its limit's fault at the event's first bit. Under the configuration's own meter it comes to what is spelled
+pub record IsAsked (g : Setting) (bytes : List ℕ) (c : Config) (given : Given) : Type 0 where
+  pub dues : List Due
+  pub outcome_is : Outcome
+  pub is : (m : Metering) → one g bytes (with_meter m c) ≡ paying c.place dues m (Ok outcome_is)
+  pub own : paying c.place dues c.meter (Ok outcome_is) ≡ Ok given
+
+abbrev pub SpelledIsAsked : Type 0
+SpelledIsAsked = (g : Setting) (bytes : List ℕ) (c : Config) (given : Given) (text more : List Bool) → IsBook g → IsIn g bytes c → IsOne g c given text → rest (spot_in bytes c) ≡ text ++ more → IsAsked g bytes c given

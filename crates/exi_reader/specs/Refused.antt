@@ -12,6 +12,7 @@ use Rattle.exi_gram.specs.Codes.{Productions, first_values, group}
 use Rattle.exi_gram.specs.Laws.{SpellsCode}
 use Rattle.exi_gram.specs.Switches.{align_of}
 use Rattle.exi_meter.specs.Metering.{Metering, event_fits, level_fits}
+use Rattle.exi_typed.specs.Charging.{Charge, IsTaken}
 use Rattle.exi_typed.specs.ReadStates.{Context, Failure}
 use Rattle.exi_reader.specs.Configurations.{Config, Setting, read_state_in, rules_of, spot_in}
 use Rattle.exi_reader.specs.OneEvent.{moved_limit, one}
@@ -75,7 +76,9 @@ pub record IsItemRefused (bytes : List ℕ) (bit : ℕ) (p : Plan) (c : Config) 
   pub more : List Bool
   pub stands : rest (spot_in bytes c) ≡ content ++ more
   pub after : Context
-  pub spelled : p.Spells item (record { meter = meter; tables = c.tables }) after content
+  pub charges : List Charge
+  pub spelled : p.Spells item c.tables after.tables charges content
+  pub taken : IsTaken charges meter after.meter
   pub kind : Kind
   pub refused : p.refused item ≡ Some kind
   pub is : e ≡ failure_of kind bit after.meter

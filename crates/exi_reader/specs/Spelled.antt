@@ -8,6 +8,7 @@ use Rattle.exi_gram.specs.Books.{IsBook}
 use Rattle.exi_gram.specs.Laws.{SpellsCode}
 use Rattle.exi_gram.specs.Switches.{align_of}
 use Rattle.exi_meter.specs.Metering.{Metering, event_fits, level_fits, with_event, with_level}
+use Rattle.exi_typed.specs.Charging.{Charge, IsTaken}
 use Rattle.exi_typed.specs.ReadStates.{Context}
 use Rattle.exi_reader.specs.Configurations.{Config, Setting, rules_of, spot_in}
 use Rattle.exi_reader.specs.OneEvent.{one, remembered}
@@ -37,7 +38,7 @@ abbrev pub IsPadding : Bool → ℕ → List Bool → Type 0
 IsPadding false place text = text ≡ []
 IsPadding true place text = place + length text ≡ (place + 7) / 8 * 8
 
--- so many bits further on, with this beside
+-- so many bits further on, with this meter and these tables
 abbrev pub further : Config → ℕ → Context → Config
 further c bits b = record c { place = c.place + bits; meter = b.meter; tables = b.tables }
 
@@ -49,7 +50,9 @@ pub record IsFollowed (p : Plan) (c : Config) (given : Given) (text : List Bool)
   pub padding : List Bool
   pub parts : text ≡ content ++ padding
   pub after : Context
-  pub spelled : p.Spells item (record { meter = meter; tables = c.tables }) after content
+  pub charges : List Charge
+  pub spelled : p.Spells item c.tables after.tables charges content
+  pub taken : IsTaken charges meter after.meter
   pub free : p.refused item ≡ None
   pub padded : IsPadding p.padded (c.place + length content) padding
   pub is : given ≡ remembered (p.make item (further c (length text) after))

@@ -20,7 +20,7 @@ const START: Rule = Rule {
 };
 
 /// The place of the state that a production of a built-in grammar leads to.
-fn state_behind(room: Room, production: Learnable) -> u32
+pub fn state_behind(room: Room, production: Learnable) -> u32
     ensures { result ≡ state_behind room production }
 {
     match (room, production) {

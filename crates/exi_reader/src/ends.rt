@@ -29,7 +29,7 @@ use std::alloc::{AllocError, Global};
 use std::mem;
 
 /// The state at which reading begins.
-fn first_outer(options: &Options, start: Start) -> Outer
+pub fn first_outer(options: &Options, start: Start) -> Outer
     ensures { result ≡ first_outer_of (fragment options.now) start }
 {
     match start {
@@ -48,7 +48,7 @@ fn first_outer(options: &Options, start: Start) -> Outer
 }
 
 /// The string tables at the start of a stream.
-fn first_tables<T: Tables>(alloc: Global, book: &Book) -> Result<T, AllocError>
+pub fn first_tables<T: Tables>(alloc: Global, book: &Book) -> Result<T, AllocError>
     ensures tables { IfOk result (λ t. T.held t ≡ first_tables book.now) }
     ensures book { IsBook book.now }
     ensures names { IsStart book.now.schema.names }

@@ -3,7 +3,7 @@
 
 ghost use Rattle.exi_reader.specs.Fews.{FewAfterTurns};
 ghost use Rattle.exi_reader.specs.Laws.{AFaultEnds, ARunIsThere, ASequenceIsThere, EndIs, EndsAtEd, FewTurns, IsFrontOfRun, LimitsAreKept, NeverBack, OneRun, OneSequence, OneStepOrOneFault};
-ghost use Rattle.exi_reader.specs.Metered.{OneIsMetered};
+ghost use Rattle.exi_reader.specs.Metered.{OneIsMetered, SpelledIsAsked};
 ghost use Rattle.exi_reader.specs.Refused.{FaultIsRefused, OneSpelledOrOneFault, RefusedIsFault};
 ghost use Rattle.exi_reader.specs.Spelled.{OneAtMost, OneIsSpelled, SpelledIsOne};
 ghost use Rattle.exi_reader.specs.Splices.{SplicesAreRuns};
@@ -111,6 +111,12 @@ pub fn limits_are_kept()
 /// One event charges a list of dues, whatever the meter is, and goes on without the meter.
 pub fn one_is_metered()
     ensures law { OneIsMetered }
+{}
+
+/// What is spelled is read wherever the meter takes its dues in turn; where it does not, the first due that
+/// passes is the limit's fault, at the event's first bit.
+pub fn spelled_is_asked()
+    ensures law { SpelledIsAsked }
 {}
 
 /// Where a fragment was read by itself, under any limits, and what it charged fits, a reader that stands

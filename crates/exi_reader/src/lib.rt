@@ -40,10 +40,20 @@ mod step;
 mod stepper;
 mod turn;
 
+pub use alone::Alone;
+pub use aside::{Aside, Asides};
+pub use charges::Charges;
+pub use codes::state_behind;
+pub use elements::Elements;
 pub use end::End;
+pub use ends::{first_outer, first_tables};
 pub use frames::{Element, Outer, State};
 pub use job::Job;
+pub use parts::{
+    alone_in, close, go_to, innermost, is_strict, is_type, keeps_prefixes, learn, learn_name, open,
+};
 pub use read::read_from;
 pub use reader::Reader;
+pub use rule::{Content, Rule};
 pub use start::Start;
 pub use turn::{ReadStop, Turn};

@@ -42,14 +42,14 @@ use exi_typed::{NameAt, read_known, read_literal, read_name, read_name_value};
 use std::alloc::{AllocError, Global};
 
 /// Whether names keep their prefixes.
-fn keeps_prefixes(options: &Options) -> bool
+pub fn keeps_prefixes(options: &Options) -> bool
     ensures { result ≡ prefixes options.now }
 {
     options.flags.contains(OptionFlags::PREFIXES)
 }
 
 /// Whether what a schema does not describe is refused.
-fn is_strict(options: &Options) -> bool
+pub fn is_strict(options: &Options) -> bool
     ensures { result ≡ strict options.now }
 {
     options.flags.contains(OptionFlags::STRICT)

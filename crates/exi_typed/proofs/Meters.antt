@@ -6,19 +6,20 @@ use Rattle.exi_bits.specs.declared.fault.Kind.TheVariants as kind
 use Rattle.exi_bits.specs.Bits.{Spot}
 use Rattle.exi_bits.specs.Repeat.{Reader, times}
 use Rattle.exi_bits.specs.Unsigned.{◌>>=◌, below_at, unsigned_at}
-use Rattle.exi_items.specs.Charges.{Charged, text_charge}
+use Rattle.exi_items.specs.Charges.{text_charge}
 use Rattle.exi_meter.specs.Metering.{Metering, text_fits, with_text}
 use Rattle.exi_names.specs.declared.names.NameId.{NameId}
 use Rattle.exi_names.specs.Seen.{Value}
 use Rattle.exi_names.specs.Seen as value
 use Rattle.exi_tables.specs.Partitions.{Partitions, live_at, locals, prefixes, uris, values, with_local, with_prefix, with_uri, with_value}
-use Rattle.exi_text.specs.Literals.{char_at, chars_at}
+use Rattle.exi_text.specs.Literals.{char_at}
 use Rattle.exi_typed.specs.ReadStates.{ReadState, ContextReader, Failure, at_spot_of, failing}
 use Rattle.exi_typed.specs.Items.{Tabled, item_at, qualified, string}
-use Rattle.exi_typed.specs.Metered.{Charge, IsMetered, Metered, ReadingsAreMetered, Unmetered, charging, metered}
+use Rattle.exi_typed.specs.Charging.{Charge, Unmetered, charging, metered}
+use Rattle.exi_typed.specs.Metered.{IsMetered, Metered, ReadingsAreMetered}
 use Rattle.exi_typed.specs.NameValues.{name_value_at}
 use Rattle.exi_typed.specs.Strings.{Declaration, Growth, Named, Partition, charged_at, declaration_at, declared_under, hit_at, indexed_at, known_at, listed, literal_at, local_at, missed_at, name_at, name_under, own_values, place_in, placed_at, prefix_at, told_prefix, uri_at, value_at}
-use Rattle.exi_typed.proofs.ContextItems.{context, charged, read_state, fine, told}
+use Rattle.exi_typed.proofs.ContextItems.{context, grown, missed_charges, read_state, told}
 
 -- ---- under `do`
 -- a result goes into what follows
@@ -103,31 +104,12 @@ unfolding hit_at
 hit_metered a partition s p = behind_metered (below_at partition.count a kind.BadPlace) (λ place. placed_at s (partition.text_at place)) (λ place. placed_metered s (partition.text_at place)) s p
 
 -- ---- a miss
-abbrev grown : Growth → Partitions → Result (List ℕ × Spot) Fault → Unmetered (List ℕ)
-grown grow p (Ok text) = Ok (text.0, (text.1, grow p text.0))
-grown grow p (Err f) = Err f
-
-abbrev missing : Growth → Partitions → List ℕ × Charged → Result (List ℕ × ReadState) Failure
-missing grow p text = told (text.0, read_state text.1.spot (context text.1.meter (grow p text.0)))
-
 missed_metered : (set : Option (List ℕ)) (a : Align) (grow : Growth) (count : ℕ) → IsMetered (missed_at set a grow count)
-unfolding missed_at chars_at text_charge
 missed_metered set a grow count s p = record {
   charges = record { units = count; bit = s.place } ∷ [];
   rest = grown grow p (times (char_at set a) count s);
-  is = λ m. by_fit m (text_fits m count);
+  is = λ m. missed_charges set a grow count s p m;
 }
-  where
-    limit : Fault
-    limit = record { kind = kind.TextLimit; bit = s.place }
-
-    in_chars : (m : Metering) (r : Result (List ℕ × Spot) Fault) → (failing m (r >>= λ text. fine {X = List ℕ × Charged} (text.0, charged text.1 m)) >>= missing grow p) ≡ metered m (grown grow p r)
-    in_chars m (Ok text) = refl
-    in_chars m (Err f) = refl
-
-    by_fit : (m : Metering) (b : Bool) → (failing (cond b (with_text m count) m) (cond b (Ok (with_text m count)) (Err limit) >>= λ n. times (char_at set a) count s >>= λ text. fine {X = List ℕ × Charged} (text.0, charged text.1 n)) >>= missing grow p) ≡ cond b (metered (with_text m count) (grown grow p (times (char_at set a) count s))) (Err (record { fault = limit; meter = m }))
-    by_fit m true = in_chars (with_text m count) (times (char_at set a) count s)
-    by_fit m false = refl
 
 pub literal_metered : (a : Align) (grow : Growth) → IsMetered (literal_at a grow)
 unfolding literal_at

@@ -8,9 +8,11 @@ use Rattle.exi_names.specs.Datatypes as datatype
 use Rattle.exi_names.specs.declared.names.NameId.{NameId}
 use Rattle.exi_names.specs.Seen.{Value}
 use Rattle.exi_names.specs.Seen as value
-use Rattle.exi_typed.specs.ReadStates.{Context, ContextReader}
+use Rattle.exi_tables.specs.Partitions.{Partitions}
+use Rattle.exi_typed.specs.Charging.{Charge}
+use Rattle.exi_typed.specs.ReadStates.{ContextReader}
 use Rattle.exi_typed.specs.NameValues.{SpellsNameValue, name_value_at}
-use Rattle.exi_typed.specs.Spelled.{SpellsValue}
+use Rattle.exi_typed.specs.Spelled.{OneSpelling, SpellsValue}
 use Rattle.exi_typed.specs.Strings.{Named, value_at}
 
 -- the representations whose items go through the string tables
@@ -53,16 +55,16 @@ item_at (qualified keep) a name c = do
   found ← name_value_at keep a c
   Ok (value.name found.0.name, found.1)
 
-pub record SpellsString (a : Align) (name : NameId) (v : Value) (w u : Context) (bits : List Bool) : Type 0 where
+pub record SpellsString (a : Align) (name : NameId) (v : Value) (p q : Partitions) (ks : List Charge) (bits : List Bool) : Type 0 where
   pub string : List ℕ
   pub is : v ≡ value.text string
-  pub spelled : SpellsValue None a name string w u bits
+  pub spelled : SpellsValue None a name string p q ks bits
 
-pub record SpellsQualified (keep : Bool) (a : Align) (v : Value) (w u : Context) (bits : List Bool) : Type 0 where
+pub record SpellsQualified (keep : Bool) (a : Align) (v : Value) (p q : Partitions) (ks : List Charge) (bits : List Bool) : Type 0 where
   pub name : Named
   pub is : v ≡ value.name name.name
-  pub spelled : SpellsNameValue keep a name w u bits
+  pub spelled : SpellsNameValue keep a name p q ks bits
 
-abbrev pub SpellsItem : Tabled → Align → NameId → Value → Context → Context → List Bool → Type 0
-SpellsItem string a name v w u bits = SpellsString a name v w u bits
-SpellsItem (qualified keep) a name v w u bits = SpellsQualified keep a v w u bits
+abbrev pub SpellsItem : Tabled → Align → NameId → Value → OneSpelling
+SpellsItem string a name v p q ks bits = SpellsString a name v p q ks bits
+SpellsItem (qualified keep) a name v p q ks bits = SpellsQualified keep a v p q ks bits

@@ -1,3 +1,4 @@
+pub mod Charging
 pub mod ReadStates
 pub mod Items
 pub mod Laws

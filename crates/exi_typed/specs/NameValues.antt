@@ -1,12 +1,13 @@
 -- Values that are names, as that of xsi:type (EXI 1.0, sections 7.1.7 and 8.4.3).
-use Rattle.std.specs.Prelude.{◌≡◌, Bool, List, []}
+use Rattle.std.specs.Prelude.{Bool}
 use Rattle.exi_bits.specs.declared.align.Align.{Align}
 use Rattle.exi_bits.specs.Unsigned.{◌>>=◌}
 use Rattle.exi_items.specs.Charges.{text_charge}
 use Rattle.exi_meter.specs.Metering.{Metering}
-use Rattle.exi_typed.specs.ReadStates.{Context, ReadState, ContextReader, failing}
+use Rattle.exi_typed.specs.ReadStates.{ReadState, ContextReader, failing}
+use Rattle.exi_typed.specs.Charging.{one_charge}
 use Rattle.exi_typed.specs.Laws.{Agrees}
-use Rattle.exi_typed.specs.Spelled.{Follows, Pays, SpellsName}
+use Rattle.exi_typed.specs.Spelled.{Follows, ChargesOnly, OneSpelling, SpellsName}
 use Rattle.exi_typed.specs.Strings.{Named, name_at}
 
 abbrev pub with_meter : ReadState → Metering → ReadState
@@ -19,13 +20,9 @@ name_value_at keep a c = do
   meter ← failing c.context.meter (text_charge 1 c.spot.place c.context.meter)
   name_at keep a (with_meter c meter)
 
--- one unit is charged, and no bits
-pub record IsUnit (w v : Context) (text : List Bool) : Type 0 where
-  pub bits : text ≡ []
-  pub pays : Pays 1 w v
-
-abbrev pub SpellsNameValue : Bool → Align → Named → Context → Context → List Bool → Type 0
-SpellsNameValue keep a n w v text = Follows IsUnit (SpellsName keep a n) w v text
+-- one unit is charged before it, and no bits
+abbrev pub SpellsNameValue : Bool → Align → Named → OneSpelling
+SpellsNameValue keep a n p q ks text = Follows (ChargesOnly (one_charge 1 0)) (SpellsName keep a n) p q ks text
 
 abbrev pub NameValuesAgree : Type 0
 NameValuesAgree = (keep : Bool) (a : Align) → Agrees a (SpellsNameValue keep a) (name_value_at keep a)

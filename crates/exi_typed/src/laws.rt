@@ -1,9 +1,10 @@
 //! What is spelled and what is read are the same. Each law is a function that does nothing: what it
 //! ensures is the law.
 //!
-//! A law whose name ends in `agree` says three things, under the same string tables and the same meter. What
-//! is read is spelled so, and the tables and the meter go on as the spelling says. What is spelled so is
-//! read, whatever follows. No spelling is a proper prefix of another, and each spells one value.
+//! A law whose name ends in `agree` says three things, under the same string tables. What is read is spelled
+//! so, the tables go on as the spelling says, and the meter took its charges in turn. What is spelled so is
+//! read, whatever follows, wherever a meter takes the charges in turn; where it does not, the first charge that
+//! passes the limit is the fault, at its bit. No spelling is a proper prefix of another, and each spells one value.
 //!
 //! The others say what each reading keeps, and where a name stands in the tables once it is read.
 
@@ -20,6 +21,7 @@ ghost use Rattle.exi_typed.specs.WrittenLaws.{
   LiteralIsWritten,
   LocalIsWritten,
   NameIsWritten,
+  PrefixIsWritten,
   StringIsWritten,
   UriIsWritten,
   WrittenIsRead,
@@ -113,6 +115,7 @@ pub fn written_is_spelled()
     ensures local { LocalIsWritten }
     ensures string { StringIsWritten }
     ensures name { NameIsWritten }
+    ensures prefix { PrefixIsWritten }
     ensures declaration { DeclarationIsWritten }
 {}
 

@@ -1,4 +1,4 @@
-use Rattle.exi_typed.proofs.WrittenSpelled.{declaration_written, literal_written, local_written, name_written, string_written, uri_written}
+use Rattle.exi_typed.proofs.WrittenSpelled.{declaration_written, literal_written, local_written, name_written, prefix_written, string_written, uri_written}
 use Rattle.exi_typed.proofs.laws.written_is_spelled.Goals as goal
 
 pub returns : goal.returns
@@ -8,5 +8,6 @@ returns c = record {
   local = local_written;
   string = string_written;
   name = name_written;
+  prefix = prefix_written;
   declaration = declaration_written;
 }
