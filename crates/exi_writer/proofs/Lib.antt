@@ -1,6 +1,4 @@
-pub mod Agreed
-pub mod Names
-pub mod Values
+pub mod Leaves
 pub mod Contents
 pub mod Tables
 pub mod OneEvent

@@ -8,7 +8,10 @@ use Rattle.exi_bits.specs.declared.fault.Kind.{Kind}
 use Rattle.exi_gram.specs.Codes.{Coded, code_bits, coded}
 use Rattle.exi_gram.specs.Laws.{codes}
 use Rattle.exi_gram.specs.Switches.{align_of}
-use Rattle.exi_meter.specs.Metering.{Metering, event_fits, level_fits}
+use Rattle.exi_meter.specs.Metering.{Metering, event_fits, level_fits, text_fits, with_text}
+use Rattle.exi_tables.specs.Partitions.{Partitions}
+use Rattle.exi_typed.specs.Charging.{Charge, IsTaken, units_of}
+use Rattle.exi_typed.specs.ReadStates.{Context}
 use Rattle.exi_names.specs.Events.{Happening}
 use Rattle.exi_reader.specs.Configurations.{Config, Setting, rules_of}
 use Rattle.exi_reader.specs.OneEvent.{remembered}
@@ -18,7 +21,6 @@ use Rattle.exi_reader.specs.Runs.{has_ended}
 use Rattle.exi_reader.specs.Spelled.{IsFollowed, IsOne, IsPadding, counted_by, entered_by, further}
 use Rattle.exi_writer.specs.OneEvent.{Refused, Written, ◌>>=◌, behind_code, by_code, chosen, fewest, first_of, followed, followed_by, is_taken, matches, one_deeper, one_more, or_else, padding, paid, written, written_by}
 use Rattle.exi_writer.specs.Pieces.{Piece}
-use Rattle.exi_writer.proofs.Agreed.{context}
 use Rattle.exi_writer.specs.Sound.{HasSoundTables}
 use Rattle.exi_writer.proofs.Contents.{IsContent, contents_agree}
 use Rattle.exi_writer.proofs.Tables.{made_sound, made_start}
@@ -47,7 +49,7 @@ or_stands : (test : Rule → Bool) (xs : List (Coded Rule)) (a b : Option (Coded
 or_stands test xs None b x first second e = second x e
 or_stands test xs (Some y) b x first second e = first x e
 
-fewest_stands : (test : Rule → Bool) (xs : List (Coded Rule)) (x : Coded Rule) → fewest test xs ≡ Some x → Stands test xs x
+pub fewest_stands : (test : Rule → Bool) (xs : List (Coded Rule)) (x : Coded Rule) → fewest test xs ≡ Some x → Stands test xs x
 fewest_stands test xs x e =
     or_stands test xs (first_of 1 test xs) (or_else (first_of 2 test xs) (first_of 3 test xs)) x (λ y f. first_stands 1 test xs y f)
     (λ y f. or_stands test xs (first_of 2 test xs) (first_of 3 test xs) y (λ z h. first_stands 2 test xs z h) (λ z h. first_stands 3 test xs z h) f) e
@@ -70,6 +72,17 @@ deeper_parts true m n e = elim (cases_Bool (level_fits m)) [
 pub bind_parts : {A B : Type 0} (r : Result A Refused) (f : A → Result B Refused) (b : B) → (r >>= f) ≡ Ok b → (a : A) × (r ≡ Ok a) × (f a ≡ Ok b)
 bind_parts {A} {B} (Ok a) f b e = (a, refl, e)
 bind_parts {A} {B} (Err why) f b e = absurd cc
+
+-- what is paid is taken in turn
+taken_of : (ks : List Charge) (m n : Metering) → paid (units_of ks) m ≡ Ok n → IsTaken ks m n
+taken_of [] m n e = let k : Ok m ≡ Ok n = e in sym cc
+taken_of (k ∷ ks) m n e = elim (cases_Bool (text_fits m k.units)) [
+  | inl h ↦ (h, taken_of ks (with_text m k.units) n (rw h at e))
+  | inr h ↦ absurd (let f = rw h at e in cc)
+]
+
+abbrev pub context : Metering → Partitions → Context
+context m p = record { meter = m; tables = p }
 
 -- ---- padding
 is_padded : (padded : Bool) (place : ℕ) → IsPadding padded place (padding padded place)
@@ -117,7 +130,9 @@ followed_spelled plan c piece w may free content e =
         padding = padding plan.padded (c.place + length piece.bits);
         parts = refl;
         after = context d.0 piece.tables;
-        spelled = content.spelled b.0 d.0 d.1;
+        charges = content.written.charges;
+        spelled = content.written.spelled;
+        taken = taken_of content.written.charges b.0 d.0 (subst (λ (us : List ℕ). paid us b.0 ≡ Ok d.0) (sym content.written.are) d.1);
         free = free;
         padded = is_padded plan.padded (c.place + length piece.bits);
         is = refl;
@@ -155,7 +170,7 @@ one_spelled_by g c e w (Some x) sound is h =
     let content = contents_agree g (alone_in c.elements c.outer) c x.item x.item.on e c.tables piece sound.here t.1 in
     let v = b.0 in
     let given_piece : followed_by plan further_on piece ≡ Ok v = ap (followed plan further_on) (sym t.1) ∙ b.1 in
-    let f = followed_spelled plan further_on piece v record { free = none_is plan.barred free.0; placed = none_is plan.misplaced free.1 } t.2 record { spelled = content.spelled; sound = content.sound } given_piece in
+    let f = followed_spelled plan further_on piece v record { free = none_is plan.barred free.0; placed = none_is plan.misplaced free.1 } t.2 content given_piece in
     rw b.2 record {
       one = record {
         rule = x.item;

@@ -10,7 +10,7 @@ use Rattle.exi_names.specs.Events.{Happening}
 use Rattle.exi_names.specs.Events as event
 use Rattle.exi_names.specs.Seen.{Value, Values, no_more, and}
 use Rattle.exi_names.specs.Seen as shape
-use Rattle.exi_typed.specs.Strings.{Declaration, Named, no_growth}
+use Rattle.exi_typed.specs.Strings.{Declaration, Named}
 use Rattle.exi_reader.specs.Changes.{innermost}
 use Rattle.exi_reader.specs.Configurations.{Config, Setting}
 use Rattle.exi_reader.specs.Contents.{is_missing}
@@ -30,12 +30,14 @@ abbrev pub are_items : Values → Bool
 are_items no_more = true
 are_items (and v vs) = is_item v && are_items vs
 
--- the text that stands for a value where a string is written: its canonical one. A name has none, nor has a list that
--- holds a list or a name
+-- whether a value has a text where a string is written: a name has none, nor has a list that holds a list or a name
+abbrev pub has_string : Value → Bool
+has_string (shape.items vs) = are_items vs
+has_string v = is_item v
+
+-- that text, its canonical one
 abbrev pub text_of : Value → Option (List ℕ)
-text_of (shape.name n) = None
-text_of (shape.items vs) = if are_items vs then Some (canonical (shape.items vs)) else None
-text_of v = Some (canonical v)
+text_of v = if has_string v then Some (canonical v) else None
 
 -- ---- writing that may have nothing to write
 abbrev pub of : {A X : Type 0} → Option A → (A → Writing X) → Writing X
@@ -115,7 +117,7 @@ abbrev pub attribute_by : Setting → Telling → QName × Value → Writing (Na
 attribute_by g t x p = both (told_name g t x.0) (λ name. attribute_value g name.id x.1) p
 
 abbrev pub text : Setting → List ℕ → Writing (List ℕ)
-text g x p = piece.literal no_growth (align_of g.options) x p
+text g x p = piece.literal (align_of g.options) x p
 
 abbrev pub two_texts : Setting → List ℕ × List ℕ → Writing (List ℕ × List ℕ)
 two_texts g x p = both (text g x.0) (λ first. text g x.1) p

@@ -32,16 +32,16 @@ abbrev pub matches : Setting → Config → Happening → Rule → Bool
 matches g c e r = is_none (plan_of g c r).barred && is_none (plan_of g c r).misplaced && is_taken (plan_of g c r).refused (written_by g c r e c.tables)
 
 -- the first of so many parts
-abbrev pub first_of : ℕ → (Rule → Bool) → List (Coded Rule) → Option (Coded Rule)
+abbrev pub first_of : {X : Type 0} → ℕ → (X → Bool) → List (Coded X) → Option (Coded X)
 first_of parts test [] = None
 first_of parts test (x ∷ xs) = if (length x.parts == parts) && test x.item then Some x else first_of parts test xs
 
-abbrev pub or_else : Option (Coded Rule) → Option (Coded Rule) → Option (Coded Rule)
+abbrev pub or_else : {X : Type 0} → Option (Coded X) → Option (Coded X) → Option (Coded X)
 or_else None other = other
 or_else (Some x) other = Some x
 
 -- codes have at most three parts, and stand in their order
-abbrev pub fewest : (Rule → Bool) → List (Coded Rule) → Option (Coded Rule)
+abbrev pub fewest : {X : Type 0} → (X → Bool) → List (Coded X) → Option (Coded X)
 fewest test xs = or_else (first_of 1 test xs) (or_else (first_of 2 test xs) (first_of 3 test xs))
 
 abbrev pub chosen : Setting → Config → Happening → Option (Coded Rule)
