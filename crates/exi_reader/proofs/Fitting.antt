@@ -1,10 +1,8 @@
 -- What a code can tell in a sound configuration: which terminals fit each state, and of which names.
-use Rattle.std.proofs.Common.{◌≡◌, ◌⊎◌, ℕ, zero, suc, Bool, true, false, cond, List, [], ◌∷◌, ◌++◌, length, filter, map, get_or, Option, Some, None, inl, inr, refl, sym, ap, subst}
+use Rattle.std.proofs.Common.{◌≡◌, ◌⊎◌, ℕ, zero, suc, Bool, true, false, List, [], ◌∷◌, ◌++◌, map, get_or, Option, Some, None, inl, inr, refl, sym, subst}
 use Rattle.std.specs.Prelude.{All, slice_get}
-use Rattle.std.proofs.lemmas.List.Elements.{All-append, All-cons, All-filter, All-from_recursion, All-head, All-map, All-nil, All-tail, All-weaker}
+use Rattle.std.proofs.lemmas.List.Elements.{All-append, All-from_recursion, All-head, All-nil, All-weaker}
 use Rattle.std.proofs.lemmas.Option.{get_or_from_slice_get, slice_get_within}
-use Rattle.exi_bits.specs.declared.align.Align.{Align}
-use Rattle.exi_bits.specs.Bits.{Spot}
 use Rattle.exi_builtin.specs.declared.learnable.Learnable.{Learnable}
 use Rattle.exi_builtin.specs.declared.learnable.Learnable.TheVariants as learnable
 use Rattle.exi_builtin.specs.declared.learnable.Room.{Room}
@@ -15,15 +13,15 @@ use Rattle.exi_builtin.specs.Learning.{Learning, behind_learned, productions, ru
 use Rattle.exi_builtin.proofs.Rules.{rules_are}
 use Rattle.exi_gram.specs.declared.options.Options.{Options}
 use Rattle.exi_gram.specs.Books.{HoldsStates, IsBook, state_of, is_kept as is_entry_kept, placed_in}
-use Rattle.exi_gram.specs.Codes.{Productions, Second, code_at, first_told, first_values, group, kept_second, kept_seconds, mapped, mapped_second, member_at, part_at, pruned, second_at, second_told, single, told}
+use Rattle.exi_gram.specs.Codes.{Productions, Second, group, mapped, single}
 use Rattle.exi_gram.specs.Naming.{Entry, entry_of}
 use Rattle.exi_gram.specs.Switches.{align_of}
 use Rattle.exi_gram.specs.Tables.{no_productions}
 use Rattle.exi_gram.specs.Terminals as gram
 use Rattle.exi_gram.specs.Wholes.{document, document_content, document_end, whole_start}
+use Rattle.exi_gram.proofs.CodeTells.{Each, EachOf, code_is, each_mapped, each_pruned}
 use Rattle.exi_names.specs.StartTables.{Names}
 use Rattle.exi_tables.specs.Partitions.{Partitions}
-use Rattle.exi_typed.proofs.ContextItems.{bind_fine, fine, fine_is}
 use Rattle.exi_reader.specs.Configurations.{Config, Setting, built_in, element_rules, in_book, outer_rules, rules_in, rules_of, spot_in}
 use Rattle.exi_reader.specs.Rules.{Rule, book_rule, built_in_rule, built_in_terminal, fragment_start, rule_of}
 use Rattle.exi_reader.specs.Sound.{CodesFit, FitsContent, FitsDocument, FitsIn, FitsInside, FitsOutside, FitsStart, IsElementOfName, IsOfNames, IsOuter, IsSoundBody, IsSoundElement, IsSoundGrammar, IsSoundLearning, IsStateOfName}
@@ -33,88 +31,11 @@ use Rattle.exi_reader.specs.declared.frames.Outer.TheVariants as outer
 use Rattle.exi_reader.specs.declared.frames.State.{State}
 use Rattle.exi_reader.specs.declared.frames.State.TheVariants as state
 
--- ---- a code tells one of the productions
-abbrev pub EachOf : {X : Type 0} → (X → Type 0) → Second X → Type 0
-EachOf P (single x) = P x
-EachOf P (group xs) = All P xs
-
--- what holds of each production
-pub record Each {X : Type 0} (P : X → Type 0) (p : Productions X) : Type 0 where
-  pub firsts : All P p.firsts
-  pub seconds : All (EachOf P) p.seconds
-
 at_place : {X : Type 0} (P : X → Type 0) (xs : List X) (place : ℕ) (x : X) → All P xs → slice_get xs place ≡ Some x → P x
 at_place P xs place x all e = subst P (get_or_from_slice_get xs place x x e) (all place x (slice_get_within xs place x e))
 
-told_is : {X : Type 0} (o : Option X) (s t : Spot) (x : X) → told o s ≡ fine (x, t) → o ≡ Some x
-told_is {X} (Some y) s t x e = ap (λ (z : X × Spot). Some z.0) (fine_is (y, s) (x, t) e)
-told_is None s t x e = absurd cc
-
-member_is : {X : Type 0} (P : X → Type 0) (a : Align) (xs : List X) → All P xs → (s t : Spot) (x : X) → member_at a xs s ≡ fine (x, t) → P x
-unfolding member_at
-member_is P a xs all s t x e =
-    let b = bind_fine (part_at (length xs) a s) (λ (third : ℕ × Spot). told (slice_get xs third.0) third.1) (x, t) e in
-    at_place P xs b.0.0 x all (told_is (slice_get xs b.0.0) b.0.1 t x b.2)
-
-second_told_is : {X : Type 0} (P : X → Type 0) (a : Align) (xs : List (Second X)) → All (EachOf P) xs → (place : ℕ) (o : Option (Second X)) → slice_get xs place ≡ o → (s t : Spot) (x : X) → second_told a o s ≡ fine (x, t) → P x
-second_told_is P a xs all place None is s t x e = absurd cc
-second_told_is {X} P a xs all place (Some (single y)) is s t x e = subst P (ap (λ (z : X × Spot). z.0) (fine_is (y, s) (x, t) e)) (at_place (EachOf P) xs place (single y) all is)
-second_told_is P a xs all place (Some (group ys)) is s t x e = member_is P a ys (at_place (EachOf P) xs place (group ys) all is) s t x e
-
-second_is : {X : Type 0} (P : X → Type 0) (a : Align) (xs : List (Second X)) → All (EachOf P) xs → (s t : Spot) (x : X) → second_at a xs s ≡ fine (x, t) → P x
-unfolding second_at
-second_is P a xs all s t x e =
-    let b = bind_fine (part_at (length xs) a s) (λ (second : ℕ × Spot). second_told a (slice_get xs second.0) second.1) (x, t) e in
-    second_told_is P a xs all b.0.0 (slice_get xs b.0.0) refl b.0.1 t x b.2
-
-first_told_is : {X : Type 0} (P : X → Type 0) (a : Align) (p : Productions X) → Each P p → (place : ℕ) (o : Option X) → slice_get p.firsts place ≡ o → (s t : Spot) (x : X) → first_told a p.seconds o s ≡ fine (x, t) → P x
-first_told_is {X} P a p all place (Some y) is s t x e = subst P (ap (λ (z : X × Spot). z.0) (fine_is (y, s) (x, t) e)) (at_place P p.firsts place y all.firsts is)
-first_told_is P a p all place None is s t x e = second_is P a p.seconds all.seconds s t x e
-
-pub code_is : {X : Type 0} (P : X → Type 0) (a : Align) (p : Productions X) → Each P p → (s t : Spot) (x : X) → code_at a p s ≡ fine (x, t) → P x
-unfolding code_at
-code_is P a p all s t x e =
-    let b = bind_fine (part_at (first_values p) a s) (λ (first : ℕ × Spot). first_told a p.seconds (slice_get p.firsts first.0) first.1) (x, t) e in
-    first_told_is P a p all b.0.0 (slice_get p.firsts b.0.0) refl b.0.1 t x b.2
-
--- ---- pruned, mapped, and with what was learned in front
-abbrev unless_empty : {X : Type 0} → List X → List (Second X)
-unless_empty [] = []
-unless_empty (x ∷ xs) = group (x ∷ xs) ∷ []
-
-rest_left : {X : Type 0} (P : X → Type 0) (xs : List X) → All P xs → All (EachOf P) (unless_empty xs)
-rest_left P [] h = All-nil (EachOf P)
-rest_left P (x ∷ xs) h = All-cons (EachOf P) (group (x ∷ xs)) [] h (All-nil (EachOf P))
-
-group_left : {X : Type 0} (P : X → Type 0) (keep : X → Bool) (xs : List X) → All P xs → All (EachOf P) (kept_second keep (group xs))
-group_left P keep xs all = rest_left P (filter keep xs) (All-filter keep P xs all)
-
-single_left : {X : Type 0} (P : X → Type 0) (b : Bool) (x : X) → P x → All (EachOf P) (cond b (single x ∷ []) [])
-single_left P true x h = All-cons (EachOf P) (single x) [] h (All-nil (EachOf P))
-single_left P false x h = All-nil (EachOf P)
-
-second_left : {X : Type 0} (P : X → Type 0) (keep : X → Bool) (x : Second X) → EachOf P x → All (EachOf P) (kept_second keep x)
-second_left P keep (single x) h = single_left P (keep x) x h
-second_left P keep (group xs) h = group_left P keep xs h
-
-seconds_left : {X : Type 0} (P : X → Type 0) (keep : X → Bool) (xs : List (Second X)) → All (EachOf P) xs → All (EachOf P) (kept_seconds keep xs)
-seconds_left P keep [] h = All-nil (EachOf P)
-seconds_left P keep (x ∷ xs) h = All-append (EachOf P) (kept_second keep x) (kept_seconds keep xs) (second_left P keep x (All-head (EachOf P) x xs h)) (seconds_left P keep xs (All-tail (EachOf P) x xs h))
-
-pub each_pruned : {X : Type 0} (P : X → Type 0) (keep : X → Bool) (p : Productions X) → Each P p → Each P (pruned keep p)
-each_pruned P keep p e = record { firsts = All-filter keep P p.firsts e.firsts; seconds = seconds_left P keep p.seconds e.seconds }
-
-mapped_left : {X Y : Type 0} (P : Y → Type 0) (f : X → Y) (x : Second X) → EachOf (λ y. P (f y)) x → EachOf P (mapped_second f x)
-mapped_left P f (single x) h = h
-mapped_left P f (group xs) h = All-map P f xs h
-
-pub each_mapped : {X Y : Type 0} (P : Y → Type 0) (f : X → Y) (p : Productions X) → Each (λ x. P (f x)) p → Each P (mapped f p)
-each_mapped P f p e = record {
-  firsts = All-map P f p.firsts e.firsts;
-  seconds = All-map (EachOf P) (mapped_second f) p.seconds (All-weaker (EachOf (λ x. P (f x))) (λ x. EachOf P (mapped_second f x)) (mapped_left P f) p.seconds e.seconds);
-}
-
-each_behind : {X : Type 0} (P : X → Type 0) (p : Productions X) (front : List X) → All P front → Each P p → Each P (record p { firsts = front ++ p.firsts })
+-- ---- with what was learned in front
+pub each_behind : {X : Type 0} (P : X → Type 0) (p : Productions X) (front : List X) → All P front → Each P p → Each P (record p { firsts = front ++ p.firsts })
 each_behind P p front h e = record { firsts = All-append P front p.firsts h e.firsts; seconds = e.seconds }
 
 -- ---- an element's states
@@ -122,7 +43,7 @@ abbrev Inside : Partitions → Rule → Type 0
 Inside p r = FitsInside p r.on
 
 -- as a rule of a state
-abbrev ruled : Learning → Room → Learnable → Rule
+abbrev pub ruled : Learning → Room → Learnable → Rule
 ruled l r x = built_in_rule (rule_in l r x)
 
 abbrev InElement : Partitions → Room → Learnable → Type 0
@@ -142,11 +63,11 @@ of_names_fits p r learnable.Er h = absurd h
 of_names_fits p r learnable.Cm h = absurd h
 of_names_fits p r learnable.Pi h = absurd h
 
-abbrev start_tag_of : Option ElementGrammar → List Learnable
+abbrev pub start_tag_of : Option ElementGrammar → List Learnable
 start_tag_of None = []
 start_tag_of (Some g) = g.start_tag
 
-abbrev content_of : Option ElementGrammar → List Learnable
+abbrev pub content_of : Option ElementGrammar → List Learnable
 content_of None = []
 content_of (Some g) = g.content
 
@@ -165,16 +86,16 @@ content_written p r = record {
   seconds = All-from_recursion (EachOf (InElement p r)) element_content.seconds (tt, (tt, (tt, (members_fit p r, tt))));
 }
 
-learned_start_tag : (p : Partitions) (gs : List ElementGrammar) (number : ℕ) (o : Option ElementGrammar) → slice_get gs number ≡ o → All (IsSoundGrammar p) gs → All (IsOfNames p) (start_tag_of o)
+pub learned_start_tag : (p : Partitions) (gs : List ElementGrammar) (number : ℕ) (o : Option ElementGrammar) → slice_get gs number ≡ o → All (IsSoundGrammar p) gs → All (IsOfNames p) (start_tag_of o)
 learned_start_tag p gs number None is all = All-nil (IsOfNames p)
 learned_start_tag p gs number (Some g) is all = (at_place (IsSoundGrammar p) gs number g all is).start_tag
 
-learned_content : (p : Partitions) (gs : List ElementGrammar) (number : ℕ) (o : Option ElementGrammar) → slice_get gs number ≡ o → All (IsSoundGrammar p) gs → All (IsOfNames p) (content_of o)
+pub learned_content : (p : Partitions) (gs : List ElementGrammar) (number : ℕ) (o : Option ElementGrammar) → slice_get gs number ≡ o → All (IsSoundGrammar p) gs → All (IsOfNames p) (content_of o)
 learned_content p gs number None is all = All-nil (IsOfNames p)
 learned_content p gs number (Some g) is all = (at_place (IsSoundGrammar p) gs number g all is).content
 
 -- the productions as rules
-built_in_each : (P : Rule → Type 0) (g : Setting) (l : Learning) (r : Room) → Each (λ x. P (ruled l r x)) (productions g.options l r) → Each P (built_in g l r)
+pub built_in_each : (P : Rule → Type 0) (g : Setting) (l : Learning) (r : Room) → Each (λ x. P (ruled l r x)) (productions g.options l r) → Each P (built_in g l r)
 built_in_each P g l r e = each_mapped P built_in_rule (rules g.options l r) (subst (λ (z : Productions BuiltInRule). Each (λ x. P (built_in_rule x)) z) (sym (rules_are g.options l r)) (each_mapped (λ x. P (built_in_rule x)) (rule_in l r) (productions g.options l r) e))
 
 behind_fits : (o : Options) (p : Partitions) (r : Room) (front : List Learnable) (behind : Productions Learnable) → All (IsOfNames p) front → Each (InElement p r) behind → Each (InElement p r) (behind_learned front (left_of o behind))
@@ -368,6 +289,6 @@ rules_plain g l b (e ∷ es) o = element_plain g l b e.state
 
 pub codes_fit : CodesFit
 codes_fit g bytes c r t b s h = (
-  code_is (Fits c.tables c.outer c.elements) (align_of g.options) (rules_of g c) (state_fits g c.tables c.learned b c.elements c.outer s.body) (spot_in bytes c) t r h,
-  code_is IsPlain (align_of g.options) (rules_of g c) (rules_plain g c.learned b c.elements c.outer) (spot_in bytes c) t r h,
+  code_is (Fits c.tables c.outer c.elements) (rules_of g c) (state_fits g c.tables c.learned b c.elements c.outer s.body) (align_of g.options) (spot_in bytes c) t r h,
+  code_is IsPlain (rules_of g c) (rules_plain g c.learned b c.elements c.outer) (align_of g.options) (spot_in bytes c) t r h,
 )

@@ -31,7 +31,7 @@ use Rattle.exi_reader.proofs.EventOne.{at_place}
 use Rattle.exi_reader.proofs.Fitting.{codes_fit}
 use Rattle.exi_reader.proofs.Metering.{Makes, followed_as, followed_paid, last, makes, none_paid, rest_of}
 use Rattle.exi_reader.proofs.PlanFacts.{plan_reads}
-use Rattle.exi_reader.proofs.Shifts.{Fair, Room, paid_shift, shifted_meter}
+use Rattle.exi_reader.proofs.Shifts.{Fair, Passes, Room, paid_shift, paid_split, shifted_meter, used_of}
 
 -- ---- fragments inside of fragments
 -- all bodies are fragments that stand for one element, and of the outermost this holds
@@ -352,6 +352,17 @@ module _ (base : Config) (b : Body) (bs : List Body) where
             (subst (λ (z : Result Given Failure). Step (paying bit h.dues c.meter (h.rest false)) z) (sym other_way)
             (paid_shift bit base.meter tally room Step (h.rest false) (h.rest true) h.dues c.meter (λ n le f. either_steps (metered (spot_in bytes (at_place c place)) c.tables).rest h.rest h.either n le) (subst (λ (z : Result Given Failure). Fair tally z) one_way fair)))
 
+        -- a limit is passed there, or what is charged has room there
+        followed_splits : Room base.meter c.meter.used → Passes bit base.meter (followed bytes bit (plan_on g a (shifted c) r r.on) (at_place (shifted c) place)) ⊎ Room base.meter (used_of (followed bytes bit on (at_place c place)))
+        followed_splits now =
+            let metered = (plan_reads g a c r r.on).metered in
+            let h = followed_paid {I = Bool} bit on refusals conf made bytes (at_place c place) same_state metered in
+            let one_way : followed bytes bit on (at_place c place) ≡ paying bit h.dues c.meter (h.rest false) = as_same bytes a r.on (at_place c place) ∙ h.is false c.meter in
+            let other_way : followed bytes bit (plan_on g a (shifted c) r r.on) (at_place (shifted c) place) ≡ paying bit h.dues (shifted_meter base.meter c.meter) (h.rest true) = as_other bytes a r.on (at_place (shifted c) place) ∙ ap (λ (z : Config). followed_as bytes bit on (refusals true) z) (sym true_is) ∙ h.is true (shifted_meter base.meter c.meter) in
+            subst (λ (z : Result Given Failure). Passes bit base.meter (followed bytes bit (plan_on g a (shifted c) r r.on) (at_place (shifted c) place)) ⊎ Room base.meter (used_of z)) (sym one_way)
+            (subst (λ (z : Result Given Failure). Passes bit base.meter z ⊎ Room base.meter (used_of (paying bit h.dues c.meter (h.rest false)))) (sym other_way)
+            (paid_split bit base.meter (h.rest false) (h.rest true) h.dues c.meter now))
+
   -- ---- one event
   module _ (P : Outer → Type 0) (lasts : Lasts P) (g : Setting) (bytes : List ℕ) (book : IsBook g) (tally : Tally) (room : Room base.meter tally) (c : Config) (sound : IsSound c) (nests : Nests P c.outer c.aside) (lev : LevelsOf c) where
     code_steps : (q : Result (Rule × Spot) Fault) → code_at (align_of g.options) (rules_of g c) (spot_in bytes c) ≡ q → Fair tally (failing c.meter q >>= λ chosen. followed bytes c.place (plan_of g c chosen.0) (at_place c chosen.1.place)) → Step P lasts c.place c.root (failing c.meter q >>= λ chosen. followed bytes c.place (plan_of g c chosen.0) (at_place c chosen.1.place)) (failing (shifted_meter base.meter c.meter) q >>= λ chosen. followed bytes c.place (plan_of g (shifted c) chosen.0) (at_place (shifted c) chosen.1.place))
@@ -362,3 +373,12 @@ module _ (base : Config) (b : Body) (bs : List Body) where
     pub one_steps : Fair tally (one g bytes c) → Step P lasts c.place c.root (one g bytes c) (one g bytes (shifted c))
     unfolding one shifted
     one_steps fair = code_steps (code_at (align_of g.options) (rules_of g c) (spot_in bytes c)) refl fair
+
+    code_splits : Room base.meter c.meter.used → (q : Result (Rule × Spot) Fault) → code_at (align_of g.options) (rules_of g c) (spot_in bytes c) ≡ q → Passes c.place base.meter (failing (shifted_meter base.meter c.meter) q >>= λ chosen. followed bytes c.place (plan_of g (shifted c) chosen.0) (at_place (shifted c) chosen.1.place)) ⊎ Room base.meter (used_of (failing c.meter q >>= λ chosen. followed bytes c.place (plan_of g c chosen.0) (at_place c chosen.1.place)))
+    unfolding shifted used_of
+    code_splits now (Err e) h = inr now
+    code_splits now (Ok chosen) h = followed_splits P lasts c.place c.root g c chosen.0 bytes chosen.1.place tally room (codes_fit g bytes c chosen.0 chosen.1 book sound h).0 nests refl lev now
+
+    pub one_splits : Room base.meter c.meter.used → Passes c.place base.meter (one g bytes (shifted c)) ⊎ Room base.meter (used_of (one g bytes c))
+    unfolding one shifted
+    one_splits now = code_splits now (code_at (align_of g.options) (rules_of g c) (spot_in bytes c)) refl

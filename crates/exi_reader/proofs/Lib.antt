@@ -1,4 +1,5 @@
 mod Asked
+mod AtFragments
 mod Bodies
 mod ClosedUp
 mod CodeParts
@@ -10,15 +11,18 @@ mod Fewness
 mod FirstTurns
 mod Fitting
 mod InStep
+mod Joining
+mod KeptCodes
 mod Learns
 mod Metering
 mod Names
+mod Passing
 mod PlanFacts
 mod Reached
 mod Readings
 mod Refusals
 mod RootTexts
-mod Sequences
+pub mod Sequences
 mod Shifts
 mod Soundness
 mod SpliceRuns

@@ -122,3 +122,49 @@ module _ (bit : ℕ) (b : Metering) (t : Tally) (room : Room b t) (Step : Result
       by_fit (inr e) more =
           let fair : Fair t (Err (record { fault = record { kind = limit_of d; bit = bit }; meter = m })) = subst (λ (z : Bool). Fair t (cond z (paying bit ds (with_due d m) r) (Err (record { fault = record { kind = limit_of d; bit = bit }; meter = m })))) e h in
           absurd (true_false (is_limit (limit_of d)) (due_limit d) fair.0)
+
+-- ---- or a limit is passed where it stands
+unfoldable pub used_of : Result Given Failure → Tally
+used_of (Ok given) = given.1.meter.used
+used_of (Err e) = e.meter.used
+
+-- this limit is passed there, behind what was charged before
+pub record Passes (bit : ℕ) (b : Metering) (answer : Result Given Failure) : Type 0 where
+  pub due : Due
+  pub meter : Metering
+  pub over : due_fits due (shifted_meter b meter) ≡ false
+  pub is : answer ≡ Err (record { fault = record { kind = limit_of due; bit = bit }; meter = shifted_meter b meter })
+
+room_due : (b : Metering) (d : Due) (m : Metering) → Room b m.used → due_fits d (shifted_meter b m) ≡ true → Room b (with_due d m).used
+unfolding shifted_meter
+room_due b event m r h =
+    let le : b.used.events + m.used.events + 1 ≤ b.limits.events = leb-true (b.used.events + m.used.events + 1) b.limits.events h in
+    record { events = omega (arith, le); units = r.units; depth = r.depth }
+room_due b level m r h =
+    let le : b.level + m.level + 1 ≤ b.limits.depth = leb-true (b.level + m.level + 1) b.limits.depth h in
+    record { events = r.events; units = r.units; depth = omega (arith, le, r.depth) }
+room_due b (text units) m r h =
+    let le : b.used.text + m.used.text + units ≤ b.limits.text = leb-true (b.used.text + m.used.text + units) b.limits.text h in
+    record { events = r.events; units = omega (arith, le); depth = r.depth }
+
+module _ (bit : ℕ) (b : Metering) (r q : Result Outcome Fault) where
+  outcome_room : (m : Metering) (o : Result Outcome Fault) → Room b m.used → Room b (used_of (outcome m o))
+  unfolding used_of
+  outcome_room m (Ok o) room = subst (λ (t : Tally). Room b t) (sym (left_used o.leaves m)) room
+  outcome_room m (Err f) room = room
+
+  pub paid_split : (ds : List Due) (m : Metering) → Room b m.used → Passes bit b (paying bit ds (shifted_meter b m) q) ⊎ Room b (used_of (paying bit ds m r))
+  unfolding used_of
+  paid_split [] m room = inr (outcome_room m r room)
+  paid_split (d ∷ ds) m room = by_fit (due_fits d m) (due_fits d (shifted_meter b m)) refl (λ more. paid_split ds (with_due d m) more)
+    where
+      by_fit : (own there : Bool) → due_fits d (shifted_meter b m) ≡ there
+          → (Room b (with_due d m).used → Passes bit b (paying bit ds (shifted_meter b (with_due d m)) q) ⊎ Room b (used_of (paying bit ds (with_due d m) r)))
+          → Passes bit b (cond there (paying bit ds (with_due d (shifted_meter b m)) q) (Err (record { fault = record { kind = limit_of d; bit = bit }; meter = shifted_meter b m }))) ⊎ Room b (used_of (cond own (paying bit ds (with_due d m) r) (Err (record { fault = record { kind = limit_of d; bit = bit }; meter = m }))))
+      by_fit own false h more = inl (record { due = d; meter = m; over = h; is = refl })
+      by_fit false true h more = inr room
+      by_fit true true h more = subst (λ (z : Metering). Passes bit b (paying bit ds z q) ⊎ Room b (used_of (paying bit ds (with_due d m) r))) (sym (shifted_due b d m)) (more (room_due b d m room h))
+
+-- what has room fits
+pub room_fits : (b : Metering) (t : Tally) → Room b t → tally_fits b t ≡ true
+room_fits b t r = rw (le-leb (b.used.events + t.events) b.limits.events r.events, le-leb (b.used.text + t.text) b.limits.text r.units, le-leb (b.level + t.deepest) b.limits.depth r.depth) refl

@@ -38,7 +38,7 @@ Grows : Tally → Result Given Failure → Type 0
 Grows t (Ok given) = Below t given.1.meter.used
 Grows t (Err e) = Below t e.meter.used
 
-below_same : (t : Tally) → Below t t
+pub below_same : (t : Tally) → Below t t
 below_same t = record { events = omega arith; units = omega arith; deepest = omega arith }
 
 outcome_grows : (m : Metering) (r : Result Outcome Fault) → Grows m.used (outcome m r)
@@ -129,7 +129,7 @@ module _ (g : Setting) (bytes : List ℕ) where
       ap (λ (z : Given). z.1.after_start) t.is ∙ sym (ap (λ (z : Given). is_start z.0) t.is)
 
   -- the end of a fragment has used all
-  fragment_end : (byte : ℕ) (c : Config) → c.start ≡ start.Fragment byte → closing c.start bytes c ≡ done c
+  pub fragment_end : (byte : ℕ) (c : Config) → c.start ≡ start.Fragment byte → closing c.start bytes c ≡ done c
   fragment_end byte c h = ap (λ (z : Start). closing z bytes c) h
 
   last_used : (byte : ℕ) (c : Config) (x : Option Happening) (e : End) → c.start ≡ start.Fragment byte → LastDone c x e ⊎ LastFault c x e → Below c.meter.used (tally_of e)
@@ -155,7 +155,7 @@ some_levels : (xs : List Body) → All IsSoundAside xs → xs ≢ [] → 1 ≤ l
 some_levels [] all some = absurd (some refl)
 some_levels (x ∷ xs) all some = omega (arith, levels_closed x.elements x.outer (All-head IsSoundAside x xs all).level)
 
-levels_of : (c : Config) → IsSound c → LevelsOf c
+pub levels_of : (c : Config) → IsSound c → LevelsOf c
 levels_of c s = record {
   own = λ h. omega (arith, s.level, levels_closed c.elements c.outer h);
   behind_it = λ h. omega (arith, s.level, some_levels c.aside s.aside h);
@@ -250,31 +250,13 @@ module _ (g : Setting) (bytes : List ℕ) (byte : ℕ) (base : Config) (b : Body
     all = ap (λ (z : List (Option Happening)). x ∷ z) k.all;
   }
 
-  module _ (tally : Tally) (room : Room base.meter tally) (last : Config) (x : Option Happening) (e : End) (same : tally ≡ tally_of e) (no_limit : ends_by_limit e ≡ false) (at_end : turn g bytes last ≡ ends x e) where
+  module _ (tally : Tally) (room : Room base.meter tally) (last : Config) (x : Option Happening) (e : End) (same : tally ≡ tally_of e) (at_end : turn g bytes last ≡ ends x e) where
     pub fair_goes : (f : Config) (y : Option Happening) (next : Config) (turns : List (Option Happening)) → next.start ≡ start.Fragment byte → Leads g bytes next turns last → Fair tally (told (y, next))
     unfolding Fair
     fair_goes f y next turns from l = subst (λ (z : Tally). Below next.meter.used z) (sym same) (end_used g bytes byte next last turns x e from l at_end)
 
-    pub late_end : (f : Config) → IsSound f → Nests IsOver f.outer f.aside → f.start ≡ start.Fragment byte → LastDone g bytes f x e ⊎ LastFault g bytes f x e → Concludes e f (x ∷ [])
-    late_end f sound nests from (inl d) = over_concludes IsOver over_lasts tally room f sound nests x e from first_not_over d same
-    late_end f sound nests from (inr q) = fault_concludes IsOver over_lasts tally room f sound nests x e q same no_limit
-
-    late_step : (z : Option Happening) (d next : Config) (rest : List (Option Happening)) → is_end next.outer ≡ false → Step base b bs IsOver over_lasts d.place d.root (told (z, next)) (one g bytes (shifted base b bs d)) → (Nests IsOver next.outer next.aside → Concludes e next (rest ++ x ∷ [])) → Concludes e d (z ∷ (rest ++ x ∷ []))
-    unfolding Step shifted
-    late_step z d next rest alive (inl q) more = in_front e d next z (rest ++ x ∷ []) (turn_goes g bytes (shifted base b bs d) (z, shifted base b bs next) q.is q.going) (more q.nests)
-    late_step z d next rest alive (inr (inl q)) more = absurd (true_false (is_end next.outer) (ap (λ (w : Outer). is_end w) q.ended) alive)
-    late_step z d next rest alive (inr (inr q)) more = absurd (first_not_over q.first.there)
-
-    pub late : (turns : List (Option Happening)) (f : Config) → IsSound f → Nests IsOver f.outer f.aside → f.start ≡ start.Fragment byte → Leads g bytes f turns last → Concludes e f (turns ++ x ∷ [])
-    late [] f sound nests from l = late_end f sound nests from (last_is g bytes f x e (subst (λ (z : Config). turn g bytes z ≡ ends x e) (sym l) at_end))
-    late (y ∷ turns) f sound nests from l =
-        let n = goes_is g bytes f y l.0 l.1 in
-        let start_next : l.0.start ≡ start.Fragment byte = one_start g bytes f (y, l.0) n.is ∙ from in
-        let sound_next : IsSound l.0 = steps_keep_sound g bytes f l.0 y book sound n.is in
-        late_step y f l.0 turns n.going (step_of IsOver over_lasts tally room f sound nests (told (y, l.0)) n.is (fair_goes f y l.0 turns start_next l.2)) (λ k. late turns l.0 sound_next k start_next l.2)
-
     -- the root stays
-    root_goes : (z : Option Happening) (d next : Config) → is_end next.outer ≡ false → Step base b bs IsOver over_lasts d.place d.root (told (z, next)) (one g bytes (shifted base b bs d)) → (next.root ≡ d.root) × Nests IsOver next.outer next.aside
+    pub root_goes : (z : Option Happening) (d next : Config) → is_end next.outer ≡ false → Step base b bs IsOver over_lasts d.place d.root (told (z, next)) (one g bytes (shifted base b bs d)) → (next.root ≡ d.root) × Nests IsOver next.outer next.aside
     unfolding Step
     root_goes z d next alive (inl q) = (by_root q.rooted, q.nests)
       where
@@ -307,3 +289,23 @@ module _ (g : Setting) (bytes : List ℕ) (byte : ℕ) (base : Config) (b : Body
         let sound_next : IsSound l.0 = steps_keep_sound g bytes f l.0 y book sound n.is in
         let s = root_goes y f l.0 n.going (step_of IsOver over_lasts tally room f sound nests (told (y, l.0)) n.is (fair_goes f y l.0 turns start_next l.2)) in
         late_root turns l.0 sound_next s.1 start_next l.2 ∙ s.0
+
+    -- the events, and the end
+    module _ (no_limit : ends_by_limit e ≡ false) where
+      pub late_end : (f : Config) → IsSound f → Nests IsOver f.outer f.aside → f.start ≡ start.Fragment byte → LastDone g bytes f x e ⊎ LastFault g bytes f x e → Concludes e f (x ∷ [])
+      late_end f sound nests from (inl d) = over_concludes IsOver over_lasts tally room f sound nests x e from first_not_over d same
+      late_end f sound nests from (inr q) = fault_concludes IsOver over_lasts tally room f sound nests x e q same no_limit
+
+      late_step : (z : Option Happening) (d next : Config) (rest : List (Option Happening)) → is_end next.outer ≡ false → Step base b bs IsOver over_lasts d.place d.root (told (z, next)) (one g bytes (shifted base b bs d)) → (Nests IsOver next.outer next.aside → Concludes e next (rest ++ x ∷ [])) → Concludes e d (z ∷ (rest ++ x ∷ []))
+      unfolding Step shifted
+      late_step z d next rest alive (inl q) more = in_front e d next z (rest ++ x ∷ []) (turn_goes g bytes (shifted base b bs d) (z, shifted base b bs next) q.is q.going) (more q.nests)
+      late_step z d next rest alive (inr (inl q)) more = absurd (true_false (is_end next.outer) (ap (λ (w : Outer). is_end w) q.ended) alive)
+      late_step z d next rest alive (inr (inr q)) more = absurd (first_not_over q.first.there)
+
+      pub late : (turns : List (Option Happening)) (f : Config) → IsSound f → Nests IsOver f.outer f.aside → f.start ≡ start.Fragment byte → Leads g bytes f turns last → Concludes e f (turns ++ x ∷ [])
+      late [] f sound nests from l = late_end f sound nests from (last_is g bytes f x e (subst (λ (z : Config). turn g bytes z ≡ ends x e) (sym l) at_end))
+      late (y ∷ turns) f sound nests from l =
+          let n = goes_is g bytes f y l.0 l.1 in
+          let start_next : l.0.start ≡ start.Fragment byte = one_start g bytes f (y, l.0) n.is ∙ from in
+          let sound_next : IsSound l.0 = steps_keep_sound g bytes f l.0 y book sound n.is in
+          late_step y f l.0 turns n.going (step_of IsOver over_lasts tally room f sound nests (told (y, l.0)) n.is (fair_goes f y l.0 turns start_next l.2)) (λ k. late turns l.0 sound_next k start_next l.2)

@@ -1,8 +1,9 @@
 -- A turn of a reader, and all of them, in the words of sequential processing.
-use Rattle.std.proofs.Common.{◌≡◌, ◌≢◌, ◌⊎◌, inl, inr, ◌<◌, ◌≤◌, ◌^◌, ◌-◌, ℕ, zero, suc, ◌+◌, Bool, true, false, cond, List, [], ◌∷◌, ◌++◌, length, Option, Some, None, Result, Ok, Err, refl, sym, ap, ◌∙◌, subst, arith, append_assoc}
+use Rattle.std.proofs.Common.{◌≡◌, ◌≢◌, ◌⊎◌, inl, inr, ◌<◌, ◌≤◌, ◌^◌, ◌-◌, ℕ, zero, suc, ◌+◌, ◌*◌, Bool, true, false, cond, List, [], ◌∷◌, ◌++◌, length, Option, Some, None, Result, Ok, Err, refl, sym, ap, ◌∙◌, subst, arith, append_assoc}
 use Rattle.std.proofs.lemmas.List.{append-nil, length-append}
 use Rattle.std.proofs.lemmas.List.Elements.{All-head}
 use Rattle.std.specs.Result.{IsErrOf}
+use Rattle.exi_bits.specs.Bits.{IsBytes}
 use Rattle.exi_bits.specs.declared.fault.Fault.{Fault}
 use Rattle.exi_gram.specs.Books.{IsBook}
 use Rattle.exi_meter.specs.Metering.{Bounds, IsWithinStream, Metering}
@@ -13,14 +14,15 @@ use Rattle.exi_typed.specs.ReadStates.{Failure}
 use Rattle.exi_tables.specs.Partitions.{IsName}
 use Rattle.exi_reader.specs.Changes.{has_level, innermost, put_aside, texts_of}
 use Rattle.exi_reader.specs.Configurations.{Body, Config, Setting, first_config}
-use Rattle.exi_reader.specs.Handing.{Hands, HandsAny, HandsFragment, IsSteady, Standing, fragment_in, listed, push_halt}
+use Rattle.exi_reader.specs.Handing.{Hands, HandsAny, HandsFragment, IsSteady, Standing, fragment_in, listed, push_halt, with_config}
 use Rattle.exi_reader.specs.OneEvent.{at_event, moved_limit, one}
 use Rattle.exi_reader.specs.Plans.{Given}
-use Rattle.exi_reader.specs.Reading.{IsFront, IsReached, Reading, Sequences, StaysReached, Turns, event_of}
+use Rattle.exi_reader.specs.Reading.{IsFront, IsReached, Reading, Sequences, Turns, event_of}
 use Rattle.exi_reader.specs.Runs.{IsRun, IsSequence, Job, Leads, Turn, closing, ends, events_of, failed_end, first, given_turn, goes, has_ended, turn, turned_by}
 use Rattle.exi_names.specs.declared.names.QName.{QName}
 use Rattle.exi_names.specs.declared.stops.PushStop.{PushStop}
 use Rattle.exi_names.specs.declared.stops.PushStop.TheVariants as push
+use Rattle.exi_reader.specs.Splices.{AtFragment}
 use Rattle.exi_reader.specs.declared.end.End.{End}
 use Rattle.exi_reader.specs.declared.end.End.TheVariants as ending
 use Rattle.exi_reader.specs.declared.halt.Halt.{Halt}
@@ -30,8 +32,9 @@ use Rattle.exi_reader.specs.declared.turn.ReadStop.{ReadStop}
 use Rattle.exi_reader.specs.declared.turn.ReadStop.TheVariants as stop
 use Rattle.exi_reader.specs.declared.turn.Turn.{Turn as Made}
 use Rattle.exi_reader.specs.declared.turn.Turn.TheVariants as told
+use Rattle.exi_reader.proofs.AtFragments.{Deep, at_fragment, led_deep, level_some}
 use Rattle.exi_reader.proofs.Sequences.{a_run_is_there, front_of_run}
-use Rattle.exi_reader.specs.Sound.{IsSoundAside}
+use Rattle.exi_reader.specs.Sound.{IsSound, IsSoundAside}
 use Rattle.exi_reader.specs.declared.frames.Element.{Element}
 use Rattle.exi_reader.specs.declared.frames.Outer.{Outer}
 use Rattle.exi_reader.proofs.Reached.{reached_are_sound}
@@ -185,19 +188,7 @@ module _ {T : Type 0} (took : T → List Happening → T → Type 0) (broke : T 
     bytes = ap (λ (z : Reading). z.bytes) e ∙ came.bytes;
   }
 
-  -- so it is reached, after few turns
-  pub came_reached : (now : T) (to : ℕ) (r : Reading) → Came now to r → IsBook j.setting → IsStart j.setting.schema.names → IsWithinStream limits → IsReached r
-  came_reached now to r came b names within = record {
-    body = j.body;
-    start = s;
-    limits = limits;
-    within = within;
-    book = subst IsBook (sym came.setting) b;
-    names = subst (λ (z : Setting). IsStart z.schema.names) (sym came.setting) names;
-    turns = came.turns;
-    leads = subst (λ (z : Setting). Leads z r.bytes (first_config z j.body s limits) came.turns r.config) (sym came.setting) (subst (λ (z : List ℕ). Leads j.setting z (first j s limits) came.turns r.config) (sym came.bytes) came.leads);
-  }
-
+  -- after few turns
   pub came_few : (now : T) (to : ℕ) (r : Reading) → Came now to r → IsWithinStream limits → to ≤ from + (2 ^ 26 + 3)
   came_few now to r came within = omega (arith, came.count, few_led j s limits came.turns r.config within came.leads)
 
@@ -242,29 +233,36 @@ module _ {T : Type 0} (took : T → List Happening → T → Type 0) (broke : T 
   came_stop stop.Stopped now after to next r q came h = came_stopped now after to next r q came h
 
 -- ---- where turns lead
-pub reached_first : (j : Job) (s : Start) (limits : Bounds) (r : Reading) → r ≡ record { setting = j.setting; bytes = j.bytes; config = first j s limits; waits = false } → IsWithinStream limits → IsBook j.setting → IsStart j.setting.schema.names → IsReached r
-reached_first j s limits r e within b names = subst IsReached (sym e) (record { body = j.body; start = s; limits = limits; within = within; book = b; names = names; turns = []; leads = refl })
+true_no_false : {X : Type 0} → true ≡ false → X
+true_no_false e = absurd cc
 
-reached_same : (r q : Reading) (e : Option Happening) → IsReached r → turn r.setting r.bytes r.config ≡ goes e q.config → q.setting ≡ r.setting → q.bytes ≡ r.bytes → IsReached q
-reached_same r q e at h a b = record {
+pub reached_first : (j : Job) (s : Start) (limits : Bounds) (r : Reading) → r ≡ record { setting = j.setting; bytes = j.bytes; config = first j s limits; waits = false } → IsWithinStream limits → IsBook j.setting → IsStart j.setting.schema.names → IsBytes j.bytes → IsReached r
+reached_first j s limits r e within b names octets = subst IsReached (sym e) (record { body = j.body; start = s; limits = limits; within = within; book = b; names = names; octets = octets; turns = []; leads = refl; fragment = λ k. true_no_false (sym k) })
+
+abbrev waits_at : Reading → Type 0
+waits_at r = (byte : ℕ) × AtFragment r.setting byte r.config
+
+reached_same : (r q : Reading) (e : Option Happening) → IsReached r → turn r.setting r.bytes r.config ≡ goes e q.config → q.setting ≡ r.setting → q.bytes ≡ r.bytes → (q.waits ≡ true → waits_at q) → IsReached q
+reached_same r q e at h a b f = record {
   body = at.body;
   start = at.start;
   limits = at.limits;
   within = at.within;
   book = subst IsBook (sym a) at.book;
   names = subst (λ (z : Setting). IsStart z.schema.names) (sym a) at.names;
+  octets = subst IsBytes (sym b) at.octets;
   turns = at.turns ++ e ∷ [];
   leads = subst (λ (z : Setting). Leads z q.bytes (first_config z at.body at.start at.limits) (at.turns ++ e ∷ []) q.config) (sym a) (subst (λ (z : List ℕ). Leads r.setting z (first_config r.setting at.body at.start at.limits) (at.turns ++ e ∷ []) q.config) (sym b) (leads_push r.setting r.bytes (first_config r.setting at.body at.start at.limits) r.config q.config at.turns e at.leads h));
+  fragment = f;
 }
 
-pub reached_more : {T : Type 0} (took : T → List Happening → T → Type 0) (broke : T → Happening → T → Type 0) (t : Result Made ReadStop) (r q : Reading) (before after : T) → IsReached r → Turns took broke t r q before after → q.setting ≡ r.setting → q.bytes ≡ r.bytes → StaysReached t q
-reached_more took broke (Ok told.Went) r q before after at h a b = reached_same r q h.0 at h.1 a b
-reached_more took broke (Ok (told.AtFragment byte)) r q before after at h a b = reached_same r q (Some (event.sc byte)) at h.0 a b
-reached_more took broke (Ok (told.Ended end)) r q before after at h a b = tt
-reached_more took broke (Err e) r q before after at h a b = tt
+-- a reader that has made turns stands where its meter counts the open elements
+reached_deep : (r : Reading) → IsReached r → Deep r.config.meter
+unfolding Deep
+reached_deep r at = led_deep r.setting r.bytes at.turns (first_config r.setting at.body at.start at.limits) r.config at.leads (omega arith)
 
-pub reached_entered : (r q : Reading) → q ≡ record r { waits = false } → IsReached r → IsReached q
-reached_entered r q e at = subst IsReached (sym e) (record { body = at.body; start = at.start; limits = at.limits; within = at.within; book = at.book; names = at.names; turns = at.turns; leads = at.leads })
+pub reached_sound : (r : Reading) → IsReached r → IsSound r.config
+reached_sound r at = reached_are_sound (record { setting = r.setting; bytes = r.bytes; body = at.body }) at.start at.limits at.turns r.config at.book at.names at.leads
 
 -- ---- a reader's turn
 abbrev pub view : Standing → Bool → Reading
@@ -272,9 +270,6 @@ view s w = record { setting = s.setting; bytes = s.bytes; config = fragment_in w
 
 pub standing_view : (j : Job) (s : Standing) (c : Config) → s ≡ record { setting = j.setting; bytes = j.bytes; config = c } → view s false ≡ record { setting = j.setting; bytes = j.bytes; config = c; waits = false }
 standing_view j s c e = ap (λ (z : Standing). view z false) e
-
-true_no_false : {X : Type 0} → true ≡ false → X
-true_no_false e = absurd cc
 
 going : (s : Standing) (w : Bool) (r : Reading) → view s w ≡ r → r.waits ≡ false → w ≡ false
 going s w r e h = ap (λ (z : Reading). z.waits) e ∙ h
@@ -285,17 +280,22 @@ reader_steady s false r e h k =
     let at : IsReached (view s false) = subst IsReached (sym e) k in
     steady (record { setting = s.setting; bytes = s.bytes; body = at.body }) at.start at.limits at.turns s.config at.within at.book at.names at.leads
 
+stands_at : (byte : ℕ) (s new : Standing) → IsReached (view s false) → one s.setting s.bytes s.config ≡ Ok (Some (event.sc byte), put_aside new.setting new.config) → new.setting ≡ s.setting → AtFragment new.setting byte (put_aside new.setting new.config)
+stands_at byte s new from h a = subst (λ (z : Setting). AtFragment z byte (put_aside new.setting new.config)) (sym a) (at_fragment s.setting s.bytes s.config (put_aside new.setting new.config) byte from.book (reached_sound (view s false) from) (reached_deep (view s false) from) h)
+
+pub place_fragment : (byte : ℕ) (s new : Standing) (w : Bool) (r : Reading) → view s w ≡ r → r.waits ≡ false → IsReached r → one s.setting s.bytes s.config ≡ Ok (Some (event.sc byte), put_aside new.setting new.config) → new.setting ≡ s.setting → (view new true).config.place ≡ 8 * byte
+place_fragment byte s new true r e g at h a = true_no_false (going s true r e g)
+place_fragment byte s new false r e g at h a = (stands_at byte s new (subst IsReached (sym e) at) h a).place
+
 pub stays_fragment : (byte : ℕ) (s new : Standing) (w : Bool) (r : Reading) → view s w ≡ r → r.waits ≡ false → IsReached r → one s.setting s.bytes s.config ≡ Ok (Some (event.sc byte), put_aside new.setting new.config) → new.setting ≡ s.setting → new.bytes ≡ s.bytes → IsReached (view new true)
 stays_fragment byte s new true r e g at h a b = true_no_false (going s true r e g)
-stays_fragment byte s new false r e g at h a b = reached_same (view s false) (view new true) (Some (event.sc byte)) (subst IsReached (sym e) at) (turn_went s.setting s.bytes s.config (put_aside new.setting new.config) (Some (event.sc byte)) h refl) a b
+stays_fragment byte s new false r e g at h a b =
+    let from : IsReached (view s false) = subst IsReached (sym e) at in
+    reached_same (view s false) (view new true) (Some (event.sc byte)) from (turn_went s.setting s.bytes s.config (put_aside new.setting new.config) (Some (event.sc byte)) h refl) a b (λ k. (byte, stands_at byte s new from h a))
 
 pub stays_on : (x : Option Happening) (s new : Standing) (w : Bool) (r : Reading) → view s w ≡ r → r.waits ≡ false → IsReached r → one s.setting s.bytes s.config ≡ Ok (x, new.config) → has_ended new.config ≡ false → new.setting ≡ s.setting → new.bytes ≡ s.bytes → IsReached (view new w)
 stays_on x s new true r e g at h k a b = true_no_false (going s true r e g)
-stays_on x s new false r e g at h k a b = reached_same (view s false) (view new false) x (subst IsReached (sym e) at) (turn_went s.setting s.bytes s.config new.config x h k) a b
-
-level_some : (es : List Element) (o : Outer) → has_level es o ≡ true → es ≢ []
-level_some [] o h = absurd cc
-level_some (e ∷ es) o h = λ k. absurd cc
+stays_on x s new false r e g at h k a b = reached_same (view s false) (view new false) x (subst IsReached (sym e) at) (turn_went s.setting s.bytes s.config new.config x h k) a b (λ k. true_no_false (sym k))
 
 fragment_name : (s : Standing) → IsReached (view s true) → IsName s.config.tables (innermost s.config.elements)
 fragment_name s at =
@@ -307,6 +307,23 @@ fragment_name s at =
 pub reader_name : (s : Standing) (w : Bool) (r : Reading) → view s w ≡ r → r.waits ≡ true → IsReached r → IsName s.config.tables (innermost s.config.elements)
 reader_name s true r e h k = fragment_name s (subst IsReached (sym e) k)
 reader_name s false r e h k = true_no_false (sym (ap (λ (z : Reading). z.waits) e ∙ h))
+
+pub reached_entered : (s new : Standing) (w : Bool) (r : Reading) → view s w ≡ r → r.waits ≡ true → IsReached r → new ≡ with_config s (put_aside s.setting s.config) → IsReached (view new false)
+reached_entered s new false r e h at is = true_no_false (sym (ap (λ (z : Reading). z.waits) e ∙ h))
+reached_entered s new true r e h at is =
+    let from : IsReached (view s true) = subst IsReached (sym e) at in
+    subst (λ (z : Standing). IsReached (view z false)) (sym is) (record {
+      body = from.body;
+      start = from.start;
+      limits = from.limits;
+      within = from.within;
+      book = from.book;
+      names = from.names;
+      octets = from.octets;
+      turns = from.turns;
+      leads = from.leads;
+      fragment = λ k. true_no_false (sym k);
+    })
 
 module _ {T : Type 0} (took : T → List Happening → T → Type 0) (broke : T → Happening → T → Type 0) (before after : T) where
   abbrev step_of : Standing → Result Given Failure

@@ -20,7 +20,7 @@ use Rattle.exi_reader.specs.Laws.{IsWithinLimits, LimitsAreKept}
 use Rattle.exi_reader.specs.OneEvent.{at_event, behind, charge_at, event_charge, failed, followed, level_charge, one, remembered, unless}
 use Rattle.exi_reader.specs.Plans.{Given, Plan, alone_in, plan_of}
 use Rattle.exi_reader.specs.Rules.{Rule}
-use Rattle.exi_reader.specs.Runs.{Leads, closing, done, ends, failed_end, first, goes, has_ended, turned_by, whole_bytes}
+use Rattle.exi_reader.specs.Runs.{IsRun, Leads, closing, done, ends, failed_end, first, goes, has_ended, turned_by, whole_bytes}
 use Rattle.exi_reader.specs.Splices.{tally_of}
 use Rattle.exi_reader.specs.declared.end.End.{End}
 use Rattle.exi_reader.specs.declared.end.End.TheVariants as end
@@ -176,8 +176,11 @@ last_kept : (limits : Bounds) (bytes : List ℕ) (c : Config) (r : Result Given 
 last_kept limits bytes c (Ok given) x e h k = ends_kept (has_ended given.1) limits bytes given x e h k
 last_kept limits bytes c (Err f) x e h k = subst (λ (z : End). IsWithinLimits limits (tally_of z)) (end_of None x (failed_end c f) e h) k.kept
 
+-- wherever a run ends
+pub run_kept : (g : Setting) (bytes : List ℕ) (limits : Bounds) (c : Config) (turns : List (Option Happening)) (e : End) → Within limits c.meter → IsRun g bytes c turns e → IsWithinLimits limits (tally_of e)
+run_kept g bytes limits c turns e w r =
+    let there = leads_kept g bytes limits c r.reached r.before w r.leads in
+    last_kept limits bytes r.reached (one g bytes r.reached) r.event e r.at_end (one_kept g bytes limits r.reached there)
+
 pub limits_are_kept : LimitsAreKept
-limits_are_kept j s limits es e count p =
-    let w : Within limits (first j s limits).meter = record { same = refl; kept = record { events = omega arith; text = omega arith; depth = omega arith } } in
-    let reached_at = leads_kept j.setting j.bytes limits (first j s limits) p.1.reached p.1.before w p.1.leads in
-    last_kept limits j.bytes p.1.reached (one j.setting j.bytes p.1.reached) p.1.event e p.1.at_end (one_kept j.setting j.bytes limits p.1.reached reached_at)
+limits_are_kept j s limits es e count p = run_kept j.setting j.bytes limits (first j s limits) p.0 e (record { same = refl; kept = record { events = omega arith; text = omega arith; depth = omega arith } }) p.1

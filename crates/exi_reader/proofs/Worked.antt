@@ -27,6 +27,7 @@ use Rattle.exi_reader.specs.Configurations.{Config, Setting, first_config}
 use Rattle.exi_reader.specs.Contents.{attribute_value_at, both_at}
 use Rattle.exi_reader.specs.OneEvent.{charge_at, followed, one}
 use Rattle.exi_reader.specs.Runs.{IsRun, Turn, ends, events_of, goes, turn}
+use Rattle.exi_reader.specs.Splices.{Spliced, ended, on, spliced, wrong_root}
 use Rattle.exi_reader.specs.declared.end.End.{End}
 use Rattle.exi_reader.specs.declared.end.End.TheVariants as end
 use Rattle.exi_reader.specs.declared.start.Start.TheVariants as start
@@ -140,6 +141,29 @@ root_in root (Some e) = Some (rooted root e)
 
 abbrev with_root : Option QName → Walk → Walk
 with_root root w = record w { end = root_in root w.end }
+
+-- ---- fragments that are read apart
+abbrev after_turn : Turn → Config → (Config → Config) → Config
+after_turn (ends x e) c more = c
+after_turn (goes x next) c more = more next
+
+-- so many turns further on
+abbrev after : ℕ → Setting → List ℕ → Config → Config
+after zero g bytes c = c
+after (suc n) g bytes c = after_turn (turn g bytes c) c (after n g bytes)
+
+abbrev behind_splice : Setting → List ℕ → Spliced → Walk
+behind_splice g bytes (on next) = walk 40 g bytes next
+behind_splice g bytes (ended e) = reached [] e
+behind_splice g bytes (wrong_root e) = reached [] e
+
+abbrev with_outcome : Setting → List ℕ → Config → Option End → Walk
+with_outcome g bytes c None = record { events = []; end = None }
+with_outcome g bytes c (Some e) = behind_splice g bytes (spliced c e)
+
+-- what comes behind so many turns, and behind the fragment that begins there at a byte, read apart
+abbrev read_spliced : ℕ → ℕ → ℕ → List ℕ → Walk
+read_spliced flags turns byte bytes = with_outcome (book (options flags)) bytes (after turns (book (options flags)) bytes (first_config (book (options flags)) 8 start.Body stream_bounds)) (read_at flags byte bytes).end
 
 -- ---- the streams, each named by what it shows
 pub record Streams : Type 0 where
@@ -271,6 +295,12 @@ pub record Streams : Type 0 where
   pub value_pushed_out : read_bounded 0 None (Some 1) (0x80 ∷ 0x40 ∷ 0x98 ∷ 0x70 ∷ 0x37 ∷ 0x8C ∷ 0x0D ∷ 0xE4 ∷ 0x00 ∷ 0x80 ∷ 0x20 ∷ 0x00 ∷ []) ≡ reached (sd ∷ se (record { uri = []; local = codes "a"; prefix = None }) ∷ ch (text (codes "x")) ∷ ch (text (codes "y")) ∷ ch (text (codes "y")) ∷ ch (text (codes "y")) ∷ []) (wrong kind.BadPlace 93 7 5 1)
   -- a fragment has the bounds of the stream
   pub bounds_in_fragment : read_bounded 4 None (Some 0) (0x80 ∷ 0x40 ∷ 0x98 ∷ 0x90 ∷ 0x20 ∷ 0x4C ∷ 0x50 ∷ 0x0D ∷ 0xE3 ∷ 0x00 ∷ []) ≡ reached (sd ∷ se (record { uri = []; local = codes "b"; prefix = None }) ∷ sc 4 ∷ ch (text (codes "x")) ∷ []) (wrong kind.BadPlace 80 5 3 1)
+  -- the fragment of `behind_fragment`, read apart: what comes behind it is the same
+  pub spliced_behind : read_spliced 4 5 8 (0x80 ∷ 0x40 ∷ 0x98 ∷ 0x60 ∷ 0x14 ∷ 0x81 ∷ 0x31 ∷ 0x20 ∷ 0x20 ∷ 0x4C ∷ 0x50 ∷ 0x0D ∷ 0xE1 ∷ 0x00 ∷ 0x1A ∷ 0x04 ∷ 0xC7 ∷ 0x00 ∷ 0x40 ∷ []) ≡ reached (element b ∷ element (codes "c") ∷ []) (wrong kind.BadPlace 146 10 6 3)
+  -- that of `other_root`: it is refused, and its root is charged
+  pub spliced_other : read_spliced 4 4 7 (0x80 ∷ 0x40 ∷ 0x98 ∷ 0x5A ∷ 0x04 ∷ 0xC4 ∷ 0x80 ∷ 0x20 ∷ 0x4C ∷ 0x62 ∷ 0x00 ∷ []) ≡ reached [] (wrong kind.ScRoot 56 4 3 2)
+  -- that of `cut_fragment`: it has its fault, with what was charged in both
+  pub spliced_fault : read_spliced 4 4 7 (0x80 ∷ 0x40 ∷ 0x98 ∷ 0x5A ∷ 0x04 ∷ 0xC4 ∷ 0x80 ∷ 0x20 ∷ 0x4C ∷ []) ≡ reached [] (wrong kind.Short 67 4 3 2)
 
 streams : Streams
 unfolding one followed charge_at item_at both_at attribute_value_at declaration_at declared_under name_value_at name_at name_under known_at local_at indexed_at literal_at missed_at hit_at charged_at value_at chars_at in_set_at char_code_at is_xml_char text_charge code_at second_at member_at part_at times below_at field_at unsigned_at narrow_groups_at groups_at number_at value_of bits number_bits le_value width_from
@@ -339,4 +369,7 @@ streams = record {
   long_value = refl;
   value_pushed_out = refl;
   bounds_in_fragment = refl;
+  spliced_behind = refl;
+  spliced_other = refl;
+  spliced_fault = refl;
 }

@@ -4,6 +4,7 @@ pub mod Contents
 pub mod Fews
 pub mod Fragments
 pub mod Handing
+pub mod Joins
 pub mod Laws
 pub mod Metered
 pub mod OneEvent
@@ -12,6 +13,7 @@ pub mod Reading
 pub mod Refused
 pub mod Rules
 pub mod Runs
+pub mod Shifts
 pub mod Sound
 pub mod Spelled
 pub mod Splices

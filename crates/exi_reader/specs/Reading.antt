@@ -1,6 +1,6 @@
 -- What the calls of a reader promise, in the words of sequential processing.
 use Rattle.std.specs.Prelude.{◌≡◌, ◌⊎◌, ◌≤◌, ◌^◌, ◌*◌, ◌+◌, ℕ, Bool, true, false, List, [], ◌∷◌, ◌++◌, length, Option, Some, None, Result, Ok, Err}
-use Rattle.exi_bits.specs.Bits.{IsAligned}
+use Rattle.exi_bits.specs.Bits.{IsAligned, IsBytes}
 use Rattle.exi_gram.specs.Books.{IsBook}
 use Rattle.exi_gram.specs.Switches.{align_of}
 use Rattle.exi_meter.specs.Metering.{Bounds, IsWithinStream}
@@ -11,7 +11,10 @@ use Rattle.exi_reader.specs.Configurations.{Config, Setting, first_config}
 use Rattle.exi_reader.specs.Handing.{listed}
 use Rattle.exi_reader.specs.Runs.{Job, IsSequence, Leads, Turn, ends, first, goes, turn}
 use Rattle.exi_reader.specs.declared.end.End.{End}
+use Rattle.exi_reader.specs.Splices.{AtFragment, ended, on, spliced, wrong_root}
 use Rattle.exi_reader.specs.declared.job.Job.{Job as Told}
+use Rattle.exi_reader.specs.declared.splice.Spliced.{Spliced as Joined}
+use Rattle.exi_reader.specs.declared.splice.Spliced.TheVariants as joined
 use Rattle.exi_reader.specs.declared.start.Start.{Start}
 use Rattle.exi_reader.specs.declared.start.Start.TheVariants as start
 use Rattle.exi_reader.specs.declared.turn.ReadStop.{ReadStop}
@@ -49,7 +52,7 @@ pub record Reading : Type 0 where
 abbrev pub reading : Job → Config → Bool → Reading
 reading j c waits = record { setting = j.setting; bytes = j.bytes; config = c; waits = waits }
 
--- turns lead from the first configuration of a job to where the reader is
+-- turns lead from the first configuration of a job to where the reader is; where it waits, it stands at a fragment
 pub record IsReached (r : Reading) : Type 0 where
   pub body : ℕ
   pub start : Start
@@ -57,8 +60,10 @@ pub record IsReached (r : Reading) : Type 0 where
   pub within : IsWithinStream limits
   pub book : IsBook r.setting
   pub names : IsStart r.setting.schema.names
+  pub octets : IsBytes r.bytes
   pub turns : List (Option Happening)
   pub leads : Leads r.setting r.bytes (first_config r.setting body start limits) turns r.config
+  pub fragment : r.waits ≡ true → (byte : ℕ) × AtFragment r.setting byte r.config
 
 -- ---- a turn
 abbrev pub event_of : Turn → Option Happening
@@ -80,6 +85,36 @@ StaysReached (Ok told.Went) r = IsReached r
 StaysReached (Ok (told.AtFragment byte)) r = IsReached r
 StaysReached (Ok (told.Ended end)) r = Unit {0}
 StaysReached (Err e) r = Unit {0}
+
+-- where a fragment begins, it begins at this byte
+abbrev pub StandsAt : Result Made ReadStop → Reading → Type 0
+StandsAt (Ok told.Went) r = Unit {0}
+StandsAt (Ok (told.AtFragment byte)) r = r.config.place ≡ 8 * byte
+StandsAt (Ok (told.Ended end)) r = Unit {0}
+StandsAt (Err e) r = Unit {0}
+
+-- ---- a splice
+-- what came of the fragment at which a reader stands, where that was read by itself, under any limits
+pub record IsOutcome (r : Reading) (e : End) : Type 0 where
+  pub byte : ℕ
+  pub stands : r.config.place ≡ 8 * byte
+  pub body : ℕ
+  pub limits : Bounds
+  pub events : List Happening
+  pub count : ℕ
+  pub sequence : IsSequence (record { setting = r.setting; bytes = r.bytes; body = body }) (start.Fragment byte) limits events e count
+
+-- the reader stands behind the fragment; or it has ended as the fragment did, or by the root of another element
+abbrev pub SplicedAs : Joined → Reading → Reading → End → Type 0
+SplicedAs joined.On old new e = (spliced old.config e ≡ on new.config) × (new.waits ≡ false)
+SplicedAs (joined.Ended end) old new e = spliced old.config e ≡ ended end
+SplicedAs (joined.WrongRoot end) old new e = spliced old.config e ≡ wrong_root end
+
+-- and where it goes on, turns lead there
+abbrev pub GoesOnReached : Joined → Reading → Type 0
+GoesOnReached joined.On r = IsReached r
+GoesOnReached (joined.Ended end) r = Unit {0}
+GoesOnReached (joined.WrongRoot end) r = Unit {0}
 
 -- ---- all of it
 -- a front of the events of sequential processing, some, all or none

@@ -1,4 +1,5 @@
-ghost use Rattle.std.specs.Prelude.{◌≡◌, false, true, IfOk, MatchOption, OnOk};
+ghost use Rattle.std.specs.Prelude.{◌≡◌, ◌≤◌, ◌^◌, false, length, true, IfOk, MatchOption, OnOk};
+ghost use Rattle.exi_bits.specs.Bits.{IsBytes};
 ghost use Rattle.exi_gram.specs.Books.{IsBook};
 ghost use Rattle.exi_gram.specs.Switches.{fragment};
 ghost use Rattle.exi_meter.specs.Metering.{IsWithinStream};
@@ -59,6 +60,15 @@ pub fn first_tables<T: Tables>(alloc: Global, book: &Book) -> Result<T, AllocErr
     T::start(alloc, names, options.most, options.capacity)
 }
 
+/// The bits of the input, of which each byte is one.
+fn input_of(bytes: &[u8]) -> BitIn<'_>
+    requires few { length bytes.now ≤ 2 ^ 32 }
+    ensures input { result ≡ record { bytes = bytes.now; place = 0 } }
+    ensures octets { IsBytes bytes.now }
+{
+    BitIn::new(bytes)
+}
+
 impl<'a, T: Tables + Drop> Stepper<'a, T> {
     /// Where a job begins.
     pub fn new(
@@ -73,9 +83,10 @@ impl<'a, T: Tables + Drop> Stepper<'a, T> {
         ensures within { IfOk result (λ s. IsWithinStream limits) }
         ensures book { IfOk result (λ s. IsBook job.now.book.now) }
         ensures names { IfOk result (λ s. IsStart job.now.book.now.schema.names) }
+        ensures octets { IfOk result (λ s. IsBytes job.now.bytes.now) }
     {
         let tables = first_tables(alloc, job.book)?;
-        let mut input = BitIn::new(job.bytes);
+        let mut input = input_of(job.bytes);
         match start {
             Start::Body => input.go_to_bit(job.body),
             Start::Fragment(byte) => input.go(byte),

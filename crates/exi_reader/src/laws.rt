@@ -6,6 +6,7 @@ ghost use Rattle.exi_reader.specs.Laws.{AFaultEnds, ARunIsThere, ASequenceIsTher
 ghost use Rattle.exi_reader.specs.Metered.{OneIsMetered, SpelledIsAsked};
 ghost use Rattle.exi_reader.specs.Refused.{FaultIsRefused, OneSpelledOrOneFault, RefusedIsFault};
 ghost use Rattle.exi_reader.specs.Spelled.{OneAtMost, OneIsSpelled, SpelledIsOne};
+ghost use Rattle.exi_reader.specs.Shifts.{TooMuchStops};
 ghost use Rattle.exi_reader.specs.Splices.{SplicesAreRuns};
 ghost use Rattle.exi_reader.specs.Sound.{CodesFit, FirstIsSound, ReachedAreSound, StepsKeepSound};
 
@@ -124,6 +125,12 @@ pub fn spelled_is_asked()
 /// another root.
 pub fn splices_are_runs()
     ensures law { SplicesAreRuns }
+{}
+
+/// Where what the fragment charged is too much, a reader that stands at it stops inside it by a limit; or at its
+/// first element, by the root of another element or by the limit that the root's name passes.
+pub fn too_much_stops()
+    ensures law { TooMuchStops }
 {}
 
 /// After so many turns no list of the string tables has more than 2^30 texts and two for each turn, and

@@ -35,6 +35,7 @@ mod parts;
 mod read;
 mod reader;
 mod rule;
+mod splice;
 mod start;
 mod step;
 mod stepper;
@@ -55,5 +56,6 @@ pub use parts::{
 pub use read::read_from;
 pub use reader::Reader;
 pub use rule::{Content, Rule};
+pub use splice::Spliced;
 pub use start::Start;
 pub use turn::{ReadStop, Turn};

@@ -1,7 +1,7 @@
 ghost use Rattle.std.specs.Prelude.{◌≡◌, ◌≤◌, ◌+◌, false, true, IfOk, IsErrOf, OnOk};
 ghost use Rattle.exi_meter.specs.Metering.{IsWithinStream};
 ghost use Rattle.exi_names.specs.Events.{Rose};
-ghost use Rattle.exi_reader.specs.Reading.{IsJob, IsReached, IsStartIn, StaysReached, Turns, job_of, reading};
+ghost use Rattle.exi_reader.specs.Reading.{IsJob, IsReached, IsStartIn, StandsAt, StaysReached, Turns, job_of, reading};
 ghost use Rattle.exi_reader.specs.Runs.{first};
 ghost use Rattle.exi_reader.specs.Splices.{fits};
 
@@ -24,11 +24,11 @@ use std::sync::ledger::Ledger;
 /// A reader of a body or a fragment, one event at a time (EXI 1.0, section 6).
 ///
 /// A contract sees it as a `Reading`: a configuration of sequential processing, with what is read by and what is
-/// read. Behind SC it stands at the fragment, which is to be entered.
+/// read. Behind SC it stands at the fragment, which is to be entered or spliced.
 #[derive(Drop)]
 pub struct Reader<'a, T: Tables + Drop> {
-    stepper: Stepper<'a, T>,
-    waits: bool,
+    pub(crate) stepper: Stepper<'a, T>,
+    pub(crate) waits: bool,
 }
 
 impl<'a, T: Tables + Drop> Model for Reader<'a, T> {
@@ -76,7 +76,7 @@ impl<'a, T: Tables + Drop> Reader<'a, T> {
 
     /// One turn: reads one event, counts one step, and hands at most one event on. It has to stand where turns
     /// lead from a job's first place, and not at a fragment that is to be entered; so it does where no turn has
-    /// ended or stopped, and each fragment was entered.
+    /// ended or stopped, and each fragment was entered or spliced.
     ///
     /// # Errors
     ///
@@ -91,6 +91,7 @@ impl<'a, T: Tables + Drop> Reader<'a, T> {
         requires going { self.old.waits ≡ false }
         ensures turned { Turns E.took E.broke result self.old self.new out.old out.new }
         ensures reached { StaysReached result self.new }
+        ensures fragment { StandsAt result self.new }
         ensures setting { self.new.setting ≡ self.old.setting }
         ensures bytes { self.new.bytes ≡ self.old.bytes }
         ensures steps { steps.new ≡ steps.old + 1 }

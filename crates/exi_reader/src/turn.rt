@@ -11,7 +11,7 @@ pub enum Turn {
     /// Reading goes on.
     Went,
     /// A self-contained fragment begins at this byte, counted from the head of the input. It is to be
-    /// entered.
+    /// entered or spliced.
     AtFragment(u64),
     /// Reading has ended.
     Ended(End),

@@ -1,4 +1,4 @@
-use Rattle.exi_reader.proofs.Turning.{reader_steady, stays_fragment, stays_on}
+use Rattle.exi_reader.proofs.Turning.{place_fragment, reader_steady, stays_fragment, stays_on}
 use Rattle.exi_reader.proofs.reader.Reader.turn.Goals as goal
 
 pub step-requires : goal.step-requires
@@ -11,3 +11,6 @@ pub returns-in_default-clause-reached : goal.returns-in_default-clause-reached
 returns-in_default-clause-reached g c =
     let h = rw c.in-Ok-None.field-0-is at c.in-Ok-None.ensures.hands in
     rw (c.in_default.ensures.same) (stays_on h.0 c.self.inside.stepper c.step.new.self c.self.inside.waits c.args.self.now c.self.view_is c.requires.going c.requires.reached h.1 c.in_default.ensures.end c.in-Ok-None.ensures.setting c.in-Ok-None.ensures.bytes)
+
+pub returns-in-Ok-Some-clause-fragment : goal.returns-in-Ok-Some-clause-fragment
+returns-in-Ok-Some-clause-fragment g c = place_fragment c.in-Ok-Some.byte c.self.inside.stepper c.step.new.self c.self.inside.waits c.args.self.now c.self.view_is c.requires.going c.requires.reached (rw c.in-Ok-Some.field-0-is at c.in-Ok-Some.ensures.hands).0 c.in-Ok-Some.ensures.setting
