@@ -1,4 +1,4 @@
--- Codes of built-in states worked from the written lists (W3C EXI 1.0, sections 8.4.2, 8.4.3 and 8.3), and what
+-- Codes of built-in states worked from the written lists (EXI 1.0, sections 8.4.2, 8.4.3 and 8.3), and what
 -- a stream teaches.
 use Rattle.std.proofs.Common.{◌≡◌, ℕ, List, [], ◌∷◌, None, refl, true, false}
 use Rattle.exi_names.specs.declared.names.NameId.{NameId}

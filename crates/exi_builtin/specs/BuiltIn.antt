@@ -1,4 +1,4 @@
--- The built-in grammars of elements and fragments (W3C EXI 1.0, sections 8.4.2 and 8.4.3), as they stand before
+-- The built-in grammars of elements and fragments (EXI 1.0, sections 8.4.2 and 8.4.3), as they stand before
 -- anything is learned, and what the options leave of them (section 8.3).
 use Rattle.std.specs.Prelude.{ℕ, Bool, true, false, Option, None, [], ◌∷◌}
 use Rattle.exi_gram.specs.declared.options.Options.{Options}

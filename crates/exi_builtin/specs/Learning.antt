@@ -1,4 +1,4 @@
--- How built-in grammars learn from what is used (W3C EXI 1.0, sections 8.4.2 and 8.4.3). A production that is
+-- How built-in grammars learn from what is used (EXI 1.0, sections 8.4.2 and 8.4.3). A production that is
 -- learned gets the code 0 of one part, and the first parts of all others rise by one.
 use Rattle.std.specs.Prelude.{ℕ, zero, suc, ◌<◌, ◌≡◌, Bool, true, false, ◌&&◌, Option, Some, None, List, [], ◌∷◌, ◌++◌, length, map, position, slice_get, unwrap_or, if◌then◌else◌}
 use Rattle.exi_names.specs.declared.names.NameId.{NameId}

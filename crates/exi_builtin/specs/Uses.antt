@@ -1,4 +1,4 @@
--- What the uses of productions add to a state (W3C EXI 1.0, sections 8.4.2 and 8.4.3).
+-- What the uses of productions add to a state (EXI 1.0, sections 8.4.2 and 8.4.3).
 use Rattle.std.specs.Prelude.{◌&&◌, Bool, true, false, List}
 use Rattle.std.specs.List.{list_any}
 use Rattle.exi_names.specs.declared.names.NameId.{NameId}

@@ -52,6 +52,13 @@ impl<T> Items<T> {
         self.items.as_slice()
     }
 
+    /// The items as a vector, in the same memory.
+    pub fn into_vec(self) -> Vec<T>
+        ensures { result.items ≡ self }
+    {
+        self.items
+    }
+
     /// The items, to change them.
     pub fn as_mut_slice(&mut self) -> &mut [T]
         ensures* writes_back { sem 𝓛 (lends_slice T.row self.entry result) }

@@ -7,17 +7,17 @@ ghost use Rattle.exi_gram.specs.CodeTrees.{CodeIsChosen, PlaceIsRead, StateIsCod
 ghost use Rattle.exi_gram.specs.Laws.{CodeGoesOn, CodeIsNoPrefix, CodeIsOfState, CodeIsParts, CodeIsRead, CodeIsSpelled, MappedIsRead, PlacedIsNumbered, PrunedIsClosedUp};
 
 /// The production that is read has a code of the state, and the bits of that code were taken.
-pub fn code_is_spelled<T>()
+pub fn read_is_spelled<T>()
     ensures { CodeIsSpelled T }
 {}
 
 /// The bits of a code tell its production, whatever follows.
-pub fn code_is_read<T>()
+pub fn spelled_is_read<T>()
     ensures { CodeIsRead T }
 {}
 
 /// No code's bits are a proper prefix of another's in the same state, and equal bits are of one code.
-pub fn code_is_no_prefix<T>()
+pub fn none_is_prefix<T>()
     ensures { CodeIsNoPrefix T }
 {}
 

@@ -5,6 +5,7 @@ use Rattle.std.specs.List.{flat_map}
 use Rattle.exi_digits.specs.Digits.{is_numeral, number_of}
 use Rattle.exi_names.specs.declared.stops.TextStop.{TextStop}
 use Rattle.exi_names.specs.declared.stops.TextStop.TheVariants as stop
+use Rattle.exi_index.specs.declared.parse.TheConstants.{MOST_LINES}
 
 -- ---- the spelling
 -- the line, without its line feed, says the number
@@ -35,7 +36,7 @@ lines_of hints = flat_map line_of hints
 -- ---- the reading
 -- how many lines a text has at most
 abbrev pub most_lines : ℕ
-most_lines = 65536
+most_lines = MOST_LINES
 
 -- the number that a line says, without its line feed
 abbrev pub is_hint : List ℕ → Bool

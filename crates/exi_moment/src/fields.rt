@@ -95,7 +95,7 @@ pub fn time_in_range(counts: bool, hour: u64, minute: u64, second: u64) -> bool
         && in_range(counts, 0, 60, second)
 }
 
-/// Whether the fields are in their ranges, as [`write_moment`] wants them (W3C EXI, section 7.1.8).
+/// Whether the fields are in their ranges, as [`write_moment`] wants them (EXI 1.0, section 7.1.8).
 ///
 /// Month 1 to 12, day 1 to 31 in any month, hour to 24, minute to 59, second to 60, zone at most 840
 /// minutes either way; a field that the kind does not have is 0 or `None`.

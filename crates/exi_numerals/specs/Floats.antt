@@ -1,6 +1,6 @@
 -- Floats as text (XML Schema Part 2, sections 3.2.4 and 3.2.5): "a mantissa followed, optionally, by the
 -- character "E" or "e", followed by an exponent. The exponent must be an integer. The mantissa must be a decimal
--- number." And `INF`, `-INF` and `NaN`. A float is a mantissa times 10 to the exponent (W3C EXI, section 7.1.4).
+-- number." And `INF`, `-INF` and `NaN`. A float is a mantissa times 10 to the exponent (EXI 1.0, section 7.1.4).
 use Rattle.std.specs.Prelude.{ℕ, ◌^◌, Bool, false, ◌&&◌, ◌==◌, nat_lt, List, ◌∷◌, ◌++◌, length, codes, Option, Some, None, if◌then◌else◌, ℤ, pos, negsuc, ◌-ℤ◌, int_le, bytes_eq}
 use Rattle.std.specs.Fmt.{signed_decimal}
 use Rattle.exi_digits.specs.Digits.{number_of}

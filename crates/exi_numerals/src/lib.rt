@@ -10,7 +10,7 @@
 //!           -INF                     mantissa -1, exponent -16384    -INF
 //! ```
 //!
-//! A fraction is kept as the number of its digits in reverse, as in an EXI stream (W3C EXI, section 7.1.3). The
+//! A fraction is kept as the number of its digits in reverse, as in an EXI stream (EXI 1.0, section 7.1.3). The
 //! texts that are read are bytes without white space around them; a byte that is no ASCII character stands in
 //! none that has a value. Each is looked at once for where it is cut, and once for its digits.
 #![tactic(auto)]

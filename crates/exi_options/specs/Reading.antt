@@ -20,6 +20,7 @@ use Rattle.exi_options.specs.declared.table.State.{State}
 use Rattle.exi_options.specs.declared.table.State.TheVariants as state
 use Rattle.exi_options.specs.declared.told.Told.{Told}
 use Rattle.exi_options.specs.Document.{ahead, codes, flag, productions}
+use Rattle.exi_options.specs.declared.name.TheConstants.{MOST_CHARACTERS}
 
 -- ---- what is told
 -- nothing
@@ -47,7 +48,7 @@ with_schema_bit bit t = record t { schema_bit = Some bit }
 -- ---- the schema's name
 -- how many characters it has at most (our own bound)
 abbrev pub most_characters : ℕ
-most_characters = 65536
+most_characters = MOST_CHARACTERS
 
 -- A string that the empty string tables do not hold (section 7.3.3): its length and 2, and its characters. 0 and 1 stand
 -- for a string of the tables, of which there is none.

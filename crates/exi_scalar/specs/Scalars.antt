@@ -1,4 +1,4 @@
--- Values of Boolean, Integer, Decimal, Float and Binary (W3C EXI, sections 7.1.1 to 7.1.5): how they are
+-- Values of Boolean, Integer, Decimal, Float and Binary (EXI 1.0, sections 7.1.1 to 7.1.5): how they are
 -- read, item by item, each fault at the first bit of the item in which it shows, and what is written.
 use Rattle.std.specs.Prelude.{◌≡◌, ◌==◌, ◌&&◌, not, ℕ, suc, ◌+◌, ◌*◌, ◌-◌, ◌%◌, ◌^◌, ◌<◌, ℤ, pos, negsuc, Bool, true, false, Result, Ok, Err, nat_lt, nat_le, if◌then◌else◌, List, [], ◌++◌, length}
 use Rattle.exi_bits.specs.declared.align.Align.{Align}

@@ -1,4 +1,4 @@
--- Which bits spell a value of Boolean, Integer, Decimal, Float or Binary (W3C EXI, sections 7.1.1 to 7.1.5).
+-- Which bits spell a value of Boolean, Integer, Decimal, Float or Binary (EXI 1.0, sections 7.1.1 to 7.1.5).
 -- An Unsigned Integer has several spellings, and so has a Float that is not a number.
 use Rattle.std.specs.Prelude.{◌≡◌, ℕ, ◌+◌, ◌*◌, ◌^◌, ◌<◌, Bool, false, true, List, length}
 use Rattle.exi_bits.specs.declared.align.Align.{Align}

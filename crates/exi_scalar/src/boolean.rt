@@ -10,7 +10,7 @@ use exi_bits::{Align, BitIn, BitOut, Fault, Kind};
 use exi_names::Val;
 use std::alloc::AllocError;
 
-/// Reads a Boolean (W3C EXI, section 7.1.2): one bit, or two where the datatype has a pattern, which
+/// Reads a Boolean (EXI 1.0, section 7.1.2): one bit, or two where the datatype has a pattern, which
 /// also tell the word from the digit: 0 is `false`, 1 is `0`, 2 is `true`, 3 is `1`. It takes no memory.
 /// Under [`Align::Bytes`] the place has to be a whole byte.
 ///

@@ -25,7 +25,7 @@ fn decimal_parts(input: &mut BitIn<'_>, align: Align) -> Result<Val, Fault>
     Ok(Val::Dec { minus, whole, back })
 }
 
-/// Reads a Decimal (W3C EXI, section 7.1.3): a sign, the part before the point, and the digits behind it
+/// Reads a Decimal (EXI 1.0, section 7.1.3): a sign, the part before the point, and the digits behind it
 /// in reverse, both as Unsigned Integers. It takes no memory. Under [`Align::Bytes`] the place has to be
 /// a whole byte.
 ///

@@ -84,7 +84,7 @@ fn float_parts(input: &mut BitIn<'_>, align: Align) -> Result<Val, Fault>
     Ok(float_of(mantissa, exponent))
 }
 
-/// Reads a Float (W3C EXI, section 7.1.4): a mantissa and an exponent of ten, both Integers. With the
+/// Reads a Float (EXI 1.0, section 7.1.4): a mantissa and an exponent of ten, both Integers. With the
 /// exponent -16384 the mantissa 1 is infinity, -1 is minus infinity, and any other one is not a number,
 /// which is kept with the mantissa 0. It takes no memory. Under [`Align::Bytes`] the place has to be a
 /// whole byte.

@@ -35,7 +35,7 @@ fn integer(input: &mut BitIn<'_>, align: Align) -> Result<Whole, Fault>
     Ok(whole_of(parts))
 }
 
-/// Reads an Integer from -2^127 to 2^127 - 1 (W3C EXI, section 7.1.5): a sign, and an Unsigned Integer,
+/// Reads an Integer from -2^127 to 2^127 - 1 (EXI 1.0, section 7.1.5): a sign, and an Unsigned Integer,
 /// which is the number's magnitude, or one less if the number is negative. It takes no memory. Under
 /// [`Align::Bytes`] the place has to be a whole byte.
 ///

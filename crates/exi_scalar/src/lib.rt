@@ -1,4 +1,4 @@
-//! Values of the datatypes Binary, Boolean, Decimal, Float and Integer, read and written (W3C EXI,
+//! Values of the datatypes Binary, Boolean, Decimal, Float and Integer, read and written (EXI 1.0,
 //! sections 7.1.1 to 7.1.5).
 //!
 //! Each is made of n-bit numbers and Unsigned Integers, one behind the other. `u` is an Unsigned Integer:

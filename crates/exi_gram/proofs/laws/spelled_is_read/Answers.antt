@@ -1,5 +1,5 @@
 use Rattle.exi_gram.proofs.CodeLaws.{code_read}
-use Rattle.exi_gram.proofs.laws.code_is_read.Goals as goal
+use Rattle.exi_gram.proofs.laws.spelled_is_read.Goals as goal
 
 pub returns : goal.returns
 returns g c = code_read
