@@ -1,4 +1,5 @@
-ghost use Rattle.std.specs.Prelude.{◌≡◌, ℕ, ◌++◌, ◌%◌, ◌<◌, ◌≤◌, IfOk, true, not, length, get_or, position};
+ghost use Rattle.std.specs.Prelude.{◌≡◌, ℕ, ◌++◌, ◌%◌, ◌<◌, ◌≤◌, IfOk, IsTrue, true, not, OnOk, length, get_or, position, take};
+ghost use Rattle.std.specs.Str.{IsAscii};
 ghost use Rattle.exi_bits.specs.Bits.{octets_of, rest};
 ghost use Rattle.exi_bits.specs.Repeat.{times};
 ghost use Rattle.exi_text.specs.Literals.{code_at, is_plain};
@@ -21,16 +22,42 @@ fn other_place(octets: &[u8]) -> Option<usize>
     octets.iter().position(|octet| !is_plain_octet(*octet))
 }
 
+/// Whether all octets are surely plain, looked at many at once: none of them ends the search.
+fn all_plain(octets: &[u8]) -> bool
+    ensures { IsTrue result → (i : ℕ) → i < length octets.now → is_plain (get_or octets.now i 0) ≡ true }
+{
+    let mut all = true;
+    for octet in octets {
+        all = all & (*octet >= 0x20) & (*octet < 0x80);
+    }
+    all
+}
+
 /// How many plain octets there are before any other, at most so many.
 fn plain_front(octets: &[u8], most: usize) -> usize
     ensures few { result ≤ most }
     ensures within { result ≤ length octets.now }
     ensures plain { (i : ℕ) → i < result → is_plain (get_or octets.now i 0) ≡ true }
 {
+    if octets.len() <= most && all_plain(octets) {
+        return octets.len();
+    }
     match other_place(octets) {
         Some(place) => place.min(most),
         None => octets.len().min(most),
     }
+}
+
+/// Adds the first octets of a word, which are ASCII: all eight by one copy of known length.
+fn push_front(text: &mut Txt, octets: &[u8; 8], run: usize) -> Result<(), AllocError>
+    requires few { run ≤ 8 }
+    requires ascii { IsAscii (take run octets.now) }
+    ensures ok { OnOk result (text.new ≡ text.old ++ take run octets.now) }
+{
+    if run == 8 {
+        return text.push_ascii(octets);
+    }
+    text.push_ascii(&octets[..run])
 }
 
 /// Adds plain characters that stand at the place, and answers how many: at most eight, which a word holds,
@@ -50,6 +77,6 @@ pub fn add_plain(input: &mut BitIn<'_>, text: &mut Txt, most: u128) -> Result<u6
     let run = plain_front(&octets, most.min(8) as usize);
     let behind = input.at();
     input.go_to_bit(behind - (8 - run as u64) * 8);
-    text.push_ascii(&octets[..run])?;
+    push_front(text, &octets, run)?;
     Ok(run as u64)
 }

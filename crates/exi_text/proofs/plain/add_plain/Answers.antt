@@ -14,7 +14,7 @@ go_to_bit-requires c = omega (arith, c.at-behind.ensures.within)
 pub returns-clause-text : goal.returns-clause-text
 returns-clause-text c =
     let w = word_begins c.plain_front-run.result c.in-Some.word c.to_be_bytes-octets.result c.args.input.now c.take.new.self (omega (arith, c.plain_front-run.ensures.few)) c.in-Some.ensures.read c.to_be_bytes-octets.ensures c.plain_front-run.ensures.plain in
-    rw (c.in_ok-push_ascii.ensures.ok, w.text) refl
+    rw (c.in_ok-push_front.ensures.ok, w.text) refl
 
 pub returns-clause-read : goal.returns-clause-read
 returns-clause-read c =
