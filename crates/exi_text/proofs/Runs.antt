@@ -15,7 +15,7 @@ use Rattle.exi_bits.specs.Repeat.{Reader, times, with_front}
 use Rattle.exi_bits.specs.Unsigned.{◌>>=◌, groups, groups_at, shortest, narrow_groups_at, unsigned_at}
 use Rattle.exi_bits.proofs.BitLaws.{one_byte}
 use Rattle.exi_bits.proofs.OctetLaws.{octets_add, word_octets}
-use Rattle.exi_bits.proofs.Repeats.{times_goes_on, times_fails, times_done}
+use Rattle.exi_bits.proofs.Repeats.{times_done}
 use Rattle.exi_bits.proofs.Spelled.{guard_some, length-rest}
 use Rattle.exi_items.proofs.Items.{bind_ok, given, ok_is}
 use Rattle.exi_names.specs.Characters.{between, is_xml_char}
@@ -193,26 +193,18 @@ run_goes_on read front xs left n s t total le h so_far =
     let k : n + (left - n) ≡ left = omega arith in
     sym (two_fronts front xs (times read (left - n) t)) ∙ ap (λ r. with_front front r) (sym (run_on read n (left - n) s t xs h) ∙ ap (λ (m : ℕ). times read m s) k) ∙ so_far
 
--- one character more, a fault, and the end
+-- the end
 same_left : {X : Type 0} (read : Reader X) (front : List X) (left : ℕ) (s : Spot) (total : Result (List X × Spot) Fault) → with_front front (times read left s) ≡ total → with_front front (times read (left - 0) s) ≡ total
 same_left read front left s total so_far = let e : left - 0 ≡ left = omega arith in ap (λ (n : ℕ). with_front front (times read n s)) e ∙ so_far
-
-pub one_goes_on : {X : Type 0} (read : Reader X) (front : List X) (left : ℕ) (s t : Spot) (x : X) (total : Result (List X × Spot) Fault) → 0 < left → read s ≡ Ok (x, t)
-    → with_front front (times read left s) ≡ total → with_front (front ++ x ∷ []) (times read (left - 1) t) ≡ total
-one_goes_on read front left s t x total lt h so_far = times_goes_on read front left 0 s t x total lt h (same_left read front left s total so_far)
-
-pub one_fails : {X : Type 0} (read : Reader X) (front : List X) (left : ℕ) (s : Spot) (f : Fault) (total : Result (List X × Spot) Fault) → 0 < left → read s ≡ Err f → with_front front (times read left s) ≡ total → total ≡ Err f
-one_fails read front left s f total lt h so_far = times_fails read front left 0 s f total lt h (same_left read front left s total so_far)
 
 pub run_ends : {X : Type 0} (read : Reader X) (front : List X) (left : ℕ) (s : Spot) (total : Result (List X × Spot) Fault) → left ≤ 0 → with_front front (times read left s) ≡ total → total ≡ Ok (front, s)
 run_ends read front left s total le so_far = times_done read front left 0 s total le (same_left read front left s total so_far)
 
--- a run of none
-pub run_stands : {X : Type 0} (read : Reader X) (front text xs : List X) (left n : ℕ) (s t : Spot) (total : Result (List X × Spot) Fault) → text ≡ front ++ xs → n ≤ 0 → times read n s ≡ Ok (xs, t)
-    → with_front front (times read left s) ≡ total → with_front text (times read left t) ≡ total
-run_stands read front text xs left n s t total e none h so_far =
-    let k : left - n ≡ left = omega arith in
-    ap (λ (m : ℕ). with_front text (times read m t)) (sym k) ∙ ap (λ f. with_front f (times read (left - n) t)) e ∙ run_goes_on read front xs left n s t total (omega arith) h so_far
+-- behind a run
+pub run_moves : {X : Type 0} (read : Reader X) (front text xs : List X) (left n m : ℕ) (s t : Spot) (total : Result (List X × Spot) Fault) → text ≡ front ++ xs → m ≡ n → n ≤ left → times read n s ≡ Ok (xs, t)
+    → with_front front (times read left s) ≡ total → with_front text (times read (left - m) t) ≡ total
+run_moves read front text xs left n m s t total e same le h so_far =
+    ap (λ (k : ℕ). with_front text (times read (left - k) t)) same ∙ ap (λ f. with_front f (times read (left - n) t)) e ∙ run_goes_on read front xs left n s t total le h so_far
 
 -- ---- what is written
 ascii_octet : (c : ℕ) → c < 128 → shortest c ≡ c ∷ []

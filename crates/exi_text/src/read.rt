@@ -1,7 +1,7 @@
-ghost use Rattle.std.specs.Prelude.{◌≡◌, ◌%◌, IfErr, OnErr, option_copied};
+ghost use Rattle.std.specs.Prelude.{◌≡◌, ◌-◌, ◌%◌, ◌<◌, ◌≤◌, IfOk, IfErr, OnErr, option_copied};
 ghost use Rattle.exi_bits.specs.Bits.{IsAligned};
-ghost use Rattle.exi_bits.specs.Unsigned.{Reads, ReadsSome, Stops};
-ghost use Rattle.exi_bits.specs.Repeat.{times};
+ghost use Rattle.exi_bits.specs.Unsigned.{Reads, ReadsSome, Stops, StopsAs};
+ghost use Rattle.exi_bits.specs.Repeat.{times, with_front};
 ghost use Rattle.exi_items.specs.Charges.{Charges, after_text, meter_after};
 ghost use Rattle.exi_text.specs.Literals.{code_at, in_set_at, chars_at};
 
@@ -67,6 +67,26 @@ fn room_for(input: &BitIn<'_>, count: u128, width: u32) -> usize {
     u128::from(input.left() / u64::from(width)).min(count) as usize
 }
 
+/// Adds characters by their code points up to one of ASCII, and answers how many: at most so many. After
+/// an `Err` the place is anything.
+fn add_codes(input: &mut BitIn<'_>, text: &mut Txt, most: u128) -> Result<u128, Stop>
+    requires some { 0 < most }
+    ensures few { IfOk result (λ n. (0 < n) × (n ≤ most)) }
+    ensures read { IfOk result (λ n. with_front text.new (times code_at (most - n) input.new) ≡ with_front text.old (times code_at most input.old)) }
+    ensures fault { IfErr result (λ stop. StopsAs stop (with_front text.old (times code_at most input.old))) }
+    ensures bytes { input.new.bytes ≡ input.old.bytes }
+    ensures phase { input.new.place % 8 ≡ input.old.place % 8 }
+{
+    for before in 0..most {
+        let c = code(input)?;
+        text.push(c)?;
+        if c.is_ascii() {
+            return Ok(before + 1);
+        }
+    }
+    Ok(most)
+}
+
 /// So many characters by their code points. After an `Err` the place is anything.
 fn codes(alloc: Global, input: &mut BitIn<'_>, count: u128) -> Result<Txt, Stop>
     ensures read { Stops (λ t. t) result input.new (times code_at count input.old) }
@@ -78,12 +98,9 @@ fn codes(alloc: Global, input: &mut BitIn<'_>, count: u128) -> Result<Txt, Stop>
     let mut left = count;
     while left > 0 {
         let run = add_plain(input, &mut text, left)?;
-        if run > 0 {
-            left -= u128::from(run);
-        } else {
-            let c = code(input)?;
-            text.push(c)?;
-            left -= 1;
+        left -= u128::from(run);
+        if run < 8 && left > 0 {
+            left -= add_codes(input, &mut text, left)?;
         }
     }
     Ok(text)
