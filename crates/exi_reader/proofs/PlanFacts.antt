@@ -11,7 +11,7 @@ use Rattle.exi_reader.proofs.Readings.{Reads, attribute_reads, characters_reads,
 use Rattle.exi_reader.specs.Changes.{innermost}
 
 -- ---- what is read
-pub plan_reads : (g : Setting) (a : Alone) (c : Config) (r : Rule) (t : Terminal) → Reads {X = (plan_on g a c r t).Item} (align_of g.options) (plan_on g a c r t).read (plan_on g a c r t).Spells
+pub plan_reads : (g : Setting) (a : Alone) (c : Config) (r : Rule) (t : Terminal) → Reads {X = (plan_on g a c r t).Item} (align_of g.options) (plan_on g a c r t).read (plan_on g a c r t).Spells (plan_on g a c r t).Refuses
 plan_reads g a c r start_document = nothing_reads (align_of g.options)
 plan_reads g a c r end_document = nothing_reads (align_of g.options)
 plan_reads g a c r (element t) = name_reads g t

@@ -1,5 +1,5 @@
 -- What stands behind a code: what is read is what is spelled, and it goes onward.
-use Rattle.std.proofs.Common.{◌≡◌, ℕ, Bool, true, false, cond, List, [], ◌++◌, length, Result, Ok, Err, refl, ap, ◌∙◌, subst}
+use Rattle.std.proofs.Common.{◌≡◌, ℕ, Bool, true, false, cond, List, [], ◌++◌, length, Result, Ok, Err, refl, sym, ap, ◌∙◌, subst}
 use Rattle.exi_bits.specs.declared.align.Align.{Align}
 use Rattle.exi_bits.specs.declared.fault.Kind.TheVariants as kind
 use Rattle.exi_bits.specs.Bits.{Spot, IsAligned, IsBytes, moved, rest}
@@ -10,11 +10,12 @@ use Rattle.exi_names.specs.Seen.{Value}
 use Rattle.exi_meter.specs.Metering.{Metering}
 use Rattle.exi_tables.specs.Partitions.{Partitions}
 use Rattle.exi_typed.specs.Charging.{Charge, charging, later}
-use Rattle.exi_typed.specs.ReadStates.{ReadState, ContextReader, Failure}
-use Rattle.exi_typed.specs.Items.{item_at, string}
+use Rattle.exi_typed.specs.ReadStates.{Context, ReadState, ContextReader, Failure}
+use Rattle.exi_typed.specs.Items.{SpellsItem, item_at, string}
 use Rattle.exi_typed.specs.Laws.{Spelling}
 use Rattle.exi_typed.specs.Metered.{IsMetered}
 use Rattle.exi_typed.specs.Continues.{ReadsOn, Continues}
+use Rattle.exi_typed.specs.Refused.{IsRefusal, Refusing, RefusesDeclaration, RefusesItem, RefusesNext, wrong}
 use Rattle.exi_typed.specs.Spelled.{Follows, SpellsDeclaration}
 use Rattle.exi_typed.specs.Strings.{Declaration, Named, declaration_at, no_growth}
 use Rattle.exi_typed.proofs.ContextItems.{Chained, ContextItem, IsPure, MadeInContext, Went, bind_told, chained, context, read_state, in_words, made, pure, told, told_is}
@@ -22,13 +23,15 @@ use Rattle.exi_typed.proofs.Goings.{chained_goes, declaration_goes, known_goes, 
 use Rattle.exi_typed.proofs.ItemLaws.{item_goes, item_item}
 use Rattle.exi_typed.proofs.Meters.{bind_metered, declaration_metered, item_metered, known_metered, literal_metered, name_metered, pure_metered}
 use Rattle.exi_typed.proofs.NameItems.{item_declaration, item_known, item_name}
+use Rattle.exi_typed.proofs.Refusals.{declaration_refusal, fails, item_refusal, known_refusal, literal_refusal, name_refusal, next_refusal, start_refusal, told_refusal}
 use Rattle.exi_typed.proofs.Texts.{item_literal}
 use Rattle.exi_reader.specs.Configurations.{Setting}
-use Rattle.exi_reader.specs.Contents.{SpellsAttribute, SpellsAttributeValue, SpellsBoth, SpellsCharacters, SpellsFourTexts, SpellsNothing, SpellsText, SpellsTold, SpellsTwoTexts, attribute_at, attribute_value_at, both_at, characters_at, four_texts_at, is_missing, nothing_at, represented_by, text_at, told_name_at, two_texts_at}
+use Rattle.exi_reader.specs.Contents.{RefusesAttribute, RefusesAttributeValue, RefusesCharacters, RefusesFourTexts, RefusesNothing, RefusesText, RefusesTold, RefusesTwoTexts, SpellsAttribute, SpellsAttributeValue, SpellsBoth, SpellsCharacters, SpellsFourTexts, SpellsNothing, SpellsText, SpellsTold, SpellsTwoTexts, attribute_at, attribute_value_at, both_at, characters_at, four_texts_at, is_missing, nothing_at, represented_by, text_at, told_name_at, two_texts_at}
 use Rattle.exi_reader.specs.Rules.{Telling, known, spelled}
 
 -- what is known of a reading
-pub record Reads {X : Type 0} (a : Align) (read : ContextReader X) (Spells : Spelling X) : Type 0 where
+pub record Reads {X : Type 0} (a : Align) (read : ContextReader X) (Spells : Spelling X) (Refuses : Refusing) : Type 0 where
+  pub refusal : IsRefusal a read Refuses
   pub item : ContextItem a read Spells
   pub goes : ReadsOn read
   pub metered : IsMetered read
@@ -37,8 +40,12 @@ pub record Reads {X : Type 0} (a : Align) (read : ContextReader X) (Spells : Spe
 one_unit : (x : Unit {0}) → tt ≡ x
 one_unit tt = refl
 
-pub nothing_reads : (a : Align) → Reads {X = Unit {0}} a nothing_at SpellsNothing
+never : (x : Unit {0} × ReadState) (e : Failure) → told x ≡ fails e → ⊥
+never x e h = cc
+
+pub nothing_reads : (a : Align) → Reads {X = Unit {0}} a nothing_at SpellsNothing RefusesNothing
 nothing_reads a = record {
+  refusal = record { fails = λ w s e octets al h. never (tt, read_state s w) e h; again = λ w s e octets al h. absurd h };
   item = in_words a nothing_at (IsPure tt) SpellsNothing (λ x w v ks text h. h.nothing) (λ x w v ks text h. record { is = one_unit x; nothing = h }) (pure a tt);
   goes = told_goes (λ c. tt);
   metered = pure_metered tt;
@@ -84,15 +91,25 @@ module _ {X Y : Type 0} (a : Align) (one : ContextReader X) (two : X → Context
   unfolding both_at
   both_metered f g = bind_metered one (λ x c. two x c >>= λ y. told {X = (X × Y) × ReadState} ((x, y.0), y.1)) f (λ x. bind_metered (two x) (λ y c. told {X = (X × Y) × ReadState} ((x, y), c)) (g x) (λ y. pure_metered (x, y)))
 
-  pub both_reads : Reads a one One → ((x : X) → Reads a (two x) (Two x)) → Reads {X = X × Y} a (both_at one two) (SpellsBoth One Two)
-  both_reads r s = record { item = both_item r.item (λ x. (s x).item); goes = both_goes r.goes (λ x. (s x).goes); metered = both_metered r.metered (λ x. (s x).metered) }
+  both_refused : (RefOne : Refusing) (RefTwo : X → Refusing) → IsRefusal a one RefOne → ContextItem a one One → ((x : X) → IsRefusal a (two x) (RefTwo x)) → IsRefusal {X = X × Y} a (both_at one two) (RefusesNext RefOne One RefTwo)
+  unfolding both_at
+  both_refused RefOne RefTwo r i s = next_refusal a one (λ x c. two x c >>= λ y. told {X = (X × Y) × ReadState} ((x, y.0), y.1)) RefOne One RefTwo r i (λ x. told_refusal a (two x) (RefTwo x) (λ y c. (x, y)) (s x))
+
+  pub both_reads : (RefOne : Refusing) (RefTwo : X → Refusing) → Reads a one One RefOne → ((x : X) → Reads a (two x) (Two x) (RefTwo x)) → Reads {X = X × Y} a (both_at one two) (SpellsBoth One Two) (RefusesNext RefOne One RefTwo)
+  both_reads RefOne RefTwo r s = record { refusal = both_refused RefOne RefTwo r.refusal r.item (λ x. (s x).refusal); item = both_item r.item (λ x. (s x).item); goes = both_goes r.goes (λ x. (s x).goes); metered = both_metered r.metered (λ x. (s x).metered) }
 
 -- ---- names
-pub name_reads : (g : Setting) (t : Telling) → Reads {X = Named} (align_of g.options) (told_name_at g t) (SpellsTold g t)
-name_reads g spelled = record { item = item_name (prefixes g.options) (align_of g.options); goes = name_goes (prefixes g.options) (align_of g.options); metered = name_metered (prefixes g.options) (align_of g.options) }
-name_reads g (known id) = record { item = item_known (prefixes g.options) (align_of g.options) id; goes = known_goes (prefixes g.options) (align_of g.options) id; metered = known_metered (prefixes g.options) (align_of g.options) id }
+pub name_reads : (g : Setting) (t : Telling) → Reads {X = Named} (align_of g.options) (told_name_at g t) (SpellsTold g t) (RefusesTold g t)
+name_reads g spelled = record { refusal = name_refusal (align_of g.options) (prefixes g.options); item = item_name (prefixes g.options) (align_of g.options); goes = name_goes (prefixes g.options) (align_of g.options); metered = name_metered (prefixes g.options) (align_of g.options) }
+name_reads g (known id) = record { refusal = known_refusal (align_of g.options) (prefixes g.options) id; item = item_known (prefixes g.options) (align_of g.options) id; goes = known_goes (prefixes g.options) (align_of g.options) id; metered = known_metered (prefixes g.options) (align_of g.options) id }
 
 -- ---- values
+failure_is : (e f : Failure) → fails {X = Value × ReadState} e ≡ fails f → e ≡ f
+failure_is e f h = cc
+
+no_value : (x : Value × ReadState) (e : Failure) → told x ≡ fails e → ⊥
+no_value x e h = cc
+
 module _ (g : Setting) (name : NameId) where
   abbrev a : Align
   a = align_of g.options
@@ -151,24 +168,44 @@ module _ (g : Setting) (name : NameId) where
       by_missing found true t q = record { charges = []; rest = Err (record { kind = kind.BadType; bit = s.place }); is = λ m. refl }
       by_missing found false t q = pure_metered found t q
 
-  pub value_reads : Reads {X = Value} a (attribute_value_at g name) (SpellsAttributeValue g name)
-  value_reads = record { item = value_item; goes = value_goes; metered = value_metered }
+  -- the type is not there
+  none_there : Spot → Value → ContextReader Value
+  none_there s found k = cond (is_missing g name) (Err (record { fault = record { kind = kind.BadType; bit = s.place }; meter = k.context.meter })) (told {X = Value × ReadState} (found, k))
 
-pub attribute_reads : (g : Setting) (t : Telling) → Reads {X = Named × Value} (align_of g.options) (attribute_at g t) (SpellsAttribute g t)
-attribute_reads g t = both_reads (align_of g.options) (told_name_at g t) (λ name. attribute_value_at g name.id) (SpellsTold g t) (λ name. SpellsAttributeValue g name.id) (name_reads g t) (λ name. value_reads g name.id)
+  abbrev NoneThere : Spot → Refusing
+  NoneThere s v t f = (is_missing g name ≡ true) × (f ≡ wrong kind.BadType s.place v.meter)
 
-pub characters_reads : (g : Setting) (name : NameId) → Reads {X = Value} (align_of g.options) (characters_at g name) (SpellsCharacters g name)
-characters_reads g name = record { item = item_item string (align_of g.options) name; goes = item_goes string (align_of g.options) name; metered = item_metered string (align_of g.options) name }
+  none_refused : (s : Spot) (found : Value) → IsRefusal {X = Value} a (none_there s found) (NoneThere s)
+  unfolding none_there
+  none_refused s found = record { fails = λ v t f octets al h. by_missing v t f (is_missing g name) refl h; again = λ v t f octets al h. rw h.0 (ap (λ (z : Failure). fails z) (sym h.1)) }
+    where
+      by_missing : (v : Context) (t : Spot) (f : Failure) (b : Bool) → is_missing g name ≡ b → cond b (Err (wrong kind.BadType s.place v.meter)) (told {X = Value × ReadState} (found, read_state t v)) ≡ fails f → NoneThere s v t f
+      by_missing v t f true e h = (e, sym (failure_is (wrong kind.BadType s.place v.meter) f h))
+      by_missing v t f false e h = absurd (no_value (found, read_state t v) f h)
 
-pub declaration_reads : (a : Align) → Reads {X = Declaration} a (declaration_at a) (SpellsDeclaration a)
-declaration_reads a = record { item = item_declaration a; goes = declaration_goes a; metered = declaration_metered a }
+  value_refused : IsRefusal {X = Value} a (attribute_value_at g name) (RefusesAttributeValue g name)
+  unfolding attribute_value_at none_there
+  value_refused = start_refusal a (λ s w c. item c >>= λ found. none_there s found.0 found.1) (λ s w. RefusesNext (RefusesItem (represented_by g name) a name) (SpellsItem (represented_by g name) a name) (λ found. NoneThere s))
+      (λ s w. next_refusal a item (none_there s) (RefusesItem (represented_by g name) a name) (SpellsItem (represented_by g name) a name) (λ found. NoneThere s) (item_refusal a (represented_by g name) name) (item_item (represented_by g name) a name) (none_refused s))
+
+  pub value_reads : Reads {X = Value} a (attribute_value_at g name) (SpellsAttributeValue g name) (RefusesAttributeValue g name)
+  value_reads = record { refusal = value_refused; item = value_item; goes = value_goes; metered = value_metered }
+
+pub attribute_reads : (g : Setting) (t : Telling) → Reads {X = Named × Value} (align_of g.options) (attribute_at g t) (SpellsAttribute g t) (RefusesAttribute g t)
+attribute_reads g t = both_reads (align_of g.options) (told_name_at g t) (λ name. attribute_value_at g name.id) (SpellsTold g t) (λ name. SpellsAttributeValue g name.id) (RefusesTold g t) (λ name. RefusesAttributeValue g name.id) (name_reads g t) (λ name. value_reads g name.id)
+
+pub characters_reads : (g : Setting) (name : NameId) → Reads {X = Value} (align_of g.options) (characters_at g name) (SpellsCharacters g name) (RefusesCharacters g name)
+characters_reads g name = record { refusal = item_refusal (align_of g.options) string name; item = item_item string (align_of g.options) name; goes = item_goes string (align_of g.options) name; metered = item_metered string (align_of g.options) name }
+
+pub declaration_reads : (a : Align) → Reads {X = Declaration} a (declaration_at a) (SpellsDeclaration a) (RefusesDeclaration a)
+declaration_reads a = record { refusal = declaration_refusal a; item = item_declaration a; goes = declaration_goes a; metered = declaration_metered a }
 
 -- ---- texts
-pub text_reads : (g : Setting) → Reads {X = List ℕ} (align_of g.options) (text_at g) (SpellsText g)
-text_reads g = record { item = item_literal (align_of g.options) no_growth; goes = literal_goes (align_of g.options) no_growth (λ p text. same_keeps p); metered = literal_metered (align_of g.options) no_growth }
+pub text_reads : (g : Setting) → Reads {X = List ℕ} (align_of g.options) (text_at g) (SpellsText g) (RefusesText g)
+text_reads g = record { refusal = literal_refusal (align_of g.options) no_growth; item = item_literal (align_of g.options) no_growth; goes = literal_goes (align_of g.options) no_growth (λ p text. same_keeps p); metered = literal_metered (align_of g.options) no_growth }
 
-pub two_texts_read : (g : Setting) → Reads {X = List ℕ × List ℕ} (align_of g.options) (two_texts_at g) (SpellsTwoTexts g)
-two_texts_read g = both_reads (align_of g.options) (text_at g) (λ first. text_at g) (SpellsText g) (λ first. SpellsText g) (text_reads g) (λ first. text_reads g)
+pub two_texts_read : (g : Setting) → Reads {X = List ℕ × List ℕ} (align_of g.options) (two_texts_at g) (SpellsTwoTexts g) (RefusesTwoTexts g)
+two_texts_read g = both_reads (align_of g.options) (text_at g) (λ first. text_at g) (SpellsText g) (λ first. SpellsText g) (RefusesText g) (λ first. RefusesText g) (text_reads g) (λ first. text_reads g)
 
-pub four_texts_read : (g : Setting) → Reads {X = (List ℕ × List ℕ) × (List ℕ × List ℕ)} (align_of g.options) (four_texts_at g) (SpellsFourTexts g)
-four_texts_read g = both_reads (align_of g.options) (two_texts_at g) (λ first. two_texts_at g) (SpellsTwoTexts g) (λ first. SpellsTwoTexts g) (two_texts_read g) (λ first. two_texts_read g)
+pub four_texts_read : (g : Setting) → Reads {X = (List ℕ × List ℕ) × (List ℕ × List ℕ)} (align_of g.options) (four_texts_at g) (SpellsFourTexts g) (RefusesFourTexts g)
+four_texts_read g = both_reads (align_of g.options) (two_texts_at g) (λ first. two_texts_at g) (SpellsTwoTexts g) (λ first. SpellsTwoTexts g) (RefusesTwoTexts g) (λ first. RefusesTwoTexts g) (two_texts_read g) (λ first. two_texts_read g)

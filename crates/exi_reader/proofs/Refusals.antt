@@ -12,7 +12,7 @@ use Rattle.exi_gram.specs.Switches.{align_of}
 use Rattle.exi_gram.proofs.CodeLaws.{spelled_item}
 use Rattle.exi_meter.specs.Metering.{Metering, event_fits, level_fits, with_event, with_level}
 use Rattle.exi_typed.specs.ReadStates.{Context, ReadState, Failure, failing}
-use Rattle.exi_typed.proofs.ContextItems.{ContextItem, fine, told, told_is, was_taken, where_taken}
+use Rattle.exi_typed.proofs.ContextItems.{fine, told, told_is, was_taken, where_taken}
 use Rattle.exi_reader.specs.Configurations.{Config, Setting, read_state_in, reached, rules_of, spot_in}
 use Rattle.exi_reader.specs.OneEvent.{at_event, behind, charge_at, event_charge, followed, level_charge, moved_limit, one, remembered, unless}
 use Rattle.exi_reader.specs.Plans.{Given, Plan, alone_in, plan_of}
@@ -23,6 +23,7 @@ use Rattle.exi_reader.proofs.ClosedUp.{closed_up}
 use Rattle.exi_reader.proofs.CodeRefusals.{code_again, code_refused}
 use Rattle.exi_reader.proofs.EventOne.{aligned_on, at_event_is, at_place, charge_again, charge_is, event_again, event_is, one_is_spelled, same_spot, spelled_is_one, unless_is}
 use Rattle.exi_reader.proofs.PlanFacts.{plan_reads}
+use Rattle.exi_reader.proofs.Readings.{Reads}
 
 -- ---- results that fail
 abbrev fails : {X : Type 0} → Failure → Result X Failure
@@ -99,9 +100,9 @@ event_fault bit (Ok x) e h = absurd (no_told x e h)
 event_fault {X} bit (Err f) e h = (f, refl, sym (fails_is {X = X} (with_limit_at bit f) e h))
 
 module _ (b : Align) (bytes : List ℕ) (octets : IsBytes bytes) where
-  plan_refused : (bit : ℕ) (p : Plan) → ContextItem {X = p.Item} b p.read p.Spells → (c : Config) (e : Failure) → IsAligned b (spot_in bytes c) → followed bytes bit p c ≡ fails e → IsPlanRefused bytes bit p c e
+  plan_refused : (bit : ℕ) (p : Plan) → Reads {X = p.Item} b p.read p.Spells p.Refuses → (c : Config) (e : Failure) → IsAligned b (spot_in bytes c) → followed bytes bit p c ≡ fails e → IsPlanRefused bytes bit p c e
   unfolding followed
-  plan_refused bit p item c e al h = elim (bind_fails (charge_at bit p c.meter) (λ (m : Metering). at_event bit (p.read (read_state_in bytes m c)) >>= λ found. unless (p.refused found.0) bit found.1.context.meter >>= λ free. told (remembered (p.make found.0 (reached (behind p.padded found.1) c)))) e h) [
+  plan_refused bit p reads c e al h = elim (bind_fails (charge_at bit p c.meter) (λ (m : Metering). at_event bit (p.read (read_state_in bytes m c)) >>= λ found. unless (p.refused found.0) bit found.1.context.meter >>= λ free. told (remembered (p.make found.0 (reached (behind p.padded found.1) c)))) e h) [
     | inl u ↦ inl (before_refused bit p c.meter e u)
     | inr u ↦ reading u.0 (charge_is bit p c.meter u.0 u.1) u.2
   ]
@@ -110,25 +111,25 @@ module _ (b : Align) (bytes : List ℕ) (octets : IsBytes bytes) where
       ending m charged found r l = elim (bind_fails (unless (p.refused found.0) bit found.1.context.meter) (λ (free : Metering). told (remembered (p.make found.0 (reached (behind p.padded found.1) c)))) e l) [
         | inl u ↦ (
             let k = unless_fails (p.refused found.0) bit found.1.context.meter e u in
-            let t = item.takes found.0 (read_state_in bytes m c) found.1 octets al r in
-            inr (inr (record { meter = m; charged = charged; item = found.0; content = t.text; more = rest found.1.spot; stands = t.front.parts; after = found.1.context; charges = t.charges; spelled = t.spelled; taken = was_taken b p.Spells p.read item found.0 (read_state_in bytes m c) found.1 octets al r t; kind = k.0; refused = k.1; is = k.2 }))
+            let t = reads.item.takes found.0 (read_state_in bytes m c) found.1 octets al r in
+            inr (inr (record { meter = m; charged = charged; item = found.0; content = t.text; more = rest found.1.spot; stands = t.front.parts; after = found.1.context; charges = t.charges; spelled = t.spelled; taken = was_taken b p.Spells p.read reads.item found.0 (read_state_in bytes m c) found.1 octets al r t; kind = k.0; refused = k.1; is = k.2 }))
             )
         | inr u ↦ absurd (no_told (remembered (p.make found.0 (reached (behind p.padded found.1) c))) e u.2)
       ]
 
       reading : (m : Metering) → IsCharged p c.meter m → (at_event bit (p.read (read_state_in bytes m c)) >>= λ found. unless (p.refused found.0) bit found.1.context.meter >>= λ free. told (remembered (p.make found.0 (reached (behind p.padded found.1) c)))) ≡ fails e → IsPlanRefused bytes bit p c e
       reading m charged l = elim (bind_fails (at_event bit (p.read (read_state_in bytes m c))) (λ (found : p.Item × ReadState). unless (p.refused found.0) bit found.1.context.meter >>= λ free. told (remembered (p.make found.0 (reached (behind p.padded found.1) c)))) e l) [
-        | inl u ↦ (let k = event_fault bit (p.read (read_state_in bytes m c)) e u in inr (inl (record { meter = m; charged = charged; failure = k.0; refused = k.1; is = k.2 })))
+        | inl u ↦ (let k = event_fault bit (p.read (read_state_in bytes m c)) e u in inr (inl (record { meter = m; charged = charged; failure = k.0; refused = reads.refusal.fails (record { meter = m; tables = c.tables }) (spot_in bytes c) k.0 octets al k.1; is = k.2 })))
         | inr u ↦ ending m charged u.0 (at_event_is bit (p.read (read_state_in bytes m c)) u.0 u.1) u.2
       ]
 
-  plan_again : (bit : ℕ) (p : Plan) → ContextItem {X = p.Item} b p.read p.Spells → (c : Config) (e : Failure) → IsAligned b (spot_in bytes c) → IsPlanRefused bytes bit p c e → followed bytes bit p c ≡ fails e
+  plan_again : (bit : ℕ) (p : Plan) → Reads {X = p.Item} b p.read p.Spells p.Refuses → (c : Config) (e : Failure) → IsAligned b (spot_in bytes c) → IsPlanRefused bytes bit p c e → followed bytes bit p c ≡ fails e
   unfolding followed
-  plan_again bit p item c e al (inl h) = rw (before_again bit p c.meter e h) refl
-  plan_again bit p item c e al (inr (inl h)) = rw (charge_again bit p c.meter h.meter h.charged, h.refused) (ap (λ (z : Failure). fails z) (sym h.is))
-  plan_again bit p item c e al (inr (inr h)) =
+  plan_again bit p reads c e al (inl h) = rw (before_again bit p c.meter e h) refl
+  plan_again bit p reads c e al (inr (inl h)) = rw (charge_again bit p c.meter h.meter h.charged, reads.refusal.again (record { meter = h.meter; tables = c.tables }) (spot_in bytes c) h.failure octets al h.refused) (ap (λ (z : Failure). fails z) (sym h.is))
+  plan_again bit p reads c e al (inr (inr h)) =
       let w : Context = record { meter = h.meter; tables = c.tables } in
-      let r = where_taken b p.Spells p.read item h.item (spot_in bytes c) w h.after h.charges h.content h.more octets al h.spelled h.taken h.stands in
+      let r = where_taken b p.Spells p.read reads.item h.item (spot_in bytes c) w h.after h.charges h.content h.more octets al h.spelled h.taken h.stands in
       rw (charge_again bit p c.meter h.meter h.charged, r, h.refused) (ap (λ (z : Failure). fails z) (sym h.is))
 
 -- ---- one event
@@ -155,7 +156,7 @@ fault_is_refused g bytes c e book at h = elim (bind_fails (failing c.meter (code
         let k = (spelled_item (rules_of g c) (closed_up g c book) b).takes rule (spot_in bytes c) chosen.1 at.octets at.aligned r in
         let same : chosen.1 ≡ spot_in bytes on = same_spot chosen.1 (spot_in bytes on) k.front.bytes refl in
         let al : IsAligned b (spot_in bytes on) = subst (λ (z : Spot). IsAligned b z) same k.aligned in
-        let p = plan_refused b bytes at.octets c.place (plan_of g c rule) (plan_reads g (alone_in c.elements c.outer) c rule rule.on).item on e al l in
+        let p = plan_refused b bytes at.octets c.place (plan_of g c rule) (plan_reads g (alone_in c.elements c.outer) c rule rule.on) on e al l in
         record {
           rule = rule;
           code = k.text;
@@ -173,7 +174,7 @@ refused_is_fault g bytes c e book at (inr h) =
     let item = spelled_item (rules_of g c) (closed_up g c book) b in
     let r1 = item.again h.rule h.code (spot_in bytes c) h.more at.octets at.aligned h.told h.stands in
     let al : IsAligned b (moved (spot_in bytes c) (length h.code)) = aligned_on b (spot_in bytes c) (length h.code) at.aligned (item.whole h.rule h.code h.told) in
-    let r2 = plan_again b bytes at.octets c.place (plan_of g c h.rule) (plan_reads g (alone_in c.elements c.outer) c h.rule h.rule.on).item (at_place c (c.place + length h.code)) e al h.behind in
+    let r2 = plan_again b bytes at.octets c.place (plan_of g c h.rule) (plan_reads g (alone_in c.elements c.outer) c h.rule h.rule.on) (at_place c (c.place + length h.code)) e al h.behind in
     rw (r1, r2) refl
 
 -- ---- one or the other

@@ -1,5 +1,5 @@
--- What stands behind an event's code: how it is read, and how it is spelled (EXI 1.0, sections 4 and 7.1).
-use Rattle.std.specs.Prelude.{◌≡◌, ℕ, ◌&&◌, Bool, false, List, Ok, Err, if◌then◌else◌}
+-- What stands behind an event's code: how it is read, how it is spelled, and how it is refused (EXI 1.0, sections 4 and 7.1).
+use Rattle.std.specs.Prelude.{◌≡◌, ℕ, ◌&&◌, Bool, true, false, List, Ok, Err, if◌then◌else◌}
 use Rattle.exi_bits.specs.declared.fault.Kind.TheVariants as kind
 use Rattle.exi_bits.specs.Unsigned.{◌>>=◌}
 use Rattle.exi_builtin.specs.Learning.{is_type}
@@ -11,6 +11,7 @@ use Rattle.exi_typed.specs.Charging.{Charge}
 use Rattle.exi_typed.specs.ReadStates.{ContextReader}
 use Rattle.exi_typed.specs.Items.{SpellsItem, Tabled, item_at, qualified, string}
 use Rattle.exi_typed.specs.Laws.{Spelling}
+use Rattle.exi_typed.specs.Refused.{Refusing, RefusesItem, RefusesKnown, RefusesLiteral, RefusesName, RefusesNext, wrong}
 use Rattle.exi_typed.specs.Spelled.{Follows, IsNothing, SpellsKnown, SpellsLiteral, SpellsName}
 use Rattle.exi_typed.specs.Strings.{Named, known_at, literal_at, name_at, no_growth}
 use Rattle.exi_reader.specs.Configurations.{Setting}
@@ -22,6 +23,10 @@ nothing_at c = Ok (tt, c)
 
 abbrev pub SpellsNothing : Spelling (Unit {0})
 SpellsNothing x p q ks text = IsNothing p q ks text
+
+-- it never fails
+abbrev pub RefusesNothing : Refusing
+RefusesNothing w s e = ⊥
 
 -- ---- one thing, and behind it another that may depend on it
 unfoldable pub both_at : {X Y : Type 0} → ContextReader X → (X → ContextReader Y) → ContextReader (X × Y)
@@ -42,6 +47,10 @@ abbrev pub SpellsTold : Setting → Telling → Spelling Named
 SpellsTold g spelled n p q ks text = SpellsName (prefixes g.options) (align_of g.options) n p q ks text
 SpellsTold g (known id) n p q ks text = SpellsKnown (prefixes g.options) (align_of g.options) id n p q ks text
 
+abbrev pub RefusesTold : Setting → Telling → Refusing
+RefusesTold g spelled w s e = RefusesName (prefixes g.options) (align_of g.options) w s e
+RefusesTold g (known id) w s e = RefusesKnown (prefixes g.options) (align_of g.options) id w s e
+
 -- ---- values
 -- the value of xsi:type is a name; any other attribute of a built-in grammar has a string, xsi:nil too (own)
 abbrev pub represented_by : Setting → NameId → Tabled
@@ -61,12 +70,20 @@ pub record SpellsAttributeValue (g : Setting) (name : NameId) (found : Value) (p
   pub there : is_missing g name ≡ false
   pub spelled : SpellsItem (represented_by g name) (align_of g.options) name found p q ks text
 
+-- the item is refused; or it is spelled, and its type is not there, which the first bit of the value has
+abbrev pub RefusesAttributeValue : Setting → NameId → Refusing
+RefusesAttributeValue g name w s e =
+    RefusesNext (RefusesItem (represented_by g name) (align_of g.options) name) (SpellsItem (represented_by g name) (align_of g.options) name) (λ found v t f. (is_missing g name ≡ true) × (f ≡ wrong kind.BadType s.place v.meter)) w s e
+
 -- an attribute: its name, and its value
 abbrev pub attribute_at : Setting → Telling → ContextReader (Named × Value)
 attribute_at g t c = both_at (told_name_at g t) (λ name. attribute_value_at g name.id) c
 
 abbrev pub SpellsAttribute : Setting → Telling → Spelling (Named × Value)
 SpellsAttribute g t x p q ks text = SpellsBoth (SpellsTold g t) (λ name. SpellsAttributeValue g name.id) x p q ks text
+
+abbrev pub RefusesAttribute : Setting → Telling → Refusing
+RefusesAttribute g t w s e = RefusesNext (RefusesTold g t) (SpellsTold g t) (λ name. RefusesAttributeValue g name.id) w s e
 
 -- characters in an element of this name
 abbrev pub characters_at : Setting → NameId → ContextReader Value
@@ -75,6 +92,9 @@ characters_at g name c = item_at string (align_of g.options) name c
 abbrev pub SpellsCharacters : Setting → NameId → Spelling Value
 SpellsCharacters g name x p q ks text = SpellsItem string (align_of g.options) name x p q ks text
 
+abbrev pub RefusesCharacters : Setting → NameId → Refusing
+RefusesCharacters g name w s e = RefusesItem string (align_of g.options) name w s e
+
 -- ---- texts that stand in no string table
 abbrev pub text_at : Setting → ContextReader (List ℕ)
 text_at g c = literal_at (align_of g.options) no_growth c
@@ -82,14 +102,23 @@ text_at g c = literal_at (align_of g.options) no_growth c
 abbrev pub SpellsText : Setting → Spelling (List ℕ)
 SpellsText g x p q ks text = SpellsLiteral (align_of g.options) no_growth x p q ks text
 
+abbrev pub RefusesText : Setting → Refusing
+RefusesText g w s e = RefusesLiteral (align_of g.options) w s e
+
 abbrev pub two_texts_at : Setting → ContextReader (List ℕ × List ℕ)
 two_texts_at g c = both_at (text_at g) (λ first. text_at g) c
 
 abbrev pub SpellsTwoTexts : Setting → Spelling (List ℕ × List ℕ)
 SpellsTwoTexts g x p q ks text = SpellsBoth (SpellsText g) (λ first. SpellsText g) x p q ks text
 
+abbrev pub RefusesTwoTexts : Setting → Refusing
+RefusesTwoTexts g w s e = RefusesNext (RefusesText g) (SpellsText g) (λ first. RefusesText g) w s e
+
 abbrev pub four_texts_at : Setting → ContextReader ((List ℕ × List ℕ) × (List ℕ × List ℕ))
 four_texts_at g c = both_at (two_texts_at g) (λ first. two_texts_at g) c
 
 abbrev pub SpellsFourTexts : Setting → Spelling ((List ℕ × List ℕ) × (List ℕ × List ℕ))
 SpellsFourTexts g x p q ks text = SpellsBoth (SpellsTwoTexts g) (λ first. SpellsTwoTexts g) x p q ks text
+
+abbrev pub RefusesFourTexts : Setting → Refusing
+RefusesFourTexts g w s e = RefusesNext (RefusesTwoTexts g) (SpellsTwoTexts g) (λ first. RefusesTwoTexts g) w s e

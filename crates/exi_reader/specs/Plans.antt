@@ -1,5 +1,5 @@
--- What each production does: what is asked first, what is charged, what is read and how it is spelled, and what is made
--- of it (EXI 1.0, sections 8.4 and 8.5.4).
+-- What each production does: what is asked first, what is charged, what is read, how it is spelled and refused, and what is
+-- made of it (EXI 1.0, sections 8.4 and 8.5.4).
 use Rattle.std.specs.Prelude.{ℕ, ◌/◌, Bool, true, false, List, [], ◌∷◌, Option, Some, None, if◌then◌else◌}
 use Rattle.exi_bits.specs.declared.fault.Kind.{Kind}
 use Rattle.exi_bits.specs.declared.fault.Kind.TheVariants as kind
@@ -11,11 +11,12 @@ use Rattle.exi_names.specs.Events as happening
 use Rattle.exi_names.specs.Seen.{Value}
 use Rattle.exi_typed.specs.ReadStates.{ContextReader}
 use Rattle.exi_typed.specs.Laws.{Spelling}
+use Rattle.exi_typed.specs.Refused.{Refusing, RefusesDeclaration}
 use Rattle.exi_typed.specs.Spelled.{SpellsDeclaration}
 use Rattle.exi_typed.specs.Strings.{Declaration, Named, declaration_at}
 use Rattle.exi_reader.specs.Changes.{closed, innermost, learns, learns_name, moves, opened, put_aside, resumed, rooted, same_texts}
 use Rattle.exi_reader.specs.Configurations.{Body, Config, Setting}
-use Rattle.exi_reader.specs.Contents.{SpellsAttribute, SpellsCharacters, SpellsFourTexts, SpellsNothing, SpellsText, SpellsTold, SpellsTwoTexts, attribute_at, characters_at, four_texts_at, nothing_at, text_at, told_name_at, two_texts_at}
+use Rattle.exi_reader.specs.Contents.{RefusesAttribute, RefusesCharacters, RefusesFourTexts, RefusesNothing, RefusesText, RefusesTold, RefusesTwoTexts, SpellsAttribute, SpellsCharacters, SpellsFourTexts, SpellsNothing, SpellsText, SpellsTold, SpellsTwoTexts, attribute_at, characters_at, four_texts_at, nothing_at, text_at, told_name_at, two_texts_at}
 use Rattle.exi_reader.specs.Rules.{Rule, Telling, Terminal, attribute, characters, comment, declaration, document_type, element, end_document, end_element, entity, informed, instruction, self_contained, start_document}
 use Rattle.exi_reader.specs.declared.frames.Element.{Element}
 use Rattle.exi_reader.specs.declared.frames.Outer.{Outer}
@@ -35,10 +36,11 @@ pub record Plan : Type 1 where
   pub misplaced : Option Kind
   -- one level is entered
   pub entered : Bool
-  -- what is read
+  -- what is read, how it is spelled, and how it is refused
   pub Item : Type 0
   pub read : ContextReader Item
   pub Spells : Spelling Item
+  pub Refuses : Refusing
   -- the bits up to the next whole byte are left out
   pub padded : Bool
   -- what was read is refused
@@ -117,54 +119,54 @@ ended_in at_end c = resumed c.aside c
 
 -- ---- the plans
 -- an event that is read, and of which something is made
-abbrev pub plain : Alone → (X : Type 0) → ContextReader X → Spelling X → (X → Config → Given) → Plan
-plain a X read Spells make = record { barred = barred_in a; counted = true; misplaced = None; entered = false; Item = X; read = read; Spells = Spells; padded = false; refused = λ x. no_element a; make = make }
+abbrev pub plain : Alone → (X : Type 0) → ContextReader X → Spelling X → Refusing → (X → Config → Given) → Plan
+plain a X read Spells Refuses make = record { barred = barred_in a; counted = true; misplaced = None; entered = false; Item = X; read = read; Spells = Spells; Refuses = Refuses; padded = false; refused = λ x. no_element a; make = make }
 
 abbrev pub start_plan : Alone → Rule → Plan
-start_plan a r = record (plain a (Unit {0}) nothing_at SpellsNothing (λ x c. (seen_in a happening.sd, moves r.to c))) { counted = is_event a }
+start_plan a r = record (plain a (Unit {0}) nothing_at SpellsNothing RefusesNothing (λ x c. (seen_in a happening.sd, moves r.to c))) { counted = is_event a }
 
 abbrev pub end_plan : Alone → Plan
-end_plan a = record (plain a (Unit {0}) nothing_at SpellsNothing (λ x c. (seen_in a happening.ed, ended_in a c))) { barred = None; counted = is_event a; padded = if is_event a then false else true }
+end_plan a = record (plain a (Unit {0}) nothing_at SpellsNothing RefusesNothing (λ x c. (seen_in a happening.ed, ended_in a c))) { barred = None; counted = is_event a; padded = if is_event a then false else true }
 
 -- an element starts in its parent's state, which learns it where its name has bits of its own
 abbrev pub element_made : Alone → Telling → Rule → Named → Config → Given
 element_made a t r name c = (seen_in a (happening.se name.name), opened name.id r.inner (moves r.to (learns_name t (used.Se name.id) (rooted_in a name.name c))))
 
 abbrev pub element_plan : Setting → Alone → List Body → Telling → Rule → Plan
-element_plan g a aside t r = record (plain a Named (told_name_at g t) (SpellsTold g t) (element_made a t r)) { counted = is_event a; entered = is_event a; refused = λ name. wrong_element a aside name.name }
+element_plan g a aside t r = record (plain a Named (told_name_at g t) (SpellsTold g t) (RefusesTold g t) (element_made a t r)) { counted = is_event a; entered = is_event a; refused = λ name. wrong_element a aside name.name }
 
 abbrev pub attribute_plan : Setting → Alone → Telling → Rule → Plan
-attribute_plan g a t r = plain a (Named × Value) (attribute_at g t) (SpellsAttribute g t) (λ x c. (Some (happening.at x.0.name x.1), moves r.to (learns_name t (used.At x.0.id) c)))
+attribute_plan g a t r = plain a (Named × Value) (attribute_at g t) (SpellsAttribute g t) (RefusesAttribute g t) (λ x c. (Some (happening.at x.0.name x.1), moves r.to (learns_name t (used.At x.0.id) c)))
 
 abbrev pub characters_plan : Setting → Alone → List Element → Rule → Plan
-characters_plan g a es r = plain a Value (characters_at g (innermost es)) (SpellsCharacters g (innermost es)) (λ x c. (Some (happening.ch x), moves r.to (learns used.Ch c)))
+characters_plan g a es r = plain a Value (characters_at g (innermost es)) (SpellsCharacters g (innermost es)) (RefusesCharacters g (innermost es)) (λ x c. (Some (happening.ch x), moves r.to (learns used.Ch c)))
 
 abbrev pub element_end_plan : Alone → Plan
-element_end_plan a = plain a (Unit {0}) nothing_at SpellsNothing (λ x c. (Some happening.ee, closed (learns used.Ee c)))
+element_end_plan a = plain a (Unit {0}) nothing_at SpellsNothing RefusesNothing (λ x c. (Some happening.ee, closed (learns used.Ee c)))
 
 -- a declaration that tells the prefix of its element comes behind the element's event, which goes without it
 abbrev pub declaration_plan : Setting → Alone → Rule → Plan
-declaration_plan g a r = plain a Declaration (declaration_at (align_of g.options)) (SpellsDeclaration (align_of g.options)) (λ d c. (Some (happening.ns d.uri d.prefix d.element), moves r.to c))
+declaration_plan g a r = plain a Declaration (declaration_at (align_of g.options)) (SpellsDeclaration (align_of g.options)) (RefusesDeclaration (align_of g.options)) (λ d c. (Some (happening.ns d.uri d.prefix d.element), moves r.to c))
 
 -- SC comes only directly behind SE. The fragment begins at the next whole byte
 abbrev pub self_contained_plan : Setting → Alone → Bool → Plan
-self_contained_plan g a after_start = record (plain a (Unit {0}) nothing_at SpellsNothing (λ x c. (Some (happening.sc (c.place / 8)), put_aside g c))) { misplaced = if after_start then None else Some kind.ScPlace; padded = true }
+self_contained_plan g a after_start = record (plain a (Unit {0}) nothing_at SpellsNothing RefusesNothing (λ x c. (Some (happening.sc (c.place / 8)), put_aside g c))) { misplaced = if after_start then None else Some kind.ScPlace; padded = true }
 
 abbrev pub comment_plan : Setting → Alone → Rule → Plan
-comment_plan g a r = plain a (List ℕ) (text_at g) (SpellsText g) (λ x c. (Some (happening.cm x), moves r.to c))
+comment_plan g a r = plain a (List ℕ) (text_at g) (SpellsText g) (RefusesText g) (λ x c. (Some (happening.cm x), moves r.to c))
 
 abbrev pub instruction_plan : Setting → Alone → Rule → Plan
-instruction_plan g a r = plain a (List ℕ × List ℕ) (two_texts_at g) (SpellsTwoTexts g) (λ x c. (Some (happening.pi x.0 x.1), moves r.to c))
+instruction_plan g a r = plain a (List ℕ × List ℕ) (two_texts_at g) (SpellsTwoTexts g) (RefusesTwoTexts g) (λ x c. (Some (happening.pi x.0 x.1), moves r.to c))
 
 abbrev pub document_type_plan : Setting → Alone → Rule → Plan
-document_type_plan g a r = plain a ((List ℕ × List ℕ) × (List ℕ × List ℕ)) (four_texts_at g) (SpellsFourTexts g) (λ x c. (Some (happening.dt x.0.0 x.0.1 x.1.0 x.1.1), moves r.to c))
+document_type_plan g a r = plain a ((List ℕ × List ℕ) × (List ℕ × List ℕ)) (four_texts_at g) (SpellsFourTexts g) (RefusesFourTexts g) (λ x c. (Some (happening.dt x.0.0 x.0.1 x.1.0 x.1.1), moves r.to c))
 
 abbrev pub entity_plan : Setting → Alone → Rule → Plan
-entity_plan g a r = plain a (List ℕ) (text_at g) (SpellsText g) (λ x c. (Some (happening.er x), moves r.to c))
+entity_plan g a r = plain a (List ℕ) (text_at g) (SpellsText g) (RefusesText g) (λ x c. (Some (happening.er x), moves r.to c))
 
 -- what only a schema has is not read yet
 abbrev pub informed_plan : Alone → Plan
-informed_plan a = record (plain a (Unit {0}) nothing_at SpellsNothing (λ x c. (None, c))) { barred = Some kind.NoCode }
+informed_plan a = record (plain a (Unit {0}) nothing_at SpellsNothing RefusesNothing (λ x c. (None, c))) { barred = Some kind.NoCode }
 
 abbrev pub plan_on : Setting → Alone → Config → Rule → Terminal → Plan
 plan_on g a c r start_document = start_plan a r

@@ -1,5 +1,5 @@
 -- One event that is refused: what stands before is spelled, and the first point that fails gives the fault, with all that
--- was charged before it. Which content is refused is told by its reading so far.
+-- was charged before it. No reading has a part in it.
 use Rattle.std.specs.Prelude.{◌≡◌, ◌≢◌, ◌⊎◌, ◌<◌, ◌≤◌, ◌^◌, ℕ, ◌+◌, Bool, true, false, List, [], ◌++◌, length, slice_get, Some, None, Err}
 use Rattle.exi_bits.specs.declared.align.Align.{Align}
 use Rattle.exi_bits.specs.Bits.{Spot, left, moved, number, rest, taken}
@@ -14,7 +14,7 @@ use Rattle.exi_gram.specs.Switches.{align_of}
 use Rattle.exi_meter.specs.Metering.{Metering, event_fits, level_fits}
 use Rattle.exi_typed.specs.Charging.{Charge, IsTaken}
 use Rattle.exi_typed.specs.ReadStates.{Context, Failure}
-use Rattle.exi_reader.specs.Configurations.{Config, Setting, read_state_in, rules_of, spot_in}
+use Rattle.exi_reader.specs.Configurations.{Config, Setting, rules_of, spot_in}
 use Rattle.exi_reader.specs.OneEvent.{moved_limit, one}
 use Rattle.exi_reader.specs.Plans.{Given, Plan, plan_of}
 use Rattle.exi_reader.specs.Rules.{Rule}
@@ -59,12 +59,12 @@ abbrev pub IsRefusedBefore : ℕ → Plan → Metering → Failure → Type 0
 IsRefusedBefore bit p m e = IsBarred bit p m e ⊎ IsOverEvents bit p m e ⊎ IsMisplaced bit p m e ⊎ IsTooDeep bit p m e
 
 -- ---- in the content, or behind it
--- its reading fails, at a bit of its own; a limit of text has the event's first bit
+-- what stands before is spelled, and the next thing is refused, at its first bit; a limit of text has the event's first bit
 pub record IsContentRefused (bytes : List ℕ) (bit : ℕ) (p : Plan) (c : Config) (e : Failure) : Type 0 where
   pub meter : Metering
   pub charged : IsCharged p c.meter meter
   pub failure : Failure
-  pub refused : p.read (read_state_in bytes meter c) ≡ Err failure
+  pub refused : p.Refuses (record { meter = meter; tables = c.tables }) (spot_in bytes c) failure
   pub is : e ≡ record failure { fault = moved_limit bit failure.fault }
 
 -- it is spelled, and is not what may stand here

@@ -537,7 +537,7 @@ module _ {X : Type 0} (a : Align) (Spells : Spelling X) (read : ContextReader X)
     spelled : Spells z.0 w.tables z.1.tables charges text
     taken : IsTaken charges w.meter z.1.meter
 
-  -- the same from what stands beside, over bits alone
+  -- the same from a meter and tables, over bits alone
   abbrev from_context : Context → Reader (X × Context)
   from_context w s = fault_alone (read (read_state s w)) >>= λ x. Ok ((x.0, x.1.context), x.1.spot)
 

@@ -155,7 +155,7 @@ paying_goes units read f x c d r =
     let u = bind_told (failing c.context.meter (text_charge units c.spot.place c.context.meter)) (λ (m : Metering). read (read_state c.spot (context m c.context.tables))) (x, d) r in
     continues_then c (read_state c.spot (context u.0 c.context.tables)) d (charge_goes units c u.0 u.1) (f x (read_state c.spot (context u.0 c.context.tables)) d u.2)
 
--- what is made of a value and of what stands beside afterwards
+-- what is made of a value and of the meter and tables afterwards
 pub told_goes : {X : Type 0} (f : ReadState → X) → ReadsOn {X = X} (λ c. told {X = X × ReadState} (f c, c))
 told_goes {X} f x c d r = subst (λ (z : X × ReadState). Continues c z.1) (told_is (f c, c) (x, d) r) (same_continues c)
 

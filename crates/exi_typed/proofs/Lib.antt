@@ -12,3 +12,4 @@ pub mod ItemLaws
 pub mod Meters
 pub mod Writes
 pub mod WrittenSpelled
+pub mod Refusals

@@ -7,6 +7,7 @@ pub mod Metered
 pub mod NameValues
 pub mod Continues
 pub mod Places
+pub mod Refused
 pub mod Spelled
 pub mod Strings
 pub mod Written

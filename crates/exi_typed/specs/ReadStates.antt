@@ -7,12 +7,12 @@ use Rattle.exi_bits.specs.declared.fault.Stop.TheVariants as stop
 use Rattle.exi_meter.specs.Metering.{Metering}
 use Rattle.exi_tables.specs.Partitions.{Partitions, with_uri}
 
--- what stands beside the bits
+-- the meter and the string tables of a reading
 pub record Context : Type 0 where
   pub meter : Metering
   pub tables : Partitions
 
--- where reading goes on, and what stands beside
+-- where reading goes on, with which meter and tables
 pub record ReadState : Type 0 where
   pub spot : Spot
   pub context : Context
@@ -39,7 +39,7 @@ ContextReader X = ReadState → Result (X × ReadState) Failure
 abbrev pub read_state : Spot → Metering → Partitions → ReadState
 read_state s m p = record { spot = s; context = record { meter = m; tables = p } }
 
--- What was answered, and where reading goes on with what stands beside, is what reading gives. After a fault the meter is
+-- What was answered, and where reading goes on with which meter and tables, is what reading gives. After a fault the meter is
 -- this one.
 abbrev pub Goes : {X Y : Type 0} → (X → Y × ReadState) → Metering → Result X Fault → Result (Y × ReadState) Failure → Type 0
 Goes view m (Ok x) read = read ≡ Ok (view x)

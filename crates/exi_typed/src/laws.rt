@@ -16,6 +16,7 @@ ghost use Rattle.exi_typed.specs.Limits.{StaysWithin};
 ghost use Rattle.exi_typed.specs.Continues.{ReadsOn, KeepsEach, NamesGoOnStanding, NamesStand};
 ghost use Rattle.exi_typed.specs.Strings.{Growth, declaration_at, known_at, literal_at, local_at, name_at, uri_at, value_at};
 ghost use Rattle.exi_typed.specs.Metered.{ReadingsAreMetered};
+ghost use Rattle.exi_typed.specs.Refused.{ReadingsAreRefused};
 ghost use Rattle.exi_typed.specs.WrittenLaws.{
   DeclarationIsWritten,
   LiteralIsWritten,
@@ -106,6 +107,12 @@ pub fn names_stand()
 /// Each reading charges a list of texts, whatever the meter is, and goes on without the meter.
 pub fn readings_are_metered()
     ensures law { ReadingsAreMetered }
+{}
+
+/// Where reading fails, what stands before is spelled and the next thing is refused, by its kind and at its first
+/// bit; and what is refused so is the fault of the reading.
+pub fn readings_are_refused()
+    ensures law { ReadingsAreRefused }
 {}
 
 /// What is written is one of the spellings, and leaves the tables that its reading leaves.
