@@ -1,7 +1,9 @@
 //! Reading.
 
-ghost use Rattle.std.specs.Prelude.{◌≡◌, ◌≤◌, ◌^◌, length};
+ghost use Rattle.std.specs.Prelude.{◌≡◌, ◌≤◌, ◌*◌, ◌^◌, IfOk, false, length};
+ghost use Rattle.exi_bits.specs.Bits.{IsAligned};
 ghost use Rattle.exi_bits.specs.Unsigned.{ReadsSome, Stops};
+ghost use Rattle.exi_gram.specs.Switches.{align_of, conflicts};
 ghost use Rattle.exi_header.specs.Headers.{KnownAs, Tells, behind_cookie, body_at, header_at, header_in, known_at, marks_at, told_at};
 
 use crate::header::{COOKIE, Header};
@@ -13,7 +15,8 @@ use std::alloc::Global;
 /// Goes behind the cookie, where it stands at the place.
 #[tactic(auto, unfolding(crate::specs::Headers::behind_cookie))]
 fn skip_cookie(input: &mut BitIn<'_>)
-    ensures { input.new ≡ behind_cookie input.old }
+    ensures read { input.new ≡ behind_cookie input.old }
+    ensures bytes { input.new.bytes ≡ input.old.bytes }
 {
     let start = input.at();
     match input.take(32, Align::Bits) {
@@ -59,6 +62,7 @@ fn take_told(
 ) -> Result<Told, Stop>
     ensures read { Stops (λ t. t) result input.new (told_at words.now told input.old) }
     ensures bytes { input.new.bytes ≡ input.old.bytes }
+    ensures free { conflicts words.now ≡ false → IfOk result (λ t. conflicts t.options ≡ false) }
 {
     if told {
         return read_options(alloc, input);
@@ -69,7 +73,18 @@ fn take_told(
     })
 }
 
-/// Reads the header of a stream (EXI 1.0, section 5). Where it tells options, these alone decide; else it is `words`.
+/// Goes to where the body begins.
+fn skip_padding(input: &mut BitIn<'_>, options: &Options)
+    ensures read { input.new ≡ body_at options.now input.old }
+    ensures bytes { input.new.bytes ≡ input.old.bytes }
+{
+    if let Align::Bytes = options.align() {
+        input.skip_to_byte();
+    }
+}
+
+/// Reads the header of a stream (EXI 1.0, section 5). Where it tells options, these alone decide; else it is `words`. The
+/// body begins in the bytes, in a byte-aligned stream at a whole byte.
 ///
 /// # Errors
 ///
@@ -80,7 +95,10 @@ fn take_told(
 #[tactic(auto, unfolding(crate::specs::Headers::header_at))]
 pub fn read_header(alloc: Global, bytes: &[u8], words: &Options) -> Result<Header, Stop>
     requires few { length bytes.now ≤ 2 ^ 32 }
-    ensures { Tells result (header_in words.now bytes.now) }
+    ensures read { Tells result (header_in words.now bytes.now) }
+    ensures free { conflicts words.now ≡ false → IfOk result (λ h. conflicts h.options ≡ false) }
+    ensures within { IfOk result (λ h. h.body ≤ 8 * length bytes.now) }
+    ensures aligned { IfOk result (λ h. IsAligned (align_of h.options) (record { bytes = bytes.now; place = h.body })) }
 {
     let mut input = BitIn::new(bytes);
     skip_cookie(&mut input);
@@ -89,9 +107,7 @@ pub fn read_header(alloc: Global, bytes: &[u8], words: &Options) -> Result<Heade
         options,
         schema_bit,
     } = take_told(alloc, &mut input, words, told)?;
-    if let Align::Bytes = options.align() {
-        input.skip_to_byte();
-    }
+    skip_padding(&mut input, &options);
     Ok(Header {
         options,
         told,

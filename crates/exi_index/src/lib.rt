@@ -16,4 +16,4 @@ mod print;
 mod tests;
 
 pub use parse::parse_hints;
-pub use print::print_hints;
+pub use print::{print_hints, push_hint};

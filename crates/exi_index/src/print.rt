@@ -8,7 +8,11 @@ use exi_names::Txt;
 use std::alloc::{AllocError, Global};
 
 /// Puts the line of a hint at the end, with its line feed.
-fn push_line(out: &mut String, hint: u64) -> Result<(), AllocError>
+///
+/// # Errors
+///
+/// `AllocError` where memory is refused; the text then has a front of the line behind it, perhaps none.
+pub fn push_hint(out: &mut String, hint: u64) -> Result<(), AllocError>
     ensures { OnOk result (string_bytes out.new ≡ string_bytes out.old ++ line_of hint) }
 {
     push_number(out, u128::from(hint))?;
@@ -25,7 +29,7 @@ pub fn print_hints(alloc: Global, offsets: &[u64]) -> Result<Txt, AllocError>
 {
     let mut out = String::new(alloc);
     for hint in offsets {
-        push_line(&mut out, *hint)?;
+        push_hint(&mut out, *hint)?;
     }
     Ok(Txt::from_string(out))
 }

@@ -1,9 +1,10 @@
 //! Reading.
 
-ghost use Rattle.std.specs.Prelude.{◌≡◌, OnErr, IfOk, ◌<◌, length, slice_get, Some};
+ghost use Rattle.std.specs.Prelude.{◌≡◌, OnErr, IfOk, false, ◌<◌, length, slice_get, Some};
 ghost use Rattle.exi_bits.specs.Unsigned.{ReadsSome, Stops};
 ghost use Rattle.exi_bits.specs.declared.align.Align.TheVariants as align;
 ghost use Rattle.exi_gram.specs.Codes.{code_at};
+ghost use Rattle.exi_gram.specs.Switches.{conflicts};
 ghost use Rattle.exi_options.specs.Document.{productions};
 ghost use Rattle.exi_options.specs.Reading.{codes_at, document_at, options_at, untold, value_at};
 ghost use Rattle.exi_options.specs.declared.table.State.TheVariants as state;
@@ -80,6 +81,7 @@ fn read_codes(alloc: Global, input: &mut BitIn<'_>) -> Result<Told, Stop>
 fn read_whole(alloc: Global, input: &mut BitIn<'_>) -> Result<Told, Stop>
     ensures read { Stops (λ t. t) result input.new (options_at input.old) }
     ensures bytes { input.new.bytes ≡ input.old.bytes }
+    ensures free { IfOk result (λ t. conflicts t.options ≡ false) }
 {
     let told = read_codes(alloc, input)?;
     if told.options.conflicts() {
@@ -91,7 +93,8 @@ fn read_whole(alloc: Global, input: &mut BitIn<'_>) -> Result<Told, Stop>
     Ok(told)
 }
 
-/// Reads the options document that begins at the place, at any bit (EXI 1.0, section 5.4).
+/// Reads the options document that begins at the place, at any bit (EXI 1.0, section 5.4). What it tells excludes nothing
+/// else that it tells.
 ///
 /// # Errors
 ///
@@ -109,6 +112,7 @@ pub fn read_options(alloc: Global, input: &mut BitIn<'_>) -> Result<Told, Stop>
     ensures read { Stops (λ t. t) result input.new (options_at input.old) }
     ensures place { OnErr result (input.new ≡ input.old) }
     ensures bytes { input.new.bytes ≡ input.old.bytes }
+    ensures free { IfOk result (λ t. conflicts t.options ≡ false) }
 {
     let start = input.at();
     match read_whole(alloc, input) {

@@ -2,6 +2,7 @@
 use Rattle.std.proofs.Common.{◌≡◌, ◌≢◌, ◌≤◌, ◌⊎◌, ℕ, List, [], ◌∷◌, ◌++◌, Option, Some, None, Ok, Err, inl, inr, length, take, drop, refl, sym, ap, ◌∙◌, subst, arith}
 use Rattle.std.specs.Prelude.{IfSome}
 use Rattle.std.proofs.lemmas.List.{append-nil, take-append-drop}
+use Rattle.exi_gram.specs.declared.options.Options.{Options}
 use Rattle.exi_names.specs.Events.{Grows}
 use Rattle.exi_ports.specs.Ports.{Fetched, IsAnswer, GrowsInPart, file_at}
 use Rattle.exi_ports.specs.declared.shelf.Fetch.TheVariants as fetch
@@ -11,17 +12,18 @@ use Rattle.exi_run.specs.declared.halt.Refusal.TheVariants as refusal
 use Rattle.exi_run.specs.declared.halt.Role.{Role}
 use Rattle.exi_run.specs.declared.ending.Ending.{Ending}
 use Rattle.exi_run.specs.declared.ending.Ending.TheVariants as ending
+use Rattle.exi_run.specs.declared.form.Form.{Form}
 use Rattle.exi_run.specs.declared.status.Status.{Status}
 use Rattle.exi_run.specs.declared.status.Status.TheVariants as status
-use Rattle.exi_run.specs.Answers.{Answered, AnsweredBy, AreWithin, GrowsByPieces, HasLong, HasRole, IsAnswered, IsLater, IsLong, IsWithin, MayRefuse, OfFile, RefusalPut, Served, Starves, Tells, no_memory}
-use Rattle.exi_run.specs.Dues.{Due, Files, found, long, failed, OwedBy, OwedFrom, OwedOf, most_bytes, refusal_due, text_of}
+use Rattle.exi_run.specs.Answers.{Answered, AnsweredBy, AreWithin, GrowsByLines, HasLong, HasRole, IsAnswered, IsLater, IsLong, IsWithin, MayRefuse, OfStream, RefusalPut, Served, Starves, Tells, no_memory}
+use Rattle.exi_run.specs.Dues.{Due, all_pieces, Files, found, long, failed, OwedBy, OwedFrom, OwedOf, most_bytes, refusal_due, text_of}
 use Rattle.exi_run.specs.Endings.{status_of}
 use Rattle.exi_run.specs.Printing.{grows_more, grows_none}
 use Rattle.exi_run.specs.Refusals.{refusal_line, refusal_status}
 use Rattle.exi_run.specs.Wholes.{IsWhole}
 use Rattle.exi_run.specs.Statuses.{Sort, told, refuses, breaks, starved, sort_of, IsOr, IsTold}
-use Rattle.exi_run.specs.Tasks.{Task, read, Need, needs, needs_of, read_file}
-use Rattle.exi_run.proofs.Owing.{text-whole}
+use Rattle.exi_run.specs.Tasks.{Task, stream, Need, needs, needs_of}
+use Rattle.exi_run.proofs.Owing.{text-whole, told-said}
 
 -- ---- what may be owed: a refusal's line, or what a command owes whose files were found
 abbrev AreFound : Option Files → List Need → List (List ℕ) → Type 0
@@ -72,7 +74,7 @@ IsDone None files due = ⊥
 IsDone (Some t) files due = AreDone files (needs t) (OwedBy t due)
 
 abbrev IsPut : Status → Due → Option (List ℕ) → Option (List ℕ) → Type 0
-IsPut s due old new = (due.status ≡ s) × Grows old (text_of due.pieces) new
+IsPut s due old new = (due.status ≡ s) × Grows old (text_of (all_pieces due)) new
 
 abbrev CameDone : Option Task → Option Files → Status → Option (List ℕ) → Option (List ℕ) → Type 0
 CameDone t files s old new = (due : Due) × IsDone t files due × IsPut s due old new × IsTold s
@@ -100,15 +102,15 @@ told_end (ending.Done bit) = refl
 told_end (ending.Fault f) = refl
 
 done_told : (t : Task) (due : Due) (bs : List (List ℕ)) → OwedBy t due bs → IsTold due.status
-done_told (read file) due [] o = absurd o
-done_told (read file) due (b ∷ bs) (es, e, w, is) = subst (λ (d : Due). IsTold d.status) (sym is) (told_end e)
+done_told (stream f file o) due [] owed = absurd owed
+done_told (stream f file o) due (b ∷ bs) (es, e, w, is) = subst (λ (d : Due). IsTold d.status) (sym is) (told_end e)
 
 came_done : (t : Task) (files : Option Files) (s : Status) (old new : Option (List ℕ)) (due : Due) → AreDone files (needs t) (OwedBy t due) → IsPut s due old new → CameDone (Some t) files s old new
 came_done t files s old new due done p = (due, done, p, subst IsTold p.0 (done_told t due done.0 done.2))
 
 refused_put : (s : Status) (old new : Option (List ℕ)) (due : Due) (r : Refusal) → due ≡ refusal_due r → IsPut s due old new → (s ≡ refusal_status r) × Grows old (refusal_line r) new
 refused_put s old new due r is p =
-    (sym p.0 ∙ ap (λ (d : Due). d.status) is, subst (λ (t : List ℕ). Grows old t new) (ap (λ (d : Due). text_of d.pieces) is ∙ append-nil (refusal_line r)) p.1)
+    (sym p.0 ∙ ap (λ (d : Due). d.status) is, subst (λ (t : List ℕ). Grows old t new) (ap (λ (d : Due). text_of (all_pieces d)) is ∙ append-nil (refusal_line r)) p.1)
 
 of_file_cause : (t : Task) (files : Option Files) (r : Refusal) → FileCauses files (needs t) r → Causes (Some t) files r
 of_file_cause t files refusal.Usage c = absurd c
@@ -129,16 +131,16 @@ came None files rose s old new (due, owed, a) = came_usage files s old new due o
 came (Some t) files rose s old new (due, owed, a) = came_by t files s old new due (by_files files rose (needs t) (OwedBy t due) due owed) (put_or s due old new a)
 
 -- ---- the clauses
-tells_file : (name : List ℕ) (held : Files) (s : Status) (old new : Option (List ℕ)) (b : List ℕ) (due : Due) (file : Option (List ℕ)) → file_at held name ≡ file → file_at held name ≡ Some b → OwedOf b due → IsPut s due old new → IfSome file (λ bytes. IsTold s → Tells s old new bytes)
-tells_file name held s old new b due None is at o p = tt
-tells_file name held s old new b due (Some bytes) is at (es, e, w, d) p =
+tells_file : (f : Form) (words : Options) (name : List ℕ) (held : Files) (s : Status) (old new : Option (List ℕ)) (b : List ℕ) (due : Due) (file : Option (List ℕ)) → file_at held name ≡ file → file_at held name ≡ Some b → OwedOf f words b due → IsPut s due old new → IfSome file (λ bytes. IsTold s → Tells f words s old new bytes)
+tells_file f words name held s old new b due None is at o p = tt
+tells_file f words name held s old new b due (Some bytes) is at (es, e, w, d) p =
     let same : Some b ≡ Some bytes = sym at ∙ is in
     let b_is : b ≡ bytes = cc in
-    λ _. (es, e, subst (λ (x : List ℕ). IsWhole x es e) b_is w, sym p.0 ∙ ap (λ (x : Due). x.status) d, subst (λ (t : List ℕ). Grows old t new) (ap (λ (x : Due). text_of x.pieces) d ∙ text-whole es e) p.1)
+    λ _. (es, e, subst (λ (x : List ℕ). IsWhole words x es e) b_is w, sym p.0 ∙ ap (λ (x : Due). x.status) d, subst (λ (t : List ℕ). Grows old t new) (ap (λ (x : Due). text_of (all_pieces x)) d ∙ text-whole f es e ∙ told-said f es e) p.1)
 
-not_told : (s : Status) (file : Option (List ℕ)) (old new : Option (List ℕ)) → (IsTold s → ⊥) → IfSome file (λ bytes. IsTold s → Tells s old new bytes)
-not_told s None old new never = tt
-not_told s (Some bytes) old new never = λ h. absurd (never h)
+not_told : (f : Form) (words : Options) (s : Status) (file : Option (List ℕ)) (old new : Option (List ℕ)) → (IsTold s → ⊥) → IfSome file (λ bytes. IsTold s → Tells f words s old new bytes)
+not_told f words s None old new never = tt
+not_told f words s (Some bytes) old new never = λ h. absurd (never h)
 
 refusal_untold : (r : Refusal) (s : Status) → s ≡ refusal_status r → IsTold s → ⊥
 refusal_untold refusal.Usage s is h = let x : refuses ≡ told = ap sort_of (sym is) ∙ h in absurd cc
@@ -149,16 +151,20 @@ early_untold : (s : Status) → ((s ≡ status.WriteFault) ⊎ (s ≡ status.NoM
 early_untold s (inl is) h = let x : breaks ≡ told = ap sort_of (sym is) ∙ h in absurd cc
 early_untold s (inr is) h = let x : starved ≡ told = ap sort_of (sym is) ∙ h in absurd cc
 
-tells_by : (name : List ℕ) (held : Files) (s : Status) (old new : Option (List ℕ)) → Came (Some (read name)) (Some held) s old new → IfSome (file_at held name) (λ bytes. IsTold s → Tells s old new bytes)
-tells_by name held s old new (inl (due, ([], are, o), p, h)) = absurd are
-tells_by name held s old new (inl (due, (b ∷ bs, are, o), p, h)) = tells_file name held s old new b due (file_at held name) refl are.0.0 o p
-tells_by name held s old new (inr (inl lost)) = not_told s (file_at held name) old new (refusal_untold lost.0 s lost.2)
-tells_by name held s old new (inr (inr early)) = not_told s (file_at held name) old new (early_untold s early)
+tells_by : (f : Form) (words : Options) (name : List ℕ) (held : Files) (s : Status) (old new : Option (List ℕ)) → Came (Some (stream f name words)) (Some held) s old new → IfSome (file_at held name) (λ bytes. IsTold s → Tells f words s old new bytes)
+tells_by f words name held s old new (inl (due, ([], are, o), p, h)) = absurd are
+tells_by f words name held s old new (inl (due, (b ∷ bs, are, o), p, h)) = tells_file f words name held s old new b due (file_at held name) refl are.0.0 o p
+tells_by f words name held s old new (inr (inl lost)) = not_told f words s (file_at held name) old new (refusal_untold lost.0 s lost.2)
+tells_by f words name held s old new (inr (inr early)) = not_told f words s (file_at held name) old new (early_untold s early)
 
-pub tells : (t : Option Task) (files : Option Files) (rose : Type 0) (s : Status) (old new : Option (List ℕ)) → IsAnswered t files rose s old new → OfFile (read_file t) files (λ bytes. IsTold s → Tells s old new bytes)
-tells None files rose s old new a = tt
-tells (Some (read name)) None rose s old new a = tt
-tells (Some (read name)) (Some held) rose s old new a = tells_by name held s old new (came (Some (read name)) (Some held) rose s old new a)
+abbrev TellsStream : Form → Option Task → Option Files → Status → Option (List ℕ) → Option (List ℕ) → Type 0
+TellsStream f t files s old new = OfStream f t files (λ words bytes. IsTold s → Tells f words s old new bytes)
+
+pub tells : (f : Form) (t : Option Task) (files : Option Files) (rose : Type 0) (s : Status) (old new : Option (List ℕ)) → IsAnswered t files rose s old new → TellsStream f t files s old new
+tells f None files rose s old new a = tt
+tells f (Some (stream g name words)) None rose s old new a = λ is. tt
+tells f (Some (stream g name words)) (Some held) rose s old new a =
+    λ is. subst (λ (h : Form). IfSome (file_at held name) (λ bytes. IsTold s → Tells h words s old new bytes)) (sym is) (tells_by g words name held s old new (came (Some (stream g name words)) (Some held) rose s old new a))
 
 -- that there is no command
 refused_by : (files : Option Files) (s : Status) (old new : Option (List ℕ)) → Came None files s old new → IsOr status.Usage s
@@ -310,14 +316,14 @@ pub answers_write : (t : Option Task) (files : Option Files) (rose : Type 0) (ol
 answers_write t files rose old new (due, owed, did) = (due, owed, inl did)
 
 -- the line on want of memory: put, not begun, or broken off
-by_pieces : (old mid new : Option (List ℕ)) (ps : List (List ℕ)) (text : List ℕ) → GrowsByPieces old ps [] mid → Grows mid text new → GrowsByPieces old ps text new
-by_pieces old mid new ps text (some, p, others, is, g) h =
-    (some, p, others, is, subst (λ (t : List ℕ). Grows old t new) (ap (λ (t : List ℕ). t ++ text) (append-nil (text_of some))) (grows_more old mid new (text_of some ++ []) text g h))
+by_lines : (old mid new : Option (List ℕ)) (lines : List (List ℕ)) (text : List ℕ) → GrowsByLines old lines [] mid → Grows mid text new → GrowsByLines old lines text new
+by_lines old mid new lines text (some, others, is, g) h =
+    (some, others, is, subst (λ (t : List ℕ). Grows old t new) (ap (λ (t : List ℕ). t ++ text) (append-nil (text_of some))) (grows_more old mid new (text_of some ++ []) text g h))
 
-starves_by : (due : Due) (s : Status) (old mid new : Option (List ℕ)) → GrowsByPieces old due.pieces [] mid → Starves s mid new → Answered due s old new
-starves_by due s old mid new g (inl (is, inl same)) = rw is (inl (subst (λ (o : Option (List ℕ)). GrowsByPieces old due.pieces [] o) (sym same) g))
-starves_by due s old mid new g (inl (is, inr all)) = rw is (inr (by_pieces old mid new due.pieces no_memory g all))
-starves_by due s old mid new g (inr (is, p)) = rw is (inr (take p.0 no_memory, drop p.0 no_memory, sym (take-append-drop p.0 no_memory), by_pieces old mid new due.pieces (take p.0 no_memory) g p.2))
+starves_by : (due : Due) (s : Status) (old mid new : Option (List ℕ)) → GrowsByLines old due.lines [] mid → Starves s mid new → Answered due s old new
+starves_by due s old mid new g (inl (is, inl same)) = rw is (inl (subst (λ (o : Option (List ℕ)). GrowsByLines old due.lines [] o) (sym same) g))
+starves_by due s old mid new g (inl (is, inr all)) = rw is (inr (by_lines old mid new due.lines no_memory g all))
+starves_by due s old mid new g (inr (is, p)) = rw is (inr (take p.0 no_memory, drop p.0 no_memory, sym (take-append-drop p.0 no_memory), by_lines old mid new due.lines (take p.0 no_memory) g p.2))
 
 pub answers_starved : (t : Option Task) (files : Option Files) (rose : Type 0) (s : Status) (old mid new : Option (List ℕ)) → Served t files rose (Err halt.Memory) old mid → Starves s mid new → IsAnswered t files rose s old new
 answers_starved t files rose s old mid new (due, owed, did) st = (due, owed, starves_by due s old mid new did st)
@@ -334,4 +340,4 @@ refused_part r old new p =
 
 pub refused_starved : (r : Refusal) (s : Status) (old mid new : Option (List ℕ)) → mid ≡ old → Starves s mid new → Answered (refusal_due r) s old new
 refused_starved r s old mid new same st =
-    starves_by (refusal_due r) s old mid new ([], refusal_line r, [], refl, subst (λ (o : Option (List ℕ)). Grows old [] o) (sym same) (grows_none old)) st
+    starves_by (refusal_due r) s old mid new ([], [], refl, subst (λ (o : Option (List ℕ)). Grows old [] o) (sym same) (grows_none old)) st

@@ -1,37 +1,45 @@
 -- The words of a command.
-use Rattle.std.proofs.Common.{◌≡◌, ◌≢◌, ℕ, Bool, List, [], ◌∷◌, Some, None, length, get_or, inl, inr, sym, refl, ap, ◌∙◌, arith}
-use Rattle.std.proofs.lemmas.Bool.{both_ways, cases_Bool, false_from_ne_true}
-use Rattle.std.proofs.lemmas.Slice.Eq.{bytes_eq-Decides}
-use Rattle.std.proofs.lemmas.Str.{encodes_same}
-use Rattle.std.proofs.Math.Utf8.{encodes, encode}
-use Rattle.std.specs.Prelude.{codes, if◌then◌else◌}
-use Rattle.std.specs.Str.{bytes_eq}
-use Rattle.exi_run.specs.Tasks.{read, task_of}
+use Rattle.std.proofs.Common.{◌≡◌, ◌<◌, ◌≤◌, ◌-◌, ℕ, zero, suc, List, [], ◌∷◌, length, get_or, drop, Option, Some, None, refl, arith}
+use Rattle.std.specs.Prelude.{false, ◌&&◌, ◌==◌, is_some, option_copied}
+use Rattle.std.specs.Borrow.{Bor}
+use Rattle.exi_names.specs.Characters.{is_xml_char}
+use Rattle.exi_run.specs.declared.words.Next.{Next}
+use Rattle.exi_run.specs.Tasks.{form_of, task_by, task_of}
+use Rattle.exi_run.specs.Words.{Given, are_few_xml, given_by, is_hyphened, text, word_taken, words_taken}
 
--- a text that is one byte a character is compared alike by bytes and by characters
-pub same_by_bytes : (t a : List ℕ) → encodes a ≡ a → bytes_eq (encodes t) a ≡ bytes_eq t a
-same_by_bytes t a is =
-    let d = bytes_eq-Decides (encodes t) a in
-    let k = bytes_eq-Decides t a in
-    elim (cases_Bool (bytes_eq (encodes t) a)) [
-      | inl yes_is ↦ yes_is ∙ sym (k.1 (encodes_same t a (d.0 yes_is ∙ sym is)))
-      | inr no_is ↦ no_is ∙ sym (false_from_ne_true (bytes_eq t a) (λ h. both_ways (bytes_eq (encodes t) a) no_is (d.1 (ap encodes (k.0 h) ∙ is))))
-    ]
+-- ---- a schema's name
+pub few_none : (c : ℕ) (cs : List ℕ) → are_few_xml 0 (c ∷ cs) ≡ false
+few_none c cs = refl
 
-read_is : encodes (codes "read") ≡ codes "read"
-unfolding encode
-read_is = refl
+pub few_more : (n c : ℕ) (cs : List ℕ) → 0 < n → are_few_xml n (c ∷ cs) ≡ (is_xml_char c && are_few_xml (n - 1) cs)
+few_more zero c cs h = absurd (omega (arith, h))
+few_more (suc m) c cs h = let e : suc m - 1 ≡ m = omega arith in rw e refl
 
-pub by_command : (ws : List (List ℕ)) (command file bs : List ℕ) (r : Bool) → length ws ≡ 2 → command ≡ get_or ws 0 command → file ≡ get_or ws 1 file → bs ≡ encodes command → r ≡ bytes_eq bs (codes "read") → task_of ws ≡ (if r then Some (read file) else None)
-by_command [] command file bs r len a b is e = absurd (omega arith)
-by_command (x ∷ []) command file bs r len a b is e = absurd (omega arith)
-by_command (x ∷ y ∷ z ∷ ws) command file bs r len a b is e = absurd (omega arith)
-by_command (x ∷ y ∷ []) command file bs r len a b is e =
-    let test : r ≡ bytes_eq x (codes "read") = e ∙ ap (λ (t : List ℕ). bytes_eq t (codes "read")) (is ∙ ap encodes a) ∙ same_by_bytes x (codes "read") read_is in
-    rw (test, b) refl
+-- ---- one word after another
+-- no words bring back what was refused
+pub none_taken : (words : List (List ℕ)) → words_taken None words ≡ None
+none_taken [] = refl
+none_taken (word ∷ words) = refl
 
-pub no_task : (ws : List (List ℕ)) → length ws ≢ 2 → task_of ws ≡ None
-no_task [] n = refl
-no_task (x ∷ []) n = refl
-no_task (x ∷ y ∷ []) n = absurd (n refl)
-no_task (x ∷ y ∷ z ∷ ws) n = refl
+pub words_first : (g : Given) (n : Next) (ws others : List (List ℕ)) (word d : List ℕ) → 1 ≤ length ws → word ≡ get_or ws 0 d → others ≡ drop 1 ws → words_taken (Some (g, n)) ws ≡ words_taken (word_taken g n word) others
+words_first g n [] others word d few w o = absurd (omega (arith, few))
+words_first g n (x ∷ xs) others word d few w o = rw (w, o) refl
+
+pub task_first : (ws others : List (List ℕ)) (word d : List ℕ) → 1 ≤ length ws → word ≡ get_or ws 0 d → others ≡ drop 1 ws → task_of ws ≡ task_by (form_of (text word)) (given_by others)
+task_first [] others word d few w o = absurd (omega (arith, few))
+task_first (x ∷ xs) others word d few w o = rw (w, o) refl
+
+pub some_copied : {X : Type 0} (o : Option (Bor X)) → is_some (option_copied o) ≡ is_some o
+some_copied None = refl
+some_copied (Some x) = refl
+
+-- ---- a hyphen in front
+pub hyphen_first : (t : List ℕ) (c d : ℕ) → 1 < length t → c ≡ get_or t 0 d → is_hyphened t ≡ (c == 45)
+hyphen_first [] c d many is = absurd (omega (arith, many))
+hyphen_first (x ∷ []) c d many is = absurd (omega (arith, many))
+hyphen_first (x ∷ y ∷ ys) c d many is = rw is refl
+
+pub no_hyphen : (t : List ℕ) → length t ≤ 1 → is_hyphened t ≡ false
+no_hyphen [] few = refl
+no_hyphen (x ∷ []) few = refl
+no_hyphen (x ∷ y ∷ ys) few = absurd (omega (arith, few))

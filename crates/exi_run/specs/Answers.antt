@@ -1,8 +1,9 @@
 -- What was done of what is owed, and what each status says of it.
 use Rattle.std.specs.Prelude.{◌≡◌, ◌≢◌, ◌⊎◌, ℕ, ◌<◌, ◌≤◌, List, [], ◌∷◌, ◌++◌, length, Option, Some, None, IfSome, Result, Ok, Err, codes}
-use Rattle.exi_evtext.specs.Lines.{lines_of}
+use Rattle.exi_gram.specs.declared.options.Options.{Options}
 use Rattle.exi_names.specs.Events.{Happening, Grows}
 use Rattle.exi_ports.specs.Ports.{file_at, GrowsInPart}
+use Rattle.exi_run.specs.declared.form.Form.{Form}
 use Rattle.exi_run.specs.declared.halt.Halt.{Halt}
 use Rattle.exi_run.specs.declared.halt.Halt.TheVariants as halt
 use Rattle.exi_run.specs.declared.halt.Refusal.{Refusal}
@@ -11,12 +12,13 @@ use Rattle.exi_run.specs.declared.halt.Role.{Role}
 use Rattle.exi_run.specs.declared.ending.Ending.{Ending}
 use Rattle.exi_run.specs.declared.status.Status.{Status}
 use Rattle.exi_run.specs.declared.status.Status.TheVariants as status
-use Rattle.exi_run.specs.Dues.{Due, text_of, refusal_due, Files, most_bytes, found, long, failed, IsHad, Owed}
+use Rattle.exi_run.specs.Dues.{Due, all_pieces, text_of, refusal_due, Files, most_bytes, found, long, failed, IsHad, Owed}
 use Rattle.exi_run.specs.Refusals.{refusal_line, refusal_status}
 use Rattle.exi_run.specs.Wholes.{IsWhole, IsFront}
 use Rattle.exi_run.specs.Statuses.{Sort, told, refuses, breaks, starved, sort_of}
-use Rattle.exi_run.specs.Tasks.{Task, Need, needs_of}
-use Rattle.exi_run.specs.Endings.{last_line, status_of}
+use Rattle.exi_run.specs.Tasks.{Task, stream, Need, needs_of}
+use Rattle.exi_run.specs.Endings.{status_of}
+use Rattle.exi_run.specs.Forms.{all_said, told_as}
 
 -- ---- what was done
 abbrev pub no_memory : List ℕ
@@ -26,28 +28,28 @@ no_memory = codes "no memory" ++ 10 ∷ []
 abbrev pub GrowsByFront : {X : Type 0} → Option (List X) → List X → Option (List X) → Type 0
 GrowsByFront {X} old text new = (front rest : List X) × (text ≡ front ++ rest) × Grows old front new
 
--- first pieces, but not all, were added, and behind them a text
-abbrev pub GrowsByPieces : Option (List ℕ) → List (List ℕ) → List ℕ → Option (List ℕ) → Type 0
-GrowsByPieces old ps text new = (some : List (List ℕ)) × (p : List ℕ) × (others : List (List ℕ)) × (ps ≡ some ++ p ∷ others) × Grows old (text_of some ++ text) new
+-- first lines, some, all or none, were added, and behind them a text; the last piece was not
+abbrev pub GrowsByLines : Option (List ℕ) → List (List ℕ) → List ℕ → Option (List ℕ) → Type 0
+GrowsByLines old lines text new = (some others : List (List ℕ)) × (lines ≡ some ++ others) × Grows old (text_of some ++ text) new
 
 -- how it went, before a line on a refusal or on want of memory
 abbrev pub Did : Due → Result Status Halt → Option (List ℕ) → Option (List ℕ) → Type 0
-Did due (Ok s) old new = (s ≡ due.status) × Grows old (text_of due.pieces) new
+Did due (Ok s) old new = (s ≡ due.status) × Grows old (text_of (all_pieces due)) new
 Did due (Err (halt.Refused r)) old new = (due ≡ refusal_due r) × (new ≡ old)
-Did due (Err halt.Write) old new = GrowsByFront old (text_of due.pieces) new
-Did due (Err halt.Memory) old new = GrowsByPieces old due.pieces [] new
+Did due (Err halt.Write) old new = GrowsByFront old (text_of (all_pieces due)) new
+Did due (Err halt.Memory) old new = GrowsByLines old due.lines [] new
 
 -- the same, with what is owed
 abbrev pub Served : Option Task → Option Files → Type 0 → Result Status Halt → Option (List ℕ) → Option (List ℕ) → Type 0
 Served t files rose result old new = (due : Due) × Owed t files rose due × Did due result old new
 
--- all of it was put; or a front of it, or a front of the line on want of memory behind first pieces; or first pieces, with
+-- all of it was put; or a front of it, or a front of the line on want of memory behind first lines; or first lines, with
 -- or without that line
 abbrev pub AnsweredBy : Sort → Due → Status → Option (List ℕ) → Option (List ℕ) → Type 0
-AnsweredBy told due s old new = (due.status ≡ s) × Grows old (text_of due.pieces) new
-AnsweredBy refuses due s old new = (due.status ≡ s) × Grows old (text_of due.pieces) new
-AnsweredBy breaks due s old new = GrowsByFront old (text_of due.pieces) new ⊎ ((front rest : List ℕ) × (no_memory ≡ front ++ rest) × GrowsByPieces old due.pieces front new)
-AnsweredBy starved due s old new = GrowsByPieces old due.pieces [] new ⊎ GrowsByPieces old due.pieces no_memory new
+AnsweredBy told due s old new = (due.status ≡ s) × Grows old (text_of (all_pieces due)) new
+AnsweredBy refuses due s old new = (due.status ≡ s) × Grows old (text_of (all_pieces due)) new
+AnsweredBy breaks due s old new = GrowsByFront old (text_of (all_pieces due)) new ⊎ ((front rest : List ℕ) × (no_memory ≡ front ++ rest) × GrowsByLines old due.lines front new)
+AnsweredBy starved due s old new = GrowsByLines old due.lines [] new ⊎ GrowsByLines old due.lines no_memory new
 
 -- the line on want of memory was put, not begun, or broken off
 abbrev pub Starves : Status → Option (List ℕ) → Option (List ℕ) → Type 0
@@ -70,21 +72,33 @@ Fetches files rose name role (Err (halt.Refused (refusal.TooLong r))) = (r ≡ r
 Fetches files rose name role (Err halt.Write) = ⊥
 Fetches files rose name role (Err halt.Memory) = Unit {0}
 
--- the lines of the events: all up to the end, a front of them, or first lines
-abbrev pub DidEvents : List ℕ → Result Ending Halt → Option (List ℕ) → Option (List ℕ) → Type 0
-DidEvents bytes (Ok e) old new = (es : List Happening) × IsWhole bytes es e × Grows old (lines_of es) new
-DidEvents bytes (Err (halt.Refused r)) old new = ⊥
-DidEvents bytes (Err halt.Write) old new = (es : List Happening) × IsFront bytes es × GrowsByFront old (lines_of es) new
-DidEvents bytes (Err halt.Memory) old new = (es : List Happening) × IsFront bytes es × Grows old (lines_of es) new
+-- what the form says of the events: all up to the end, a front of it, or of first events
+abbrev pub DidEvents : Form → Options → List ℕ → Result Ending Halt → Option (List ℕ) → Option (List ℕ) → Type 0
+DidEvents f words bytes (Ok e) old new = (es : List Happening) × IsWhole words bytes es e × Grows old (all_said f es) new
+DidEvents f words bytes (Err (halt.Refused r)) old new = ⊥
+DidEvents f words bytes (Err halt.Write) old new = (es : List Happening) × IsFront words bytes es × GrowsByFront old (all_said f es) new
+DidEvents f words bytes (Err halt.Memory) old new = (es : List Happening) × IsFront words bytes es × Grows old (all_said f es) new
+
+-- the last pieces: all of them, a front, or none
+abbrev pub DidLast : List (List ℕ) → Result (Unit {0}) Halt → Option (List ℕ) → Option (List ℕ) → Type 0
+DidLast ps (Ok done) old new = Grows old (text_of ps) new
+DidLast ps (Err (halt.Refused r)) old new = ⊥
+DidLast ps (Err halt.Write) old new = GrowsByFront old (text_of ps) new
+DidLast ps (Err halt.Memory) old new = new ≡ old
 
 -- ---- what a status says, in parts
 -- a fact of the bytes of a file, where the shelf tells them
 abbrev pub OfFile : Option (List ℕ) → Option Files → (List ℕ → Type 0) → Type 0
 OfFile name files P = IfSome name (λ n. IfSome files (λ held. IfSome (file_at held n) P))
 
--- the sink took the whole text of these bytes, a line for each event, and the status is that of its end
-abbrev pub Tells : Status → Option (List ℕ) → Option (List ℕ) → List ℕ → Type 0
-Tells s old new bytes = (es : List Happening) × (e : Ending) × IsWhole bytes es e × (s ≡ status_of e) × Grows old (lines_of es ++ last_line e) new
+-- a fact of a stream that is told in this form: of the words' options and the bytes of its file
+abbrev pub OfStream : Form → Option Task → Option Files → (Options → List ℕ → Type 0) → Type 0
+OfStream f None files P = Unit {0}
+OfStream f (Some (stream g file o)) files P = f ≡ g → OfFile (Some file) files (P o)
+
+-- the sink took the whole of what the form tells of these bytes, and the status is that of their end
+abbrev pub Tells : Form → Options → Status → Option (List ℕ) → Option (List ℕ) → List ℕ → Type 0
+Tells f words s old new bytes = (es : List Happening) × (e : Ending) × IsWhole words bytes es e × (s ≡ status_of e) × Grows old (told_as f es e) new
 
 -- a file that is told is longer than the limit
 abbrev pub IsLong : Option (List ℕ) → Type 0

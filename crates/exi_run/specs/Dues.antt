@@ -1,11 +1,12 @@
 -- What the program owes for its words, its files and its stream.
-use Rattle.std.specs.Prelude.{◌≡◌, ◌⊎◌, ℕ, List, [], ◌∷◌, ◌++◌, map, Option, Some, None}
+use Rattle.std.specs.Prelude.{◌≡◌, ◌⊎◌, ℕ, List, [], ◌∷◌, ◌++◌, Option, Some, None}
 use Rattle.std.specs.List.{flat_map}
-use Rattle.exi_evtext.specs.Lines.{line_of}
+use Rattle.exi_gram.specs.declared.options.Options.{Options}
 use Rattle.exi_names.specs.Events.{Happening}
 use Rattle.exi_ports.specs.Ports.{file_at, Fetched}
 use Rattle.exi_ports.specs.declared.shelf.Fetch.TheVariants as fetch
 use Rattle.exi_run.specs.declared.files.TheConstants.{MOST_BYTES}
+use Rattle.exi_run.specs.declared.form.Form.{Form}
 use Rattle.exi_run.specs.declared.halt.Refusal.{Refusal}
 use Rattle.exi_run.specs.declared.halt.Refusal.TheVariants as refusal
 use Rattle.exi_run.specs.declared.halt.Role.{Role}
@@ -13,20 +14,25 @@ use Rattle.exi_run.specs.declared.ending.Ending.{Ending}
 use Rattle.exi_run.specs.declared.status.Status.{Status}
 use Rattle.exi_run.specs.Refusals.{refusal_line, refusal_status}
 use Rattle.exi_run.specs.Wholes.{IsWhole}
-use Rattle.exi_run.specs.Tasks.{Task, read, Need, needs}
-use Rattle.exi_run.specs.Endings.{last_line, status_of}
+use Rattle.exi_run.specs.Tasks.{Task, stream, Need, needs}
+use Rattle.exi_run.specs.Endings.{status_of}
+use Rattle.exi_run.specs.Forms.{pieces, last_pieces}
 
--- the pieces that are owed, each in one put, and the status behind them
+-- the pieces that are owed, each in one put: lines, and then a last one or none; and the status behind them
 pub record Due : Type 0 where
-  pub pieces : List (List ℕ)
+  pub lines : List (List ℕ)
+  pub last : List (List ℕ)
   pub status : Status
+
+abbrev pub all_pieces : Due → List (List ℕ)
+all_pieces due = due.lines ++ due.last
 
 abbrev pub text_of : List (List ℕ) → List ℕ
 text_of ps = flat_map (λ p. p) ps
 
 -- of a refusal, its line
 abbrev pub refusal_due : Refusal → Due
-refusal_due r = record { pieces = refusal_line r ∷ []; status = refusal_status r }
+refusal_due r = record { lines = []; last = refusal_line r ∷ []; status = refusal_status r }
 
 -- ---- files
 -- the files that a shelf tells, by their names
@@ -66,18 +72,18 @@ abbrev pub OwedFrom : Option Files → Type 0 → List Need → (List (List ℕ)
 OwedFrom files rose [] rest due = rest []
 OwedFrom files rose (n ∷ ns) rest due = (h : Had) × IsHad files rose n.name h × OwedWith h n.role (λ bytes. OwedFrom files rose ns (λ others. rest (bytes ∷ others)) due) due
 
--- of events and an end: the line of each
-abbrev pub whole_due : List Happening → Ending → Due
-whole_due es e = record { pieces = map line_of es ++ last_line e ∷ []; status = status_of e }
+-- of events and an end: what the form says of each
+abbrev pub whole_due : Form → List Happening → Ending → Due
+whole_due f es e = record { lines = flat_map (pieces f) es; last = last_pieces f e; status = status_of e }
 
--- of `read`: the events and the end of the file's bytes
-abbrev pub OwedOf : List ℕ → Due → Type 0
-OwedOf bytes due = (es : List Happening) × (e : Ending) × IsWhole bytes es e × (due ≡ whole_due es e)
+-- of a stream: the events and the end of the file's bytes
+abbrev pub OwedOf : Form → Options → List ℕ → Due → Type 0
+OwedOf f words bytes due = (es : List Happening) × (e : Ending) × IsWhole words bytes es e × (due ≡ whole_due f es e)
 
 -- of a command whose files were found, by their bytes in their order
 abbrev pub OwedBy : Task → Due → List (List ℕ) → Type 0
-OwedBy (read file) due [] = ⊥
-OwedBy (read file) due (input ∷ others) = OwedOf input due
+OwedBy (stream f file o) due [] = ⊥
+OwedBy (stream f file o) due (input ∷ others) = OwedOf f o input due
 
 -- of the words
 abbrev pub Owed : Option Task → Option Files → Type 0 → Due → Type 0

@@ -1,28 +1,27 @@
--- The header of this form (EXI 1.0, section 5).
-use Rattle.std.specs.Prelude.{◌≡◌, ℕ, ◌==◌, List, Result, Ok, Err, if◌then◌else◌}
-use Rattle.exi_bits.specs.declared.align.Align.TheVariants as align
+-- The header of a stream, and what of it is refused (EXI 1.0, section 5): there is no schema yet, so no stream may name one.
+use Rattle.std.specs.Prelude.{ℕ, List, Option, Some, None, Result, Ok, Err}
 use Rattle.exi_bits.specs.declared.fault.Fault.{Fault}
 use Rattle.exi_bits.specs.declared.fault.Kind.TheVariants as kind
-use Rattle.exi_bits.specs.declared.fault.Part.TheVariants as part
-use Rattle.exi_bits.specs.Bits.{Spot}
-use Rattle.exi_bits.specs.Unsigned.{◌>>=◌, field_at, fault_at}
+use Rattle.exi_gram.specs.declared.options.Options.{Options}
+use Rattle.exi_gram.specs.declared.options.SchemaWord.{SchemaWord}
+use Rattle.exi_gram.specs.declared.options.SchemaWord.TheVariants as schema
+use Rattle.exi_header.specs.declared.header.Header.{Header}
+use Rattle.exi_header.specs.Headers.{header_in}
 
-abbrev pub with_distinguishing : Spot → Result (ℕ × Spot) Fault → Result Spot Fault
-with_distinguishing s (Err f) = fault_at kind.NoExi s
-with_distinguishing s (Ok found) = if found.0 == 2 then (do
-  rest ← field_at 6 align.Bits found.1
-  if rest.0 == 0 then Ok rest.1 else fault_at (kind.Unsupported part.Root) found.1) else fault_at kind.NoExi s
+-- the bit of the code that opened schemaId, where that is a name, of which an empty one stands for the types of XML Schema alone
+abbrev pub name_bit : SchemaWord → Option ℕ → Option ℕ
+name_bit schema.Absent bit = None
+name_bit schema.Nil bit = None
+name_bit (schema.Id name) bit = bit
 
--- The distinguishing bits, and then six bits 0, which say that there is no options document, and the version 1. A stream
--- without the distinguishing bits is no EXI
-unfoldable pub header_at : Spot → Result Spot Fault
-header_at s = with_distinguishing s (field_at 2 align.Bits s)
+abbrev pub refused_at : Option ℕ → Header → Result Header Fault
+refused_at None h = Ok h
+refused_at (Some bit) h = Err (record { kind = kind.WrongSchema; bit = bit })
 
--- the first bit of some bytes
-abbrev pub start_of : List ℕ → Spot
-start_of bytes = record { bytes = bytes; place = 0 }
+abbrev pub accepted : Result Header Fault → Result Header Fault
+accepted (Ok h) = refused_at (name_bit h.options.schema h.schema_bit) h
+accepted (Err f) = Err f
 
--- what reading the header gives
-abbrev pub ReadsHeader : Result (Unit {0}) Fault → Spot → Result Spot Fault → Type 0
-ReadsHeader (Ok x) new read = read ≡ Ok new
-ReadsHeader (Err f) new read = read ≡ Err f
+-- the header of a stream's bytes, with the options of the words where it tells none; it is read whole before a name is refused
+unfoldable pub header_for : Options → List ℕ → Result Header Fault
+header_for words bytes = accepted (header_in words bytes)

@@ -1,9 +1,11 @@
 pub mod Statuses
 pub mod Refusals
 pub mod Stops
+pub mod Words
 pub mod Tasks
 pub mod Header
 pub mod Endings
+pub mod Forms
 pub mod Wholes
 pub mod Printing
 pub mod Dues

@@ -3,8 +3,8 @@
 //! ```text
 //!   words ──▶ run ◀── shelf: the files that the words name
 //!              │
-//!              ├─ header       80
-//!              ├─ body         read_from ──▶ printer: one event, one line
+//!              ├─ header       its options, or those of the words
+//!              ├─ body         read_from ──▶ printer: one event, one line; or one self-contained element, one line
 //!              └─ last line    done BIT, or fault KIND BIT
 //!                                  ──▶ sink
 //! ```
@@ -13,12 +13,17 @@
 //! sequential processing gives for the file's bytes, or the part of it that the status tells.
 #![tactic(auto)]
 
+mod command;
 mod ending;
 mod files;
+mod form;
+mod given;
 mod halt;
 mod header;
 mod laws;
+mod names;
 mod printer;
+mod starts;
 mod status;
 mod stream;
 #[cfg(test)]
@@ -27,6 +32,7 @@ mod top;
 mod words;
 
 pub use ending::Ending;
+pub use form::Form;
 pub use halt::{Refusal, Role};
 pub use laws::{front_of_whole, one_whole};
 pub use status::Status;

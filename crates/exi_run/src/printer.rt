@@ -3,6 +3,7 @@ ghost use Rattle.std.proofs.Common.{refl, ◌∙◌};
 ghost use Rattle.exi_names.specs.Events.{Rose};
 ghost use Rattle.exi_names.specs.Shown.{shows};
 ghost use Rattle.exi_run.specs.Printing.{Prints, BreaksOff, PrintsEvent, PutsLine, prints_none, prints_more};
+ghost use Rattle.exi_run.specs.declared.form.Form.TheVariants as form;
 
 use exi_evtext::push_event;
 use exi_names::{EventOut, EventRef, PushStop};
@@ -10,7 +11,7 @@ use exi_ports::{Sink, SinkStop};
 
 /// Prints each event as a line, in one put. It stops where the sink fails.
 #[derive(Drop)]
-pub(crate) struct Printer<'a, O: Sink> {
+pub(crate) struct TextPrinter<'a, O: Sink> {
     /// Where the lines go.
     pub out: &'a mut O,
     /// Room for a line, kept from one event to the next.
@@ -19,10 +20,10 @@ pub(crate) struct Printer<'a, O: Sink> {
     pub stops: u64,
 }
 
-impl<'a, O: Sink> Printer<'a, O> {
+impl<'a, O: Sink> TextPrinter<'a, O> {
     /// The line of an event goes to the sink.
     fn print(&mut self, event: &EventRef<'_>) -> Result<(), PushStop>
-        ensures printed { PrintsEvent (shows event.now) result (O.taken self.old.out.now) (O.faults self.old.out.now) (O.taken self.new.out.now) (O.faults self.new.out.now) }
+        ensures printed { PrintsEvent form.Text (shows event.now) result (O.taken self.old.out.now) (O.faults self.old.out.now) (O.taken self.new.out.now) (O.faults self.new.out.now) }
         ensures same { self.new.out.ghost_name ≡ self.old.out.ghost_name }
         ensures later { self.old.stops ≤ self.new.stops }
         ensures stopped { IsErrOf result PushStop.Stopped → Rose self.old.stops self.new.stops }
@@ -38,10 +39,10 @@ impl<'a, O: Sink> Printer<'a, O> {
     }
 }
 
-impl<'a, O: Sink> EventOut for Printer<'a, O> {
-    ghost took = { λ a es b. Prints (O.taken a.out.now) (O.faults a.out.now) es (O.taken b.out.now) (O.faults b.out.now) };
+impl<'a, O: Sink> EventOut for TextPrinter<'a, O> {
+    ghost took = { λ a es b. Prints form.Text (O.taken a.out.now) (O.faults a.out.now) es (O.taken b.out.now) (O.faults b.out.now) };
 
-    ghost broke = { λ a e b. BreaksOff (O.taken a.out.now) (O.faults a.out.now) e (O.taken b.out.now) (O.faults b.out.now) };
+    ghost broke = { λ a e b. BreaksOff form.Text (O.taken a.out.now) (O.faults a.out.now) e (O.taken b.out.now) (O.faults b.out.now) };
 
     ghost same = { λ a b. b.out.ghost_name ≡ a.out.ghost_name };
 
@@ -55,14 +56,14 @@ impl<'a, O: Sink> EventOut for Printer<'a, O> {
 
     ghost same_then = { λ a b c p q. q ∙ p };
 
-    ghost none = { λ s. prints_none (O.taken s.out.now) (O.faults s.out.now) };
+    ghost none = { λ s. prints_none form.Text (O.taken s.out.now) (O.faults s.out.now) };
 
-    ghost more = { λ a b c es fs. prints_more (O.taken a.out.now) (O.taken b.out.now) (O.taken c.out.now) (O.faults a.out.now) (O.faults b.out.now) (O.faults c.out.now) es fs };
+    ghost more = { λ a b c es fs. prints_more form.Text (O.taken a.out.now) (O.taken b.out.now) (O.taken c.out.now) (O.faults a.out.now) (O.faults b.out.now) (O.faults c.out.now) es fs };
 }
 
 /// The line of an event, in one put.
 fn put_event<O: Sink>(line: &mut String, out: &mut O, event: &EventRef<'_>) -> Result<(), SinkStop>
-    ensures { PutsLine (shows event.now) result (O.taken out.old) (O.faults out.old) (O.taken out.new) (O.faults out.new) }
+    ensures { PutsLine form.Text (shows event.now) result (O.taken out.old) (O.faults out.old) (O.taken out.new) (O.faults out.new) }
 {
     line.clear();
     let Ok(()) = push_event(line, event) else {

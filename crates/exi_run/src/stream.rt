@@ -1,133 +1,204 @@
-ghost use Rattle.std.specs.Prelude.{◌≡◌, ◌≤◌, ◌∷◌, [], Some, length, IfOk, IsErrOf};
+ghost use Rattle.std.specs.Prelude.{◌≡◌, ◌≤◌, ◌∷◌, [], Some, ℕ, false, length, IfOk, IsErrOf};
+ghost use Rattle.exi_gram.specs.Switches.{conflicts};
 ghost use Rattle.exi_names.specs.Events.{Rose};
-ghost use Rattle.exi_reader.specs.Reading.{IsJob, job_of};
-ghost use Rattle.exi_run.specs.Answers.{Did, DidEvents, GrowsByFront, Served};
+ghost use Rattle.exi_reader.specs.Reading.{IsJob, Sequences, job_of};
+ghost use Rattle.exi_meter.specs.Metering.{stream_bounds};
+ghost use Rattle.exi_reader.specs.declared.start.Start.TheVariants as start;
+ghost use Rattle.exi_run.specs.Answers.{Did, DidEvents, DidLast, GrowsByFront, Served};
 ghost use Rattle.exi_run.specs.Dues.{Due, OwedOf, most_bytes};
+ghost use Rattle.exi_run.specs.Endings.{last_line};
+ghost use Rattle.exi_run.specs.Forms.{last_pieces};
 ghost use Rattle.exi_run.specs.Printing.{PrintsBody};
 ghost use Rattle.exi_run.specs.Statuses.{IsTold};
-ghost use Rattle.exi_run.specs.Tasks.{read};
-ghost use Rattle.exi_run.specs.Wholes.{default_setting};
+ghost use Rattle.exi_run.specs.Tasks.{task};
+ghost use Rattle.exi_run.specs.Wholes.{setting_of};
+ghost use Rattle.exi_run.specs.declared.form.Form.TheVariants as form;
 
+use crate::command::Command;
 use crate::ending::Ending;
 use crate::files::fetch_file;
+use crate::form::Form;
 use crate::halt::{Halt, Refusal, Role};
-use crate::header::read_header;
+use crate::header::accepted_header;
 use crate::laws::one_whole;
-use crate::printer::Printer;
+use crate::printer::TextPrinter;
+use crate::starts::StartPrinter;
 use crate::status::Status;
-use bitflags::Flags;
-use exi_bits::BitIn;
+use exi_bits::Stop;
 use exi_codes::book;
-use exi_gram::{Book, OptionFlags, Options, SchemaWord};
+use exi_gram::{Book, Options};
 use exi_meter::Limits;
-use exi_names::Txt;
+use exi_names::EventOut;
 use exi_ports::{Shelf, Sink};
 use exi_reader::{End, Job, ReadStop, Start, read_from};
 use exi_schema::no_schema;
 use exi_steps::Steps;
-use exi_tables::HashTables;
+use exi_tables::PlaceTables;
 use std::alloc::{AllocError, Global};
 use std::marker::Brand;
 use std::sync::ledger::{Blank, Ledger};
 
-/// What streams without a schema and with the default options are read by.
-fn default_book(alloc: Global) -> Result<Book, AllocError>
-    ensures { IfOk result (λ b. b ≡ default_setting) }
+/// What streams without a schema and with these options are read by.
+fn book_of(alloc: Global, options: Options) -> Result<Book, AllocError>
+    requires free { conflicts options ≡ false }
+    ensures { IfOk result (λ b. b ≡ setting_of options) }
 {
-    let options = Options {
-        flags: OptionFlags::empty(),
-        schema: SchemaWord::Absent,
-        block: 1_000_000,
-        most: None,
-        capacity: None,
-    };
     book(alloc, no_schema(alloc)?, options)
 }
 
-/// The events of a body, to a printer. The steps that it counts are not looked at.
-fn print_on<L: Ledger, O: Sink>(
+/// The events of a body, to what takes them. The steps that it counts are not looked at.
+fn read_on<L: Ledger, E: EventOut>(
     alloc: Global,
     job: &Job<'_>,
-    printer: &mut Printer<'_, O>,
+    out: &mut E,
     blank: Blank,
 ) -> Result<End, ReadStop>
     requires name { blank.name ≡ L.name }
     requires parts { (blank.parts ≡ L.parts) × (blank.parts ≡ 1) }
     requires job { IsJob (job_of job.now) }
-    ensures printed { PrintsBody result (job_of job.now) (O.taken printer.old.out.now) (O.faults printer.old.out.now) (O.taken printer.new.out.now) (O.faults printer.new.out.now) }
-    ensures same { printer.new.out.ghost_name ≡ printer.old.out.ghost_name }
+    ensures read { (before after : ℕ) × Sequences E.took E.broke result (job_of job.now) start.Body stream_bounds out.old out.new before after }
+    ensures same { E.same out.old out.new }
 {
     let mut steps = Steps::<L>::of(blank);
     let limits = Limits::of_stream();
-    read_from::<HashTables, Printer<'_, O>, L>(alloc, job, Start::Body, limits, printer, &mut steps)
+    read_from::<PlaceTables, E, L>(alloc, job, Start::Body, limits, out, &mut steps)
 }
 
 /// The events of a body, one line each.
-fn print_body<O: Sink>(alloc: Global, job: &Job<'_>, out: &mut O) -> Result<End, ReadStop>
+fn print_text<O: Sink>(alloc: Global, job: &Job<'_>, out: &mut O) -> Result<End, ReadStop>
     requires { IsJob (job_of job.now) }
-    ensures { PrintsBody result (job_of job.now) (O.taken out.old) (O.faults out.old) (O.taken out.new) (O.faults out.new) }
+    ensures { PrintsBody form.Text result (job_of job.now) (O.taken out.old) (O.faults out.old) (O.taken out.new) (O.faults out.new) }
 {
     let mut line = String::new(alloc);
-    let mut printer = Printer {
+    let mut printer = TextPrinter {
         out,
         line: &mut line,
         stops: 0,
     };
-    print_on::<Brand, O>(alloc, job, &mut printer, Blank::new(1))
+    read_on::<Brand, TextPrinter<'_, O>>(alloc, job, &mut printer, Blank::new(1))
 }
 
-/// The events of a stream, one line each.
-fn print_events<O: Sink>(alloc: Global, bytes: &[u8], out: &mut O) -> Result<Ending, Halt>
-    requires { length bytes.now ≤ most_bytes }
-    ensures printed { DidEvents bytes.now result (O.taken out.old) (O.taken out.new) }
+/// Where the self-contained elements of a body begin, one line each.
+fn print_starts<O: Sink>(alloc: Global, job: &Job<'_>, out: &mut O) -> Result<End, ReadStop>
+    requires { IsJob (job_of job.now) }
+    ensures { PrintsBody form.Starts result (job_of job.now) (O.taken out.old) (O.faults out.old) (O.taken out.new) (O.faults out.new) }
+{
+    let mut line = String::new(alloc);
+    let mut printer = StartPrinter {
+        out,
+        line: &mut line,
+        stops: 0,
+    };
+    read_on::<Brand, StartPrinter<'_, O>>(alloc, job, &mut printer, Blank::new(1))
+}
+
+/// A body in a form.
+fn print_body<O: Sink>(
+    alloc: Global,
+    form: Form,
+    job: &Job<'_>,
+    out: &mut O,
+) -> Result<End, ReadStop>
+    requires { IsJob (job_of job.now) }
+    ensures { PrintsBody form result (job_of job.now) (O.taken out.old) (O.faults out.old) (O.taken out.new) (O.faults out.new) }
+{
+    match form {
+        Form::Text => print_text(alloc, job, out),
+        Form::Starts => print_starts(alloc, job, out),
+    }
+}
+
+/// The events of a stream in a form.
+fn print_events<O: Sink>(
+    alloc: Global,
+    form: Form,
+    words: &Options,
+    bytes: &[u8],
+    out: &mut O,
+) -> Result<Ending, Halt>
+    requires few { length bytes.now ≤ most_bytes }
+    requires free { conflicts words.now ≡ false }
+    ensures printed { DidEvents form words.now bytes.now result (O.taken out.old) (O.taken out.new) }
     ensures later { O.faults out.old ≤ O.faults out.new }
     ensures write { IsErrOf result Halt.Write → Rose (O.faults out.old) (O.faults out.new) }
 {
     one_whole();
-    let mut input = BitIn::new(bytes);
-    if let Err(fault) = read_header(&mut input) {
-        return Ok(Ending::Fault(fault));
-    }
-    let book = default_book(alloc)?;
+    let header = match accepted_header(alloc, bytes, words) {
+        Ok(header) => header,
+        Err(Stop::Fault(fault)) => return Ok(Ending::Fault(fault)),
+        Err(Stop::Memory) => return Err(Halt::Memory),
+    };
+    let body = header.body;
+    let book = book_of(alloc, header.options)?;
     let job = Job {
         book: &book,
         bytes,
-        body: input.at(),
+        body,
         limits: Limits::of_stream(),
     };
-    let end = print_body(alloc, &job, out)?;
+    let end = print_body(alloc, form, &job, out)?;
     Ok(Ending::of(end))
 }
 
-/// A stream as text: its events, and its end.
-fn print_stream<O: Sink>(alloc: Global, bytes: &[u8], out: &mut O) -> Result<Status, Halt>
-    requires { length bytes.now ≤ most_bytes }
-    ensures printed { (due : Due) × OwedOf bytes.now due × Did due result (O.taken out.old) (O.taken out.new) }
+/// The line of the end.
+fn put_line<O: Sink>(alloc: Global, end: Ending, out: &mut O) -> Result<(), Halt>
+    ensures put { DidLast (last_line end ∷ []) result (O.taken out.old) (O.taken out.new) }
+    ensures later { O.faults out.old ≤ O.faults out.new }
+    ensures write { IsErrOf result Halt.Write → Rose (O.faults out.old) (O.faults out.new) }
+{
+    let line = end.line(alloc)?;
+    out.put(&line)?;
+    Ok(())
+}
+
+/// The last line of a form, where it has one.
+fn put_last<O: Sink>(alloc: Global, form: Form, end: Ending, out: &mut O) -> Result<(), Halt>
+    ensures put { DidLast (last_pieces form end) result (O.taken out.old) (O.taken out.new) }
+    ensures later { O.faults out.old ≤ O.faults out.new }
+    ensures write { IsErrOf result Halt.Write → Rose (O.faults out.old) (O.faults out.new) }
+{
+    match (form, end) {
+        (Form::Text, _) | (Form::Starts, Ending::Fault(_)) => put_line(alloc, end, out),
+        (Form::Starts, Ending::Done(_)) => Ok(()),
+    }
+}
+
+/// A stream in a form: its events, and its end.
+fn print_stream<O: Sink>(
+    alloc: Global,
+    form: Form,
+    words: &Options,
+    bytes: &[u8],
+    out: &mut O,
+) -> Result<Status, Halt>
+    requires few { length bytes.now ≤ most_bytes }
+    requires free { conflicts words.now ≡ false }
+    ensures printed { (due : Due) × OwedOf form words.now bytes.now due × Did due result (O.taken out.old) (O.taken out.new) }
     ensures later { O.faults out.old ≤ O.faults out.new }
     ensures write { IsErrOf result Halt.Write → Rose (O.faults out.old) (O.faults out.new) }
     ensures told { IfOk result IsTold }
 {
-    let end = print_events(alloc, bytes, out)?;
-    let line = end.line(alloc)?;
-    out.put(&line)?;
+    let end = print_events(alloc, form, words, bytes, out)?;
+    put_last(alloc, form, end, out)?;
     Ok(end.status())
 }
 
-/// `read FILE`: the stream of a file as text.
-pub(crate) fn read_stream<F: Shelf, O: Sink>(
+/// The stream of a file, in the form that a command tells it.
+pub(crate) fn tell_stream<F: Shelf, O: Sink>(
     alloc: Global,
-    file: &Txt,
+    command: &Command<'_>,
     shelf: &mut F,
     out: &mut O,
 ) -> Result<Status, Halt>
-    ensures served { Served (Some (read file.now)) (F.files shelf.old) (Rose (F.faults shelf.old) (F.faults shelf.new)) result (O.taken out.old) (O.taken out.new) }
-    ensures asked { GrowsByFront (F.asked shelf.old) (file.now ∷ []) (F.asked shelf.new) }
+    requires free { conflicts command.now.options ≡ false }
+    ensures served { Served (Some (task command.now)) (F.files shelf.old) (Rose (F.faults shelf.old) (F.faults shelf.new)) result (O.taken out.old) (O.taken out.new) }
+    ensures asked { GrowsByFront (F.asked shelf.old) (command.now.file.now ∷ []) (F.asked shelf.new) }
     ensures later { O.faults out.old ≤ O.faults out.new }
     ensures write { IsErrOf result Halt.Write → Rose (O.faults out.old) (O.faults out.new) }
     ensures failed { IsErrOf result (Halt.Refused Refusal.ReadFailed) → Rose (F.faults shelf.old) (F.faults shelf.new) }
     ensures told { IfOk result IsTold }
 {
     one_whole();
-    let input = fetch_file(alloc, shelf, file, Role::Input)?;
-    print_stream(alloc, input.as_slice(), out)
+    let input = fetch_file(alloc, shelf, command.file, Role::Input)?;
+    print_stream(alloc, command.form, &command.options, input.as_slice(), out)
 }

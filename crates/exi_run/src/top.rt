@@ -1,14 +1,15 @@
 ghost use Rattle.std.specs.Prelude.{◌≡◌, ◌≤◌, ◌≢◌, ◌⊎◌, IfOk, IfSome, IsErrOf, None};
 ghost use Rattle.exi_names.specs.Events.{Rose};
-ghost use Rattle.exi_run.specs.Answers.{Answered, AreWithin, GrowsByFront, HasLong, IsAnswered, IsLater, OfFile, RefusalPut, Served, Starves, Tells};
+ghost use Rattle.exi_run.specs.Answers.{Answered, AreWithin, GrowsByFront, HasLong, IsAnswered, IsLater, OfStream, RefusalPut, Served, Starves, Tells};
 ghost use Rattle.exi_run.specs.Dues.{refusal_due};
 ghost use Rattle.exi_run.specs.Statuses.{IsOr, IsTold};
-ghost use Rattle.exi_run.specs.Tasks.{names_of, needs_of, read_file, task_of};
+ghost use Rattle.exi_run.specs.Tasks.{names_of, needs_of, task_of};
+ghost use Rattle.exi_run.specs.declared.form.Form.TheVariants as form;
 
+use crate::command::Command;
 use crate::halt::{Halt, Refusal};
 use crate::status::Status;
-use crate::stream::read_stream;
-use crate::words::Command;
+use crate::stream::tell_stream;
 use exi_names::Txt;
 use exi_ports::{Gate, Shelf, Sink, SinkStop};
 use std::alloc::Global;
@@ -30,7 +31,7 @@ fn serve<F: Shelf, O: Sink>(
     ensures told { IfOk result IsTold }
 {
     match Command::of(words) {
-        Some(Command::Read(file)) => read_stream(alloc, file, shelf, out),
+        Some(command) => tell_stream(alloc, &command, shelf, out),
         None => Err(Halt::Refused(Refusal::Usage)),
     }
 }
@@ -74,11 +75,13 @@ fn respond<F: Shelf, O: Sink>(alloc: Global, words: &[Txt], shelf: &mut F, out: 
     }
 }
 
-/// Does what the words ask for: `read FILE` reads an EXI stream and puts it as text.
+/// Does what the words ask for: `read FILE` reads an EXI stream and puts it as text, `index FILE` puts where its
+/// self-contained elements begin; options that the stream's header leaves to the words stand beside FILE.
 ///
-/// The file is fetched from `shelf` once, at most 64 MiB of it. `out` takes one line for each event and
-/// then one for the end, `done BIT` or `fault KIND BIT`; each line is one put, and nothing more is put after
-/// one that fails. `rt` and `gate` are for workers, of which this command has none yet.
+/// The file is fetched from `shelf` once, at most 64 MiB of it. Of `read`, `out` takes one line for each event and
+/// then one for the end, `done BIT` or `fault KIND BIT`; of `index`, one line for each self-contained element, the byte
+/// at which it begins, and then that of a fault. Each line is one put, and nothing more is put after one that fails.
+/// `rt` and `gate` are for workers, of which these commands have none yet.
 pub fn run<R: Threads + Wait + Sync, F: Shelf, O: Sink, G: Gate>(
     _rt: &R,
     alloc: Global,
@@ -89,7 +92,10 @@ pub fn run<R: Threads + Wait + Sync, F: Shelf, O: Sink, G: Gate>(
 ) -> Status
     // The stream was read to its end or its fault: the sink took the text of exactly the events and the
     // end that sequential processing gives for the bytes of the file.
-    ensures read { OfFile (read_file (task_of words.now)) (F.files shelf.old) (λ bytes. IsTold result → Tells result (O.taken out.old) (O.taken out.new) bytes) }
+    ensures read { OfStream form.Text (task_of words.now) (F.files shelf.old) (λ options bytes. IsTold result → Tells form.Text options result (O.taken out.old) (O.taken out.new) bytes) }
+
+    // The same for an index: exactly the bytes at which sequential processing meets self-contained elements, in order.
+    ensures index { OfStream form.Starts (task_of words.now) (F.files shelf.old) (λ options bytes. IsTold result → Tells form.Starts options result (O.taken out.old) (O.taken out.new) bytes) }
 
     // With every status: what is owed for the words, the files and the stream was put, all of it, or for
     // WriteFault a front of it, or for NoMemory first pieces of it and a word on the want of memory.

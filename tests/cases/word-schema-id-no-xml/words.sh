@@ -1,0 +1,1 @@
+printf 'read\nin.exi\n--schema-id=a\001\n'
