@@ -5,6 +5,7 @@ use Rattle.std.proofs.lemmas.List.{append-nil}
 use Rattle.std.proofs.lemmas.Bool.Decides.{nat_tests}
 use Rattle.std.specs.List.{join_with_byte}
 use Rattle.std.specs.Str.{bytes_eq}
+use Rattle.exi_names.specs.declared.val.TheConstants.{MOST_ITEMS}
 use Rattle.exi_names.specs.Datatypes.{Representation, small, unsigned, list, choice, chars}
 use Rattle.exi_names.specs.Datatypes as form
 use Rattle.exi_names.specs.Seen.{Value, Values, boolean, integer, decimal, float, moment, binary, items, no_more, and, values_of}
@@ -316,13 +317,13 @@ each_kept r kept (t ∷ ts) vs (w, all) e =
 
 record Listed (f : List ℕ → Option Value) (t : List ℕ) (v : Value) : Type 0 where
   values : List Value
-  few : length (words t) ≤ 65_536
+  few : length (words t) ≤ MOST_ITEMS
   each : each_value f (words t) ≡ Some values
   whole : items (values_of values) ≡ v
 
 listed_is : (f : List ℕ → Option Value) (t : List ℕ) (v : Value) → list_value f t ≡ Some v → Listed f t v
 unfolding list_value
-listed_is f t v e = elim (cases_Bool (nat_le (length (words t)) 65_536)) [
+listed_is f t v e = elim (cases_Bool (nat_le (length (words t)) MOST_ITEMS)) [
   | inl h ↦
       let m = found (λ (vs : List Value). items (values_of vs)) (each_value f (words t)) v (rw h at e) in
       record { values = m.part; few = grind (arith, nat_tests); each = m.there; whole = m.whole }

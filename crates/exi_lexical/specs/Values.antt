@@ -5,6 +5,7 @@ use Rattle.std.specs.Str.{bytes_eq}
 use Rattle.std.specs.List.{join_with_byte}
 use Rattle.std.specs.Option.{is_some}
 use Rattle.exi_names.specs.Wholes.{Number}
+use Rattle.exi_names.specs.declared.val.TheConstants.{MOST_ITEMS}
 use Rattle.exi_names.specs.Seen.{Value, Values, boolean, integer, decimal, float, moment, binary, items, no_more, and, values_of}
 use Rattle.exi_names.specs.Seen as shape
 use Rattle.exi_names.specs.Datatypes.{Representation, small, unsigned, list, choice, chars}
@@ -84,9 +85,9 @@ abbrev pub each_value : (List ℕ → Option Value) → List (List ℕ) → Opti
 each_value item [] = Some []
 each_value item (t ∷ ts) = value_before (item t) (each_value item ts)
 
--- one item for each word, at most 65,536 (our own bound)
+-- one item for each word, at most MOST_ITEMS (our own bound)
 unfoldable pub list_value : (List ℕ → Option Value) → List ℕ → Option Value
-list_value item t = if nat_le (length (words t)) 65_536 then option_map (λ vs. items (values_of vs)) (each_value item (words t)) else None
+list_value item t = if nat_le (length (words t)) MOST_ITEMS then option_map (λ vs. items (values_of vs)) (each_value item (words t)) else None
 
 -- ---- enumerations
 -- the value under the base, where it is one of the enumerated ones

@@ -14,12 +14,9 @@ ghost use Rattle.exi_lexical.specs.Values.{of_decimal, of_float, binary_value, b
 use crate::binaries::{base64_value, hex_value};
 use crate::spaces::{next_word, trim};
 use exi_calendar::moment;
-use exi_names::{Datatype, Txt, Val, ValList};
+use exi_names::{Datatype, MOST_ITEMS, Txt, Val, ValList};
 use exi_numerals::{Decimal, Float, decimal_of, float_of, integer_of, small_of, unsigned_of};
 use std::alloc::{AllocError, Global};
-
-/// How many items a list may have.
-const MOST_ITEMS: usize = 65_536;
 
 /// The value of one of the four texts of a boolean, if the text is such.
 #[tactic(auto, unfolding(crate::specs::Values::boolean_value))]
@@ -122,7 +119,7 @@ fn scalar(alloc: Global, kind: &Datatype, text: &str) -> Result<Option<Val>, All
 /// - `Moment`: the form of the kind, as [`exi_calendar::moment`] says.
 /// - `Binary`: pairs of hex digits of either case; or groups of four base64 digits, with fillers in the last group
 ///   and unused bits 0, in which white space may stand anywhere.
-/// - `List`: words between white space, at most 65,536, each with a value.
+/// - `List`: words between white space, at most [`MOST_ITEMS`], each with a value.
 /// - `Choice`: the value under the base, where it is an enumerated one. Two values are equal where they are the same
 ///   as data: `1.50E1` and `15E0` are different floats, though the numbers are the same.
 ///   [`ValList::place_of`] tells which of them it is.

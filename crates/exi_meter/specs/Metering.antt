@@ -1,6 +1,7 @@
 -- What a meter counts, against which limits, and what each call makes of it. The limits are the codec's own:
 -- the W3C recommendation sets none.
-use Rattle.std.specs.Prelude.{ℕ, ◌+◌, ◌-◌, ◌^◌, ◌≤◌, max, Bool, ◌&&◌, nat_le}
+use Rattle.std.specs.Prelude.{ℕ, ◌+◌, ◌-◌, ◌≤◌, max, Bool, ◌&&◌, nat_le}
+use Rattle.exi_meter.specs.declared.limits.TheConstants.{MAX_DEPTH, MAX_EVENTS, MAX_TEXT}
 use Rattle.exi_meter.specs.declared.tally.Tally.{Tally}
 
 -- the most events, units of text and open elements
@@ -14,13 +15,13 @@ bounds_of events text depth = record { events = events; text = text; depth = dep
 
 -- the limits of a stream: 16,777,216 events, 268,435,456 units of text, 512 open elements
 abbrev pub stream_bounds : Bounds
-stream_bounds = record { events = 2 ^ 24; text = 2 ^ 28; depth = 512 }
+stream_bounds = record { events = MAX_EVENTS; text = MAX_TEXT; depth = MAX_DEPTH }
 
 -- none of them is above that of a stream
 pub record IsWithinStream (bounds : Bounds) : Type 0 where
-  pub events : bounds.events ≤ 2 ^ 24
-  pub text : bounds.text ≤ 2 ^ 28
-  pub depth : bounds.depth ≤ 512
+  pub events : bounds.events ≤ stream_bounds.events
+  pub text : bounds.text ≤ stream_bounds.text
+  pub depth : bounds.depth ≤ stream_bounds.depth
 
 -- the limits, what was used of them, and how many elements are open now
 pub record Metering : Type 0 where

@@ -8,6 +8,7 @@ use Rattle.exi_names.specs.Equality.{place_among}
 use Rattle.exi_names.specs.Moments.{IsMoment, is_year}
 use Rattle.exi_names.specs.Seen.{Value, Values, text, boolean, integer, decimal, float, moment, binary, items, name, no_more, and}
 use Rattle.exi_names.specs.Wholes.{Number}
+use Rattle.exi_names.specs.declared.val.TheConstants.{MOST_ITEMS}
 
 -- ---- integers
 -- the number on the number line
@@ -88,7 +89,7 @@ abbrev mutual
   IsOf kind.decimal (decimal minus whole back) = (whole < 2 ^ 128) × (back < 2 ^ 128)
   IsOf kind.float (float mantissa exponent) = is_float mantissa exponent ≡ true
   IsOf (kind.moment which) (moment m) = (m.kind ≡ which) × IsMoment m × IsTrue (is_year m.year) × IfSome m.fraction (λ digits. digits < 2 ^ 128)
-  IsOf (kind.list item) (items vs) = (length_of vs ≤ 65_536) × AreOf item vs
+  IsOf (kind.list item) (items vs) = (length_of vs ≤ MOST_ITEMS) × AreOf item vs
   -- one of the enumerated values
   IsOf (kind.choice base values) v = is_some (place_among v values) ≡ true
   -- any string: a pattern's characters are asked by what writes them

@@ -58,5 +58,5 @@ pub use start::StartNames;
 pub use stops::{PushStop, TextStop};
 pub use txt::Txt;
 pub use txt_list::{TxtList, TxtLists};
-pub use val::{Val, ValList};
+pub use val::{MOST_ITEMS, Val, ValList};
 pub use whole::Whole;

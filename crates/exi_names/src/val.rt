@@ -55,6 +55,9 @@ pub enum Val {
     Name(QName),
 }
 
+/// The most items of a value of a List datatype: our own bound, as the recommendation sets none (EXI 1.0, section 7.1.11).
+pub const MOST_ITEMS: usize = 65_536;
+
 /// A list of values.
 #[cycle(val)]
 #[derive(Debug, Drop)]

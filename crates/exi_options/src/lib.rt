@@ -24,6 +24,7 @@ mod tests;
 mod told;
 mod write;
 
+pub use name::MOST_CHARACTERS;
 pub use read::read_options;
 pub use told::Told;
 pub use write::write_options;

@@ -6,7 +6,7 @@ ghost use Rattle.exi_bits.specs.Unsigned.{Stops};
 ghost use Rattle.exi_bits.specs.declared.align.Align.TheVariants as align;
 ghost use Rattle.exi_text.specs.Literals.{all_xml, char_at};
 ghost use Rattle.exi_items.specs.Fronts.{HoldsFront};
-ghost use Rattle.exi_options.specs.Reading.{name_at};
+ghost use Rattle.exi_options.specs.Reading.{most_characters, name_at};
 ghost use Rattle.exi_options.specs.Writing.{name_bits};
 
 use exi_bits::{Align, BitIn, BitOut, Fault, Kind, Stop};
@@ -15,7 +15,7 @@ use exi_names::Txt;
 use exi_text::{read_chars, write_chars};
 use std::alloc::{AllocError, Global};
 
-/// How many characters the schema's name has at most.
+/// How many characters the schema's name (EXI 1.0, section 5.4, `schemaId`) has at most: our own bound.
 pub const MOST_CHARACTERS: u128 = 65_536;
 
 /// Reads a string that empty string tables do not hold (EXI 1.0, section 7.3.3). After an `Err` the place is anything.
@@ -24,7 +24,7 @@ pub const MOST_CHARACTERS: u128 = 65_536;
 ///
 /// - `Short` and `TooWide` at the length or the character that is so.
 /// - `BadPlace` behind a length that stands for a string of the tables.
-/// - `TextLimit` at the length where there are more than 65,536 characters; room is asked for none of them.
+/// - `TextLimit` at the length where there are more than [`MOST_CHARACTERS`]; room is asked for none of them.
 /// - `BadChar` at a character that is none of XML.
 /// - `Memory` where memory is refused.
 #[tactic(auto, unfolding(crate::specs::Reading::name_at))]
@@ -51,7 +51,7 @@ pub fn read_name(alloc: Global, input: &mut BitIn<'_>) -> Result<Txt, Stop>
 
 /// Reads so many characters.
 fn characters(alloc: Global, input: &mut BitIn<'_>, count: u128) -> Result<Txt, Stop>
-    requires few { count ≤ 65536 }
+    requires few { count ≤ most_characters }
     ensures read { Stops (λ t. t) result input.new (times (char_at None align.Bits) count input.old) }
     ensures bytes { input.new.bytes ≡ input.old.bytes }
 {

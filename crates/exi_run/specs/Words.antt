@@ -19,6 +19,8 @@ use Rattle.exi_digits.specs.Digits.{number_in}
 use Rattle.exi_gram.specs.declared.options.OptionFlags.{OptionFlags}
 use Rattle.exi_names.specs.Characters.{is_xml_char}
 use Rattle.exi_options.specs.Document.{flag}
+use Rattle.exi_options.specs.Reading.{most_characters}
+use Rattle.exi_run.specs.declared.given.TheConstants.{MOST_DIGITS}
 use Rattle.exi_run.specs.declared.names.Named.{Named}
 use Rattle.exi_run.specs.declared.names.Named.TheVariants as named
 use Rattle.exi_run.specs.declared.names.Valued.{Valued}
@@ -87,14 +89,10 @@ with_switch f g = if bit_and g.flags.0 f.0 == f.0 then None else Some (record g 
 
 -- how many digits a number has at most
 abbrev pub most_digits : ℕ
-most_digits = 10
+most_digits = MOST_DIGITS
 
 abbrev pub number_told : List ℕ → Option ℕ
 number_told t = if nat_le (length t) most_digits then number_in t else None
-
--- how many characters a schema's name has at most
-abbrev pub most_characters : ℕ
-most_characters = 65536
 
 -- no more characters than that, and each of XML
 abbrev pub are_few_xml : ℕ → List ℕ → Bool

@@ -9,12 +9,10 @@ use bitflags::Flags;
 use exi_digits::number;
 use exi_gram::{OptionFlags, Options, SchemaWord};
 use exi_names::{Txt, is_xml};
+use exi_options::MOST_CHARACTERS;
 
 /// How many digits a number has at most.
 const MOST_DIGITS: usize = 10;
-
-/// How many characters a schema's name has at most.
-const MOST_CHARACTERS: u64 = 65_536;
 
 /// What the words have given so far.
 #[derive(Clone, Copy, Debug)]
@@ -42,7 +40,7 @@ fn number_told(text: &str) -> Option<u128>
     number(digits)
 }
 
-/// Whether a text may name a schema: at most 65,536 characters, each of XML.
+/// Whether a text may name a schema: at most [`MOST_CHARACTERS`], each of XML.
 fn is_schema_name(text: &str) -> bool
     ensures { result ≡ is_schema_name text.now }
 {

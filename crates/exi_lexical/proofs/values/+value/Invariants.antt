@@ -2,6 +2,7 @@ use Rattle.std.proofs.Common.{◌≡◌, ◌+◌, ◌≤◌, length}
 use denote.Text.{Utf8}
 use denote.Shadow.{shadow}
 use Rattle.std.specs.Str.{chars}
+use Rattle.exi_names.specs.declared.val.TheConstants.{MOST_ITEMS}
 use Rattle.exi_names.specs.Datatypes.{represented}
 use Rattle.exi_names.specs.Seen.{vals}
 use Rattle.exi_lexical.specs.Spaces.{words}
@@ -14,7 +15,7 @@ invariant-list-loop-word l =
     shadow (Utf8 l.rest)
     × (each_value (λ w. value (represented l.item) w) (words (chars l.text)) ≡ behind (vals l.items) (each_value (λ w. value (represented l.item) w) (words (chars l.rest))))
     × (length (words (chars l.text)) ≡ length (vals l.items) + length (words (chars l.rest)))
-    × (length (vals l.items) ≤ 65_536)
+    × (length (vals l.items) ≤ MOST_ITEMS)
 
 abbrev pub decreases-list-loop-word : goal.decreases-list-loop-word
 decreases-list-loop-word l = length l.rest
