@@ -9,7 +9,7 @@ use Rattle.exi_bits.specs.Unsigned.{groups}
 use Rattle.exi_bits.specs.Written.{zeros, written, padded, to_byte, IsPadded}
 use Rattle.exi_bits.proofs.BitLaws.{length-bits, length-number_bits, bits-append, pow_up, one_byte, number_bits-add, byte_out, last_out}
 
-written_is : (bs : List ℕ) (front : List Bool) (sp : ℕ) → bits bs ≡ front ++ zeros sp → written bs sp ≡ front
+pub written_is : (bs : List ℕ) (front : List Bool) (sp : ℕ) → bits bs ≡ front ++ zeros sp → written bs sp ≡ front
 written_is bs front sp e =
     let n : length front ≡ 8 * length bs - sp = omega (arith, length-bits bs, ap length e, length-append front (zeros sp), length-replicate sp false) in
     ap (λ (t : List Bool). take (8 * length bs - sp) t) e ∙ take_at front (zeros sp) (8 * length bs - sp) n

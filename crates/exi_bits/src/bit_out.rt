@@ -4,6 +4,7 @@ ghost use Rattle.exi_bits.specs.Unsigned.{shortest};
 ghost use Rattle.exi_bits.specs.Written.{zeros, written, padded, IsPadded, IsWholeBytes};
 
 use crate::align::Align;
+use crate::words::word_at;
 use std::alloc::{AllocError, Global};
 use std::marker::Model;
 
@@ -98,8 +99,8 @@ fn push_octet(bytes: &mut Vec<u8>, spare: u32, octet: u8)
     }
 }
 
-/// Octets behind bits that end in a part of a byte.
-fn push_octets(bytes: &mut Vec<u8>, spare: u32, octets: &[u8])
+/// Octets behind bits that end in a part of a byte, one after another.
+fn push_each(bytes: &mut Vec<u8>, spare: u32, octets: &[u8])
     requires padded { IsPadded bytes.old.items spare }
     requires room { vec_len bytes.old + length octets.now ≤ vec_capacity bytes.old }
     ensures padded { IsPadded bytes.new.items spare }
@@ -107,6 +108,49 @@ fn push_octets(bytes: &mut Vec<u8>, spare: u32, octets: &[u8])
 {
     for octet in octets {
         push_octet(bytes, spare, *octet);
+    }
+}
+
+/// Octets, eight at a time, behind whole bytes and so many bits of a number that fill no byte yet. Each
+/// eight leave their last bits, as many, to the next. Answers the number of those that are left.
+fn push_words(bytes: &mut Vec<u8>, behind: u32, first: u64, octets: &[u8]) -> u64
+    requires some { 1 ≤ behind }
+    requires few { behind ≤ 8 }
+    requires fits { first < 2 ^ behind }
+    requires whole { length octets.now % 8 ≡ 0 }
+    requires room { vec_len bytes.old + length octets.now ≤ vec_capacity bytes.old }
+    ensures bits { bits bytes.new.items ++ number_bits behind result ≡ (bits bytes.old.items ++ number_bits behind first) ++ bits octets.now }
+    ensures fits { result < 2 ^ behind }
+    ensures room { (vec_len bytes.new ≡ vec_len bytes.old + length octets.now) × (vec_capacity bytes.old ≤ vec_capacity bytes.new) }
+{
+    let mut tail = first;
+    for word in 0..octets.len() / 8 {
+        let all = word_at(octets, word * 8);
+        let out = (tail << (64 - behind)) + (all >> behind);
+        // there is room for it
+        bytes.extend_from_slice(&out.to_be_bytes()).unwrap();
+        tail = all & ((1u64 << behind) - 1);
+    }
+    tail
+}
+
+/// Octets behind bits that end in a part of a byte: words, and then the octets that are left.
+fn push_octets(bytes: &mut Vec<u8>, spare: u32, octets: &[u8])
+    requires padded { IsPadded bytes.old.items spare }
+    requires room { vec_len bytes.old + length octets.now ≤ vec_capacity bytes.old }
+    ensures padded { IsPadded bytes.new.items spare }
+    ensures bits { written bytes.new.items spare ≡ written bytes.old.items spare ++ bits octets.now }
+{
+    if spare == 0 {
+        // there is room for them
+        bytes.extend_from_slice(octets).unwrap();
+        return;
+    }
+    let front = octets.len() / 8 * 8;
+    if let Some(last) = bytes.pop() {
+        let tail = push_words(bytes, 8 - spare, u64::from(last >> spare), &octets[..front]);
+        bytes.push_reserved((tail << spare) as u8);
+        push_each(bytes, spare, &octets[front..]);
     }
 }
 
@@ -224,10 +268,6 @@ impl BitOut {
         ensures err { OnErr result (self.new ≡ self.old) }
         ensures phase { length self.new % 8 ≡ length self.old % 8 }
     {
-        if self.spare == 0 {
-            self.bytes.extend_from_slice(octets)?;
-            return Ok(());
-        }
         self.bytes.reserve(octets.len())?;
         push_octets(&mut self.bytes, self.spare, octets);
         Ok(())

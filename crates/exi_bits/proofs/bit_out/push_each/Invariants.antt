@@ -1,7 +1,7 @@
 use Rattle.std.proofs.Common.{◌≡◌, ◌+◌, ◌-◌, ◌≤◌, ◌++◌, length, take, vec_len, vec_capacity}
 use Rattle.exi_bits.specs.Bits.{bits}
 use Rattle.exi_bits.specs.Written.{written, IsPadded}
-use Rattle.exi_bits.proofs.bit_out.push_octets.Given as goal
+use Rattle.exi_bits.proofs.bit_out.push_each.Given as goal
 
 abbrev pub invariant-loop-octet : goal.invariant-loop-octet
 invariant-loop-octet l = record {

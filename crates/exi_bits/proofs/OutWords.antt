@@ -1,0 +1,128 @@
+-- Octets that are added by words.
+use Rattle.std.proofs.Common.{◌≡◌, if◌then◌else◌, Result, ℕ, ◌+◌, ◌*◌, ◌-◌, ◌/◌, ◌%◌, ◌^◌, ◌<◌, ◌≤◌, Bool, List, [], ◌∷◌, ◌++◌, length, take, drop, refl, sym, ap, ◌∙◌, subst, append_assoc, arith, bit_and}
+use Rattle.std.proofs.lemmas.List.{append-nil, length-take, length-drop, take-append-drop, take-take, drop-take, take_all}
+use Rattle.std.proofs.lemmas.Nat.{shr_high, mod_low, shl_below, shr_below, and_mask, one_shl}
+use Rattle.std.specs.Int.{w64, to_be_bytes}
+use Rattle.std.specs.Result.{IsOk, is_ok}
+use Rattle.exi_bits.specs.Bits.{bits, number_bits, value_of}
+use Rattle.exi_bits.specs.Written.{zeros, written, IsPadded}
+use Rattle.exi_bits.proofs.BitLaws.{bits_parts, length-bits, length-number_bits, bits-append, last_out, number_bits-add, number_bits-value_of, value_of-number_bits, value_of_below}
+use Rattle.exi_bits.proofs.OctetLaws.{bits_octets, word_octets}
+use Rattle.exi_bits.proofs.Outs.{all_fits, padded_from, tail_opens, written_is}
+
+-- the bits of a word's bytes
+bits_word : (v : ℕ) → v < 2 ^ 64 → bits (to_be_bytes w64 v) ≡ number_bits 64 v
+bits_word v lt =
+    let text : List Bool = number_bits 64 v in
+    let len : length (number_bits 64 v) ≡ 64 = length-number_bits 64 v in
+    let all : take 64 (number_bits 64 v) ≡ number_bits 64 v = take_all 64 (number_bits 64 v) (omega (arith, len)) in
+    let val : value_of (take 64 (number_bits 64 v)) ≡ v = ap value_of all ∙ value_of-number_bits 64 v lt in
+    ap (λ (n : ℕ). bits (to_be_bytes w64 n)) (sym val) ∙ ap bits (word_octets text (omega (arith, len))) ∙ bits_octets 8 text (omega (arith, len)) ∙ all
+
+-- a word that is read is its bits
+word_bits : (bs : List ℕ) → length bs ≡ 8 → number_bits 64 (value_of (bits bs)) ≡ bits bs
+word_bits bs e =
+    let len : length (bits bs) ≡ 64 = omega (arith, length-bits bs) in
+    subst (λ (n : ℕ). number_bits n (value_of (bits bs)) ≡ bits bs) len (number_bits-value_of (bits bs))
+
+pub word_below : (bs : List ℕ) (i w : ℕ) → i * 8 + 8 ≤ length bs → w ≡ value_of (bits (take 8 (drop (i * 8) bs))) → w < 2 ^ 64
+word_below bs i w le is =
+    let next : List ℕ = take 8 (drop (i * 8) bs) in
+    let len : length (bits (take 8 (drop (i * 8) bs))) ≡ 64 = omega (arith, length-bits (take 8 (drop (i * 8) bs)), length-take 8 (drop (i * 8) bs), length-drop (i * 8) bs) in
+    rw is (subst (λ (n : ℕ). value_of (bits (take 8 (drop (i * 8) bs))) < 2 ^ n) len (value_of_below (bits next)))
+
+-- the word that goes out: the bits behind, and the first ones of the word that comes
+pub out_fits : (k t w : ℕ) → 1 ≤ k → k ≤ 8 → t < 2 ^ k → w < 2 ^ 64 → t * 2 ^ (64 - k) + w / 2 ^ k < 2 ^ 64
+out_fits k t w some few fits below =
+    let e : 64 ≡ 64 - k + k = omega arith in
+    let f : k + (64 - k) ≡ 64 = omega arith in
+    let high : w / 2 ^ k < 2 ^ (64 - k) = shr_below w (64 - k) k (subst (λ (n : ℕ). w < 2 ^ n) e below) in
+    subst (λ (n : ℕ). t * 2 ^ (64 - k) + w / 2 ^ k < 2 ^ n) f (all_fits t k (w / 2 ^ k) (64 - k) fits high)
+
+word_out : (bs : List ℕ) (k t w : ℕ) → 1 ≤ k → k ≤ 8 → t < 2 ^ k → w < 2 ^ 64
+    → bits (bs ++ to_be_bytes w64 (t * 2 ^ (64 - k) + w / 2 ^ k)) ++ number_bits k (w % 2 ^ k) ≡ (bits bs ++ number_bits k t) ++ number_bits 64 w
+word_out bs k t w some few fits below =
+    let e : 64 ≡ 64 - k + k = omega arith in
+    let f : 64 ≡ k + (64 - k) = omega arith in
+    let out : ℕ = t * 2 ^ (64 - k) + w / 2 ^ k in
+    let high : w / 2 ^ k < 2 ^ (64 - k) = shr_below w (64 - k) k (subst (λ (n : ℕ). w < 2 ^ n) e below) in
+    let one : number_bits 64 (t * 2 ^ (64 - k) + w / 2 ^ k) ≡ number_bits k t ++ number_bits (64 - k) (w / 2 ^ k) =
+    ap (λ (n : ℕ). number_bits n out) f ∙ number_bits-add k (64 - k) out (all_fits t k (w / 2 ^ k) (64 - k) fits high) ∙ rw (shr_high t (64 - k) (w / 2 ^ k) high, mod_low t (64 - k) (w / 2 ^ k) high) refl in
+    let two : number_bits 64 w ≡ number_bits (64 - k) (w / 2 ^ k) ++ number_bits k (w % 2 ^ k) =
+    ap (λ (n : ℕ). number_bits n w) e ∙ number_bits-add (64 - k) k w (subst (λ (n : ℕ). w < 2 ^ n) e below) in
+    let a : List Bool = number_bits k t in
+    let b : List Bool = number_bits (64 - k) (w / 2 ^ k) in
+    let z : List Bool = number_bits k (w % 2 ^ k) in
+    ap (λ (x : List Bool). x ++ z) (bits-append bs (to_be_bytes w64 out) ∙ ap (λ (x : List Bool). bits bs ++ x) (bits_word out (out_fits k t w some few fits below) ∙ one) ∙ sym (append_assoc (bits bs) a b))
+    ∙ append_assoc (bits bs ++ a) b z ∙ ap (λ (x : List Bool). (bits bs ++ number_bits k t) ++ x) (sym two)
+
+words_next : (bs : List ℕ) (i : ℕ) → bits (take ((i + 1) * 8) bs) ≡ bits (take (i * 8) bs) ++ bits (take 8 (drop (i * 8) bs))
+words_next bs i =
+    let e : (i + 1) * 8 ≡ i * 8 + 8 = omega arith in
+    let same : take (i * 8) (take (i * 8 + 8) bs) ≡ take (i * 8) bs = take-take (i * 8) (i * 8 + 8) bs (omega arith) in
+    ap (λ (n : ℕ). bits (take n bs)) e
+    ∙ ap bits (sym (take-append-drop (i * 8) (take (i * 8 + 8) bs)) ∙ ap (λ (t : List ℕ). t ++ drop (i * 8) (take (i * 8 + 8) bs)) same ∙ ap (λ (t : List ℕ). take (i * 8) bs ++ t) (drop-take (i * 8) 8 bs))
+    ∙ bits-append (take (i * 8) bs) (take 8 (drop (i * 8) bs))
+
+-- one word more
+module _ (old : List Bool) (bs now : List ℕ) (i k t w : ℕ) where
+  pub word_more : 1 ≤ k → k ≤ 8 → t < 2 ^ k → i * 8 + 8 ≤ length bs → w ≡ value_of (bits (take 8 (drop (i * 8) bs)))
+      → bits now ++ number_bits k t ≡ old ++ bits (take (i * 8) bs)
+      → bits (now ++ to_be_bytes w64 (t * 2 ^ (64 - k) + w / 2 ^ k)) ++ number_bits k (w % 2 ^ k) ≡ old ++ bits (take ((i + 1) * 8) bs)
+  word_more some few fits le is so_far =
+      let next : List ℕ = take 8 (drop (i * 8) bs) in
+      let eight : length (take 8 (drop (i * 8) bs)) ≡ 8 = omega (arith, length-take 8 (drop (i * 8) bs), length-drop (i * 8) bs) in
+      let text : number_bits 64 w ≡ bits next = ap (λ (n : ℕ). number_bits 64 n) is ∙ word_bits next eight in
+      word_out now k t w some few fits (word_below bs i w le is)
+      ∙ ap (λ (x : List Bool). x ++ number_bits 64 w) so_far ∙ ap (λ (x : List Bool). (old ++ bits (take (i * 8) bs)) ++ x) text
+      ∙ append_assoc old (bits (take (i * 8) bs)) (bits next) ∙ ap (λ (x : List Bool). old ++ x) (sym (words_next bs i))
+
+pub words_none : (old : List Bool) (bs : List ℕ) → old ≡ old ++ bits (take (0 * 8) bs)
+unfolding bits
+words_none old bs = sym (append-nil old)
+
+pub words_all : (old now : List Bool) (bs : List ℕ) (i : ℕ) → length bs ≤ i * 8 → now ≡ old ++ bits (take (i * 8) bs) → now ≡ old ++ bits bs
+words_all old now bs i le so_far = so_far ∙ ap (λ (t : List ℕ). old ++ bits t) (take_all (i * 8) bs le)
+
+-- as they are computed
+pub out_is : (k t w : ℕ) → 1 ≤ k → k ≤ 8 → t < 2 ^ k → w < 2 ^ 64 → t * 2 ^ (64 - k) % 2 ^ 64 + w / 2 ^ k ≡ t * 2 ^ (64 - k) + w / 2 ^ k
+out_is k t w some few fits below =
+    let f = out_fits k t w some few fits below in
+    let e : t * 2 ^ (64 - k) % 2 ^ 64 ≡ t * 2 ^ (64 - k) = omega arith in
+    rw e refl
+
+pub tail_is : (k w : ℕ) → k ≤ 8 → bit_and w (1 * 2 ^ k % 2 ^ 64 - 1) ≡ w % 2 ^ k
+tail_is k w few = let lt : k < 64 = omega arith in rw (one_shl k 64 lt) (and_mask w k)
+
+-- the last bits make a byte
+pub closed : (new mid : List ℕ) (total : List Bool) (t sp : ℕ) → sp < 8 → t < 2 ^ (8 - sp) → bits mid ++ number_bits (8 - sp) t ≡ total → new ≡ mid ++ t * 2 ^ sp ∷ [] → (written new sp ≡ total) × IsPadded new sp
+closed new mid total t sp few fits is e =
+    let j : 8 - (8 - sp) ≡ sp = omega arith in
+    let raw : bits (mid ++ t * 2 ^ (8 - (8 - sp)) ∷ []) ≡ total ++ zeros (8 - (8 - sp)) = last_out mid total (8 - sp) t (omega arith) fits is in
+    let all : bits new ≡ total ++ zeros sp = ap bits e ∙ subst (λ (n : ℕ). bits (mid ++ t * 2 ^ n ∷ []) ≡ total ++ zeros n) j raw in
+    (written_is new total sp all, padded_from new total sp few all)
+
+-- what was appended, where there was room for it
+pub extended : {T E : Type 0} (r : Result T E) (new old more : List ℕ) → IsOk r → new ≡ (if is_ok r then old ++ more else old) → new ≡ old ++ more
+extended r new old more ok e = rw ok at e
+
+pub extended_len : {T E : Type 0} (r : Result T E) (new old more : ℕ) → IsOk r → new ≡ (if is_ok r then old + more else old) → new ≡ old + more
+extended_len r new old more ok e = rw ok at e
+
+pub tail_byte : (t sp : ℕ) → sp < 8 → t < 2 ^ (8 - sp) → t * 2 ^ sp < 2 ^ 8
+tail_byte t sp few fits = let e : 8 - sp + sp ≡ 8 = omega arith in subst (λ (n : ℕ). t * 2 ^ sp < 2 ^ n) e (shl_below t (8 - sp) sp fits)
+
+-- the words, behind a part of a byte that was opened for them
+pub front_out : (old init mid new front : List ℕ) (last sp first t : ℕ) → sp < 8 → last < 2 ^ 8 → t < 2 ^ (8 - sp) → old ≡ init ++ last ∷ [] → first ≡ last / 2 ^ sp
+    → bits mid ++ number_bits (8 - sp) t ≡ (bits init ++ number_bits (8 - sp) first) ++ bits front → new ≡ mid ++ t * 2 ^ sp % 2 ^ 64 ∷ []
+    → (written new sp ≡ written old sp ++ bits front) × IsPadded new sp
+front_out old init mid new front last sp first t few byte fits parts is words e =
+    let before : written old sp ≡ bits init ++ number_bits (8 - sp) (last / 2 ^ sp) = tail_opens old init last sp parts (omega arith) byte in
+    let total : bits mid ++ number_bits (8 - sp) t ≡ written old sp ++ bits front = words ∙ rw (is, before) refl in
+    let small : t * 2 ^ sp % 2 ^ 64 ≡ t * 2 ^ sp = omega (arith, tail_byte t sp few fits) in
+    closed new mid (written old sp ++ bits front) t sp few fits total (rw small at e)
+
+pub parts_out : (old mid new : List Bool) (n : ℕ) (bs : List ℕ) → mid ≡ old ++ bits (take n bs) → new ≡ mid ++ bits (take (length bs - n) (drop n bs)) → new ≡ old ++ bits bs
+parts_out old mid new n bs front rest =
+    let last : take (length bs - n) (drop n bs) ≡ drop n bs = take_all (length bs - n) (drop n bs) (omega (arith, length-drop n bs)) in
+    rest ∙ rw (front, last) (append_assoc old (bits (take n bs)) (bits (drop n bs)) ∙ ap (λ (t : List Bool). old ++ t) (sym (bits_parts n bs)))
