@@ -4,6 +4,8 @@ use Rattle.std.specs.Prelude.{ℕ, Bool, true, false, Option, None, [], ◌∷�
 use Rattle.exi_gram.specs.declared.options.Options.{Options}
 use Rattle.exi_gram.specs.Codes.{Productions, single, group, mapped, pruned}
 use Rattle.exi_gram.specs.Switches.{comments, dtd, prefixes, processing_instructions, self_contained}
+use Rattle.exi_gram.specs.Terminals.{Rule, Symbol, se_any, cm, pi}
+use Rattle.exi_gram.specs.Wholes as whole
 use Rattle.exi_builtin.specs.declared.learnable.Learnable.{Learnable}
 use Rattle.exi_builtin.specs.declared.learnable.Learnable.TheVariants as learnable
 use Rattle.exi_builtin.specs.declared.learnable.Room.{Room}
@@ -48,12 +50,19 @@ element_rules = record {
       ∷ [];
 }
 
--- FragmentContent (8.4.2): SE(*) 0, ED 1, CM 2.0, PI 2.1
+-- FragmentContent (8.4.2): SE(*) 0, ED 1, CM 2.0, PI 2.1. It is the Fragment grammar's where a schema gives it no elements,
+-- and what is none of SE(*), CM and PI there is ED
+abbrev fragment_reads : Symbol → Learnable
+fragment_reads se_any = learnable.SeAny
+fragment_reads cm = learnable.Cm
+fragment_reads pi = learnable.Pi
+fragment_reads other = learnable.Ed
+
+abbrev fragment_rule : Rule → BuiltInRule
+fragment_rule r = leading (fragment_reads r.on) r.to
+
 abbrev pub fragment_rules : Productions BuiltInRule
-fragment_rules = record {
-  firsts = leading learnable.SeAny 1 ∷ leading learnable.Ed 1 ∷ [];
-  seconds = single (leading learnable.Cm 1) ∷ single (leading learnable.Pi 1) ∷ [];
-}
+fragment_rules = mapped fragment_rule (whole.fragment_content [])
 
 -- the state as it is written, and what its productions read
 abbrev pub written_rules : Room → Productions BuiltInRule

@@ -2,7 +2,6 @@ ghost use Rattle.std.specs.Prelude.{◌≡◌, ◌≤◌, filter, length};
 ghost use Rattle.std.specs.Option.{option_map};
 ghost use Rattle.exi_gram.specs.Codes.{coded};
 ghost use Rattle.exi_gram.specs.Tables.{parts_of};
-ghost use Rattle.exi_names.specs.NameMaps.{same_name};
 ghost use Rattle.exi_builtin.specs.BuiltIn.{is_kept, left_of, written};
 ghost use Rattle.exi_builtin.specs.LeastCodes.{first_code, first_place, is_it};
 ghost use Rattle.exi_builtin.specs.Learning.{behind_learned};
@@ -13,14 +12,6 @@ use crate::learned_list::LearnedList;
 use crate::reading::kept_count;
 use crate::written::{as_written, is_kept};
 use exi_gram::{Code, Options};
-use exi_names::NameId;
-
-/// Whether two names have the same places.
-fn same_name(a: NameId, b: NameId) -> bool
-    ensures { result ≡ same_name a b }
-{
-    a.uri == b.uri && a.local == b.local
-}
 
 /// Whether a production is this one.
 fn is_it(production: Learnable, other: Learnable) -> bool
@@ -28,7 +19,7 @@ fn is_it(production: Learnable, other: Learnable) -> bool
 {
     match (production, other) {
         (Learnable::Known(name, attribute), Learnable::Known(known, a)) => {
-            same_name(known, name) && a == attribute
+            known == name && a == attribute
         }
         (Learnable::Ch(one_part), Learnable::Ch(o)) => o == one_part,
         (Learnable::Ee(one_part), Learnable::Ee(o)) => o == one_part,

@@ -29,8 +29,6 @@ mod learned_list;
 mod least_code;
 mod overlay;
 mod reading;
-#[cfg(test)]
-mod tests;
 mod uses;
 mod writing;
 mod written;
