@@ -19,7 +19,7 @@ use Rattle.exi_text.specs.Spelled.{SpellsChar}
 use Rattle.exi_typed.specs.Charging.{Charge, IsTaken, Unmetered, charging, later, metered, one_charge}
 use Rattle.exi_text.proofs.Letters.{item_char}
 use Rattle.exi_typed.specs.ReadStates.{Context, ReadState, ContextReader, Failure, at_spot_of, failing}
-use Rattle.exi_typed.specs.Laws.{Agrees, Spelling}
+use Rattle.exi_typed.specs.Laws.{NoneIsPrefix, ReadIsSpelled, SpelledIsRead, Spelling}
 use Rattle.exi_typed.specs.Spelled.{Behind, Follows, IsMissed, IsNothing, OneSpelling}
 use Rattle.exi_typed.specs.Strings.{Growth, charged_at, missed_at, placed_at}
 
@@ -31,6 +31,12 @@ context m p = record { meter = m; tables = p }
 
 abbrev pub charged : Spot → Metering → Charged
 charged s m = record { spot = s; meter = m }
+
+-- ---- the three laws between a spelling and a reading
+pub record Agrees {X : Type 0} (a : Align) (Spells : Spelling X) (read : ContextReader X) : Type 0 where
+  pub is_spelled : ReadIsSpelled a Spells read
+  pub is_read : SpelledIsRead a Spells read
+  pub is_no_prefix : NoneIsPrefix Spells
 
 -- ---- results
 abbrev pub told : {X : Type 0} → X → Result X Failure

@@ -24,13 +24,14 @@ use Rattle.exi_tables.proofs.Looked.{stood}
 use Rattle.exi_text.specs.Literals.{chars_bits}
 use Rattle.exi_text.proofs.Letters.{chars_written}
 use Rattle.exi_typed.specs.Charging.{Charge, later, one_charge, units_of}
-use Rattle.exi_typed.specs.Laws.{Agrees, Spelling}
+use Rattle.exi_typed.specs.Laws.{Spelling}
 use Rattle.exi_typed.specs.ReadStates.{ContextReader}
 use Rattle.exi_typed.specs.Spelled.{Behind, Follows, IsHit, IsMissed, OneSpelling, SpellsDeclaration, SpellsFlag, SpellsIndexed, SpellsLiteral, SpellsLocal, SpellsName, SpellsNameUnder, SpellsNewPrefix, SpellsPrefix, SpellsUri, SpellsValue}
 use Rattle.exi_typed.specs.Strings.{Growth, declaration_at, listed, literal_at, name_at, no_growth, own_values, place_in, value_at}
 use Rattle.exi_typed.specs.Written.{after_declaration, after_local, after_name, after_prefix, after_string, after_uri, below_count, declaration_bits, declared_bits, flag_number, indexed_bits, listed_bits, literal_bits, local_bits, name_bits, own_place, prefix_bits, prefix_bits_of, space_for, string_bits, string_bits_by, under_bits, unless_found, uri_bits}
 use Rattle.exi_typed.specs.WrittenLaws.{CanTell, CanWrite, DeclarationIsWritten, IsWritten, LiteralIsWritten, LocalIsWritten, NameIsWritten, PrefixIsWritten, ReadsBack, StringIsWritten, UriIsWritten, WrittenIsRead, declaration_units, name_units, named_for, prefix_units}
 use Rattle.exi_typed.proofs.Agree.{declarations_agree, literals_agree, names_agree, values_agree}
+use Rattle.exi_typed.proofs.ContextItems.{Agrees}
 use Rattle.exi_typed.proofs.NewSpaces.{prefixes_local}
 
 -- the shortest Unsigned Integer

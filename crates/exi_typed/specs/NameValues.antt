@@ -6,7 +6,6 @@ use Rattle.exi_items.specs.Charges.{text_charge}
 use Rattle.exi_meter.specs.Metering.{Metering}
 use Rattle.exi_typed.specs.ReadStates.{ReadState, ContextReader, failing}
 use Rattle.exi_typed.specs.Charging.{one_charge}
-use Rattle.exi_typed.specs.Laws.{Agrees}
 use Rattle.exi_typed.specs.Spelled.{Follows, ChargesOnly, OneSpelling, SpellsName}
 use Rattle.exi_typed.specs.Strings.{Named, name_at}
 
@@ -23,6 +22,3 @@ name_value_at keep a c = do
 -- one unit is charged before it, and no bits
 abbrev pub SpellsNameValue : Bool → Align → Named → OneSpelling
 SpellsNameValue keep a n p q ks text = Follows (ChargesOnly (one_charge 1 0)) (SpellsName keep a n) p q ks text
-
-abbrev pub NameValuesAgree : Type 0
-NameValuesAgree = (keep : Bool) (a : Align) → Agrees a (SpellsNameValue keep a) (name_value_at keep a)

@@ -1,22 +1,27 @@
 //! What is spelled and what is read are the same. Each law is a function that does nothing: what it
 //! ensures is the law.
 //!
-//! A law whose name ends in `agree` says three things, under the same string tables. What is read is spelled
-//! so, the tables go on as the spelling says, and the meter took its charges in turn. What is spelled so is
-//! read, whatever follows, wherever a meter takes the charges in turn; where it does not, the first charge that
-//! passes the limit is the fault, at its bit. No spelling is a proper prefix of another, and each spells one value.
+//! The first three speak of each kind of name and string, under the same string tables. A literal is its length in
+//! characters and its characters. A URI is a place in the URI partition or a literal, told apart by one number. A
+//! local name is a place in the partition of its URI, or its characters behind their number and one. A qualified name
+//! is its URI, its local name and, where prefixes are kept, its prefix, and goes on as the least places of its texts.
+//! A name that the event code tells has bits for its prefix alone, and its texts are charged all the same. A value that
+//! is a name charges one unit beside its texts. A namespace declaration is a URI, a prefix in the partition of that URI,
+//! and one bit. A string value is a place among the values of its name, a place among all values, or its characters
+//! behind their number and two. What is spelled out is added, except the empty text as a value.
 //!
 //! The others say what each reading keeps, and where a name stands in the tables once it is read.
 
 ghost use Rattle.std.specs.Prelude.{Bool, List, Option, ℕ};
 ghost use Rattle.exi_bits.specs.declared.align.Align.{Align};
 ghost use Rattle.exi_names.specs.declared.names.NameId.{NameId};
-ghost use Rattle.exi_typed.specs.NameValues.{NameValuesAgree, name_value_at};
+ghost use Rattle.exi_typed.specs.NameValues.{SpellsNameValue, name_value_at};
 ghost use Rattle.exi_typed.specs.Limits.{StaysWithin};
 ghost use Rattle.exi_typed.specs.Continues.{ReadsOn, KeepsEach, NamesGoOnStanding, NamesStand};
 ghost use Rattle.exi_typed.specs.Strings.{Growth, declaration_at, known_at, literal_at, local_at, name_at, uri_at, value_at};
 ghost use Rattle.exi_typed.specs.Metered.{ReadingsAreMetered};
 ghost use Rattle.exi_typed.specs.Refused.{ReadingsAreRefused};
+ghost use Rattle.exi_typed.specs.Spelled.{SpellsDeclaration, SpellsKnown, SpellsLiteral, SpellsLocal, SpellsName, SpellsUri, SpellsValue};
 ghost use Rattle.exi_typed.specs.WrittenLaws.{
   DeclarationIsWritten,
   LiteralIsWritten,
@@ -27,49 +32,43 @@ ghost use Rattle.exi_typed.specs.WrittenLaws.{
   UriIsWritten,
   WrittenIsRead,
 };
-ghost use Rattle.exi_typed.specs.Laws.{DeclarationsAgree, KnownNamesAgree, LiteralsAgree, LocalsAgree, NamesAgree, UrisAgree, ValuesAgree};
+ghost use Rattle.exi_typed.specs.Laws.{NoneIsPrefix, ReadIsSpelled, SpelledIsRead};
 
-/// A literal is its length in characters and its characters.
-pub fn literals_agree()
-    ensures literals { LiteralsAgree }
+/// What is read is spelled so, the tables go on as the spelling says, and the meter took its charges in turn.
+pub fn read_is_spelled()
+    ensures literals { (a : Align) (grow : Growth) → ReadIsSpelled a (SpellsLiteral a grow) (literal_at a grow) }
+    ensures uris { (a : Align) → ReadIsSpelled a (SpellsUri a) (uri_at a) }
+    ensures locals { (a : Align) (uri : ℕ) → ReadIsSpelled a (SpellsLocal a uri) (local_at a uri) }
+    ensures names { (keep : Bool) (a : Align) → ReadIsSpelled a (SpellsName keep a) (name_at keep a) }
+    ensures known { (keep : Bool) (a : Align) (id : NameId) → ReadIsSpelled a (SpellsKnown keep a id) (known_at keep a id) }
+    ensures name_values { (keep : Bool) (a : Align) → ReadIsSpelled a (SpellsNameValue keep a) (name_value_at keep a) }
+    ensures declarations { (a : Align) → ReadIsSpelled a (SpellsDeclaration a) (declaration_at a) }
+    ensures values { (set : Option (List ℕ)) (a : Align) (name : NameId) → ReadIsSpelled a (SpellsValue set a name) (value_at set a name) }
 {}
 
-/// A URI is a place in the URI partition or a literal, told apart by one number. A literal is added.
-pub fn uris_agree()
-    ensures uris { UrisAgree }
+/// What is spelled so is read, whatever follows, wherever a meter takes the charges in turn; where it does not, the
+/// first charge that passes the limit is the fault, at its bit.
+pub fn spelled_is_read()
+    ensures literals { (a : Align) (grow : Growth) → SpelledIsRead a (SpellsLiteral a grow) (literal_at a grow) }
+    ensures uris { (a : Align) → SpelledIsRead a (SpellsUri a) (uri_at a) }
+    ensures locals { (a : Align) (uri : ℕ) → SpelledIsRead a (SpellsLocal a uri) (local_at a uri) }
+    ensures names { (keep : Bool) (a : Align) → SpelledIsRead a (SpellsName keep a) (name_at keep a) }
+    ensures known { (keep : Bool) (a : Align) (id : NameId) → SpelledIsRead a (SpellsKnown keep a id) (known_at keep a id) }
+    ensures name_values { (keep : Bool) (a : Align) → SpelledIsRead a (SpellsNameValue keep a) (name_value_at keep a) }
+    ensures declarations { (a : Align) → SpelledIsRead a (SpellsDeclaration a) (declaration_at a) }
+    ensures values { (set : Option (List ℕ)) (a : Align) (name : NameId) → SpelledIsRead a (SpellsValue set a name) (value_at set a name) }
 {}
 
-/// A local name is a place in the partition of its URI, or its characters behind their number and one. What
-/// is spelled out is added.
-pub fn locals_agree()
-    ensures locals { LocalsAgree }
-{}
-
-/// A qualified name is its URI, its local name and, where prefixes are kept, its prefix. It goes on as the
-/// least places of its texts.
-pub fn names_agree()
-    ensures names { NamesAgree }
-{}
-
-/// A name that the event code tells has bits for its prefix alone, and its texts are charged all the same.
-pub fn known_names_agree()
-    ensures known { KnownNamesAgree }
-{}
-
-/// A value that is a name is spelled as a qualified name, and charges one unit beside its texts.
-pub fn name_values_agree()
-    ensures name_values { NameValuesAgree }
-{}
-
-/// A namespace declaration is a URI, a prefix in the partition of that URI, and one bit.
-pub fn declarations_agree()
-    ensures declarations { DeclarationsAgree }
-{}
-
-/// A string value is a place among the values of its name, a place among all values, or its characters
-/// behind their number and two. What is spelled out is added, except the empty text.
-pub fn values_agree()
-    ensures values { ValuesAgree }
+/// No spelling is a proper prefix of another, and each spells one value.
+pub fn none_is_prefix()
+    ensures literals { (a : Align) (grow : Growth) → NoneIsPrefix (SpellsLiteral a grow) }
+    ensures uris { (a : Align) → NoneIsPrefix (SpellsUri a) }
+    ensures locals { (a : Align) (uri : ℕ) → NoneIsPrefix (SpellsLocal a uri) }
+    ensures names { (keep : Bool) (a : Align) → NoneIsPrefix (SpellsName keep a) }
+    ensures known { (keep : Bool) (a : Align) (id : NameId) → NoneIsPrefix (SpellsKnown keep a id) }
+    ensures name_values { (keep : Bool) (a : Align) → NoneIsPrefix (SpellsNameValue keep a) }
+    ensures declarations { (a : Align) → NoneIsPrefix (SpellsDeclaration a) }
+    ensures values { (set : Option (List ℕ)) (a : Align) (name : NameId) → NoneIsPrefix (SpellsValue set a name) }
 {}
 
 /// Reading goes onward in the same bytes. It charges text and nothing else, within its limit, and each place
