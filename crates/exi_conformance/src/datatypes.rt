@@ -7,7 +7,7 @@
 
 use crate::fields::{set_of, text_of};
 use exi_lexical::value_of;
-use exi_names::{Datatype, MomentKind, ValList};
+use exi_names::{Datatype, MomentKind, Val, ValList};
 use std::alloc::{AllocError, Global};
 
 /// The kind of dates or times of that name.
@@ -34,16 +34,17 @@ fn small(range: &str) -> Option<Datatype> {
     Some(Datatype::Small { least, count })
 }
 
-/// The datatype of that name, where it is neither a list nor an enumeration.
-fn item(alloc: Global, name: &str) -> Result<Option<Datatype>, AllocError> {
-    if let Some(range) = name.strip_prefix("small:") {
-        return Ok(small(range));
+/// The restricted set of the letters' characters.
+fn letters(alloc: Global, letters: &str) -> Result<Option<Datatype>, AllocError> {
+    match set_of(alloc, letters)? {
+        Some(Some(set)) => Ok(Some(Datatype::Chars(set))),
+        Some(None) | None => Ok(None),
     }
-    if let Some(letters) = name.strip_prefix("chars:") {
-        let set = set_of(alloc, letters)?;
-        return Ok(set.flatten().map(Datatype::Chars));
-    }
-    Ok(match name {
+}
+
+/// The datatype that is one word.
+fn word(name: &str) -> Option<Datatype> {
+    match name {
         "integer" => Some(Datatype::Integer),
         "unsigned" => Some(Datatype::Unsigned),
         "boolean" => Some(Datatype::Boolean { pattern: false }),
@@ -53,21 +54,37 @@ fn item(alloc: Global, name: &str) -> Result<Option<Datatype>, AllocError> {
         "hex" => Some(Datatype::Binary { hex: true }),
         "base64" => Some(Datatype::Binary { hex: false }),
         "text" => Some(Datatype::Text),
-        _ => moment_kind(name).map(Datatype::Moment),
-    })
+        _ => Some(Datatype::Moment(moment_kind(name)?)),
+    }
+}
+
+/// The datatype of that name, where it is neither a list nor an enumeration.
+fn item(alloc: Global, name: &str) -> Result<Option<Datatype>, AllocError> {
+    if let Some(range) = name.strip_prefix("small:") {
+        return Ok(small(range));
+    }
+    match name.strip_prefix("chars:") {
+        Some(set) => letters(alloc, set),
+        None => Ok(word(name)),
+    }
+}
+
+/// The value of a text.
+fn value(alloc: Global, base: &Datatype, text: &str) -> Result<Option<Val>, AllocError> {
+    match text_of(alloc, text)? {
+        Some(text) => value_of(alloc, base, &text),
+        None => Ok(None),
+    }
 }
 
 /// The values of these texts, where each has one.
 fn values(alloc: Global, base: &Datatype, texts: &str) -> Result<Option<ValList>, AllocError> {
     let mut values = ValList::new(alloc);
     for text in texts.split(',') {
-        let Some(text) = text_of(alloc, text)? else {
-            return Ok(None);
-        };
-        let Some(value) = value_of(alloc, base, &text)? else {
-            return Ok(None);
-        };
-        values.push(value)?;
+        match value(alloc, base, text)? {
+            Some(value) => values.push(value)?,
+            None => return Ok(None),
+        }
     }
     Ok(Some(values))
 }
@@ -77,14 +94,27 @@ fn choice(alloc: Global, listed: &str) -> Result<Option<Datatype>, AllocError> {
     let Some((base, texts)) = listed.rsplit_once(':') else {
         return Ok(None);
     };
-    let Some(base) = item(alloc, base)? else {
-        return Ok(None);
-    };
-    let Some(values) = values(alloc, &base, texts)? else {
-        return Ok(None);
-    };
-    let base = Box::new(alloc, base)?;
-    Ok(Some(Datatype::Choice { base, values }))
+    match item(alloc, base)? {
+        Some(base) => choice_of(alloc, base, texts),
+        None => Ok(None),
+    }
+}
+
+fn choice_of(alloc: Global, base: Datatype, texts: &str) -> Result<Option<Datatype>, AllocError> {
+    match values(alloc, &base, texts)? {
+        Some(values) => Ok(Some(Datatype::Choice {
+            base: Box::new(alloc, base)?,
+            values,
+        })),
+        None => Ok(None),
+    }
+}
+
+fn list(alloc: Global, items: &str) -> Result<Option<Datatype>, AllocError> {
+    match item(alloc, items)? {
+        Some(item) => Ok(Some(Datatype::List(Box::new(alloc, item)?))),
+        None => Ok(None),
+    }
 }
 
 /// The datatype of that name.
@@ -92,11 +122,8 @@ pub fn datatype(alloc: Global, name: &str) -> Result<Option<Datatype>, AllocErro
     if let Some(listed) = name.strip_prefix("choice:") {
         return choice(alloc, listed);
     }
-    let Some(of_items) = name.strip_prefix("list:") else {
-        return item(alloc, name);
-    };
-    match item(alloc, of_items)? {
-        Some(item) => Ok(Some(Datatype::List(Box::new(alloc, item)?))),
-        None => Ok(None),
+    match name.strip_prefix("list:") {
+        Some(items) => list(alloc, items),
+        None => item(alloc, name),
     }
 }

@@ -45,6 +45,14 @@ pub fn set_of(alloc: Global, text: &str) -> Result<Option<Option<Alphabet>>, All
     }
 }
 
+/// A number, or `-` for none.
+pub fn bound_of(text: &str) -> Option<Option<u128>> {
+    if text == "-" {
+        return Some(None);
+    }
+    Some(Some(text.parse::<u128>().ok()?))
+}
+
 /// `bits` or `bytes`.
 pub fn align_of(text: &str) -> Option<Align> {
     match text {

@@ -12,15 +12,28 @@
 //! value DATATYPE TEXT           VALUE, or none
 //! place DATATYPE TEXT           the place of the value in an enumeration, or none
 //! write DATATYPE ALIGN SKIP TEXT    HEX BITS, or none
-//! tables MOST CAPACITY CALL ..  what each call answers, or differ: see the module `tables`
+//! body FLAGS EVENTS:TEXT:DEPTH START HEX    events and end: see the module `bodies`
+//! codes FLAGS                   the codes of a stream without a schema: see the module `codes`
+//! events HEX                    the events of a text: see the module `events`
+//! header FLAGS BLOCK MOST CAPACITY ID TOLD COOKIE    what is written of options: see the module `headers`
+//! tables MOST CAPACITY CALL ..  what each call answers: see the module `tables`
 //! ```
 //!
 //! `HEX` is pairs of hex digits, `-` where empty; a text is the hex of its UTF-8. `SKIP` is a number of
 //! bits before the item, `BIT` the place behind it. A line that is no case is answered by `?`.
 #![tactic(auto)]
 
+mod agree;
+mod bodies;
+mod calls;
+mod codes;
 mod datatypes;
+mod ends;
+mod events;
 mod fields;
+mod headers;
+mod lines;
+mod options;
 mod reads;
 mod show;
 mod tables;
@@ -30,18 +43,26 @@ mod writes;
 use std::alloc::{AllocError, Global};
 use std::io;
 
-/// The answer to a case, and nothing where the line is none. Each kind of case is named in one arm, and read in its
-/// own file.
+/// The answer to a case, and nothing where the line is none.
 fn answer(alloc: Global, line: &str) -> Result<Option<String>, AllocError> {
     let mut fields = Vec::new(alloc);
     for field in line.split(' ') {
         fields.push(field)?;
     }
-    match fields.as_slice() {
-        ["uint" | "nbit" | "read" | "chars", ..] => reads::answer(alloc, fields.as_slice()),
-        ["wuint" | "wbit" | "wchars", ..] => writes::answer(alloc, fields.as_slice()),
-        ["value" | "place" | "write", ..] => texts::answer(alloc, fields.as_slice()),
-        ["tables", ..] => tables::answer(alloc, fields.as_slice()),
+    answer_by(alloc, fields.as_slice())
+}
+
+/// The answer by a line's fields. Each kind of case is named in one arm, and read in its own file.
+fn answer_by(alloc: Global, fields: &[&str]) -> Result<Option<String>, AllocError> {
+    match fields {
+        ["uint" | "nbit" | "read" | "chars", ..] => reads::answer(alloc, fields),
+        ["wuint" | "wbit" | "wchars", ..] => writes::answer(alloc, fields),
+        ["value" | "place" | "write", ..] => texts::answer(alloc, fields),
+        ["body", ..] => bodies::answer(alloc, fields),
+        ["codes", ..] => codes::answer(alloc, fields),
+        ["events", ..] => events::answer(alloc, fields),
+        ["header", ..] => headers::answer(alloc, fields),
+        ["tables", ..] => tables::answer(alloc, fields),
         _ => Ok(None),
     }
 }

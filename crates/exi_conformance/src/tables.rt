@@ -1,4 +1,4 @@
-//! The cases of string tables: a line of adds and look-ups, which both kinds of tables answer.
+//! The cases of string tables: a line of adds and look-ups, which the three kinds of tables answer.
 //!
 //! ```text
 //! add_uri:TEXT    add_local:URI:TEXT    add_prefix:URI:TEXT    add_value:URI:LOCAL:TEXT
@@ -10,46 +10,41 @@
 //!
 //! A call is answered by a number, by the hex of a text, by `none`, or by `added`.
 
-use crate::fields::text_of;
+use crate::agree::agreed;
+use crate::calls::{Call, Look, Partition, call_of};
+use crate::fields::bound_of;
 use crate::show;
 use exi_names::{NameId, StartNames, Txt};
-use exi_tables::{HashTables, ListTables, Tables, is_name};
+use exi_tables::{HashTables, ListTables, PlaceTables, Tables, is_name};
 use std::alloc::{AllocError, Global};
 
-/// The answer to a case of this file: that of both kinds of tables, or `differ`.
+/// `tables MOST CAPACITY CALL ..`
 pub fn answer(alloc: Global, fields: &[&str]) -> Result<Option<String>, AllocError> {
-    if fields.len() < 3 {
-        return Ok(None);
-    }
-    let (Some(most), Some(capacity)) = (bound(fields[1]), bound(fields[2])) else {
+    let ["tables", most, capacity, calls @ ..] = fields else {
         return Ok(None);
     };
-    let calls = &fields[3..];
-    let Some(listed) = answers::<ListTables>(alloc, most, capacity, calls)? else {
-        return Ok(None);
-    };
-    let Some(hashed) = answers::<HashTables>(alloc, most, capacity, calls)? else {
-        return Ok(None);
-    };
-    if listed.as_str() == hashed.as_str() {
-        return Ok(Some(listed));
-    }
-    Ok(Some(format!(in alloc; "differ:{listed} and{hashed}")?))
-}
-
-/// A number, or `-` for none.
-fn bound(text: &str) -> Option<Option<u128>> {
-    if text == "-" {
-        return Some(None);
-    }
-    match text.parse::<u128>() {
-        Ok(bound) => Some(Some(bound)),
-        Err(_) => None,
+    match (bound_of(most), bound_of(capacity)) {
+        (Some(most), Some(capacity)) => by_each_kind(alloc, most, capacity, calls),
+        _ => Ok(None),
     }
 }
 
-/// The answers to the calls, on the first tables without a schema.
-fn answers<T: Tables + Drop>(
+/// The answer of the three kinds of tables.
+fn by_each_kind(
+    alloc: Global,
+    most: Option<u128>,
+    capacity: Option<u128>,
+    calls: &[&str],
+) -> Result<Option<String>, AllocError> {
+    let mut answers = Vec::new(alloc);
+    answers.push(answers_by::<ListTables>(alloc, most, capacity, calls)?)?;
+    answers.push(answers_by::<HashTables>(alloc, most, capacity, calls)?)?;
+    answers.push(answers_by::<PlaceTables>(alloc, most, capacity, calls)?)?;
+    agreed(alloc, answers.as_slice())
+}
+
+/// The answers to the calls, on the first tables without a schema; nothing where a call is none.
+fn answers_by<T: Tables + Drop>(
     alloc: Global,
     most: Option<u128>,
     capacity: Option<u128>,
@@ -57,59 +52,115 @@ fn answers<T: Tables + Drop>(
 ) -> Result<Option<String>, AllocError> {
     let names = StartNames::without_schema(alloc)?;
     let mut tables = T::start(alloc, &names, most, capacity)?;
-    let mut all = String::from_str(alloc, "tables")?;
-    for call in calls {
-        let mut parts = Vec::new(alloc);
-        for part in call.split(':') {
-            parts.push(part)?;
-        }
-        let added = add(alloc, &mut tables, parts.as_slice())?;
-        let found = match added {
-            Some(text) => Some(text),
-            None => find(alloc, &tables, parts.as_slice())?,
-        };
-        let Some(text) = found else {
-            return Ok(None);
-        };
-        all.push_str(" ")?;
-        all.push_str(text.as_str())?;
+    let mut all = String::new(alloc);
+    match push_answers(alloc, &mut tables, calls, &mut all)? {
+        Some(()) => Ok(Some(all)),
+        None => Ok(None),
     }
-    Ok(Some(all))
 }
 
-/// The answer to an add, and nothing where the call is none, or its place is not there.
+/// The answers to the calls, one after another.
+fn push_answers<T: Tables>(
+    alloc: Global,
+    tables: &mut T,
+    calls: &[&str],
+    all: &mut String,
+) -> Result<Option<()>, AllocError> {
+    all.push_str("tables")?;
+    for call in calls {
+        match answer_to(alloc, tables, call)? {
+            Some(text) => push_word(all, text.as_str())?,
+            None => return Ok(None),
+        }
+    }
+    Ok(Some(()))
+}
+
+fn push_word(all: &mut String, word: &str) -> Result<(), AllocError> {
+    all.push(' ')?;
+    all.push_str(word)
+}
+
+/// The answer to one call, and nothing where it is none, or what it names is not there.
+fn answer_to<T: Tables>(
+    alloc: Global,
+    tables: &mut T,
+    call: &str,
+) -> Result<Option<String>, AllocError> {
+    match call_of(alloc, call)? {
+        Some(Call::Add(partition, text)) => add(alloc, tables, partition, text),
+        Some(Call::Look(partition, look)) => look_up(alloc, tables, partition, look),
+        Some(Call::Find(partition, text)) => place(alloc, place_of(tables, partition, &text)),
+        None => Ok(None),
+    }
+}
+
+/// The answer to a call that names no text.
+fn look_up<T: Tables>(
+    alloc: Global,
+    tables: &T,
+    partition: Partition,
+    look: Look,
+) -> Result<Option<String>, AllocError> {
+    match look {
+        Look::Count => number(alloc, count(tables, partition)),
+        Look::At(at) => found(alloc, text_at(tables, partition, at)),
+        Look::Least(at) => number(alloc, least(tables, partition, at)),
+    }
+}
+
+/// Adds a text, and answers with its place, or `added` for a value; nothing where the partition is not there or full.
 fn add<T: Tables>(
     alloc: Global,
     tables: &mut T,
-    parts: &[&str],
+    partition: Partition,
+    text: Txt,
 ) -> Result<Option<String>, AllocError> {
-    match parts {
-        ["add_uri", text] => match text_of(alloc, text)? {
-            Some(text) if tables.uris() < u32::MAX => number(alloc, tables.add_uri(text)?),
-            _ => Ok(None),
-        },
-        ["add_local", uri, text] => match (uri.parse::<u32>(), text_of(alloc, text)?) {
-            (Ok(uri), Some(text)) if uri < tables.uris() && tables.locals(uri) < u32::MAX => {
-                number(alloc, tables.add_local(uri, text)?)
-            }
-            _ => Ok(None),
-        },
-        ["add_prefix", uri, text] => match (uri.parse::<u32>(), text_of(alloc, text)?) {
-            (Ok(uri), Some(text)) if uri < tables.uris() && tables.prefixes(uri) < u32::MAX => {
-                number(alloc, tables.add_prefix(uri, text)?)
-            }
-            _ => Ok(None),
-        },
-        ["add_value", uri, local, text] => match (name_of(uri, local), text_of(alloc, text)?) {
-            (Some(name), Some(text)) => value(alloc, tables, name, text),
-            _ => Ok(None),
-        },
-        _ => Ok(None),
+    match partition {
+        Partition::Uris => add_uri(alloc, tables, text),
+        Partition::Locals(uri) => add_local(alloc, tables, uri, text),
+        Partition::Prefixes(uri) => add_prefix(alloc, tables, uri, text),
+        Partition::Own(name) => add_value(alloc, tables, name, text),
+        Partition::Values => Ok(None),
     }
 }
 
-/// The answer to the add of a value.
-fn value<T: Tables>(
+fn add_uri<T: Tables>(
+    alloc: Global,
+    tables: &mut T,
+    text: Txt,
+) -> Result<Option<String>, AllocError> {
+    if tables.uris() == u32::MAX {
+        return Ok(None);
+    }
+    number(alloc, Some(tables.add_uri(text)?))
+}
+
+fn add_local<T: Tables>(
+    alloc: Global,
+    tables: &mut T,
+    uri: u32,
+    text: Txt,
+) -> Result<Option<String>, AllocError> {
+    if uri >= tables.uris() || tables.locals(uri) == u32::MAX {
+        return Ok(None);
+    }
+    number(alloc, Some(tables.add_local(uri, text)?))
+}
+
+fn add_prefix<T: Tables>(
+    alloc: Global,
+    tables: &mut T,
+    uri: u32,
+    text: Txt,
+) -> Result<Option<String>, AllocError> {
+    if uri >= tables.uris() || tables.prefixes(uri) == u32::MAX {
+        return Ok(None);
+    }
+    number(alloc, Some(tables.add_prefix(uri, text)?))
+}
+
+fn add_value<T: Tables>(
     alloc: Global,
     tables: &mut T,
     name: NameId,
@@ -125,139 +176,75 @@ fn value<T: Tables>(
     Ok(Some(String::from_str(alloc, "added")?))
 }
 
-/// The name of these places, where they are numbers.
-fn name_of(uri: &str, local: &str) -> Option<NameId> {
-    match (uri.parse::<u32>(), local.parse::<u32>()) {
-        (Ok(uri), Ok(local)) => Some(NameId { uri, local }),
+/// How many places the partition has, where it is there.
+fn count<T: Tables>(tables: &T, partition: Partition) -> Option<u32> {
+    match partition {
+        Partition::Uris => Some(tables.uris()),
+        Partition::Locals(uri) if uri < tables.uris() => Some(tables.locals(uri)),
+        Partition::Prefixes(uri) if uri < tables.uris() => Some(tables.prefixes(uri)),
+        Partition::Values => Some(tables.values()),
+        Partition::Own(name) if is_name(tables, name) => Some(tables.name_values(name)),
         _ => None,
     }
 }
 
-/// The answer to a look-up, and nothing where the call is none, or its URI or name is not there.
-fn find<T: Tables>(
-    alloc: Global,
-    tables: &T,
-    parts: &[&str],
-) -> Result<Option<String>, AllocError> {
-    match parts {
-        ["uris"] => number(alloc, tables.uris()),
-        ["values"] => number(alloc, tables.values()),
-        ["uri", place] => match place.parse::<u32>() {
-            Ok(place) => text(alloc, tables.uri_at(place)),
-            Err(_) => Ok(None),
-        },
-        ["value", place] => match place.parse::<u32>() {
-            Ok(place) => text(alloc, tables.value_at(place)),
-            Err(_) => Ok(None),
-        },
-        ["uri_of", wanted] => match text_of(alloc, wanted)? {
-            Some(wanted) => place(alloc, tables.uri_of(&wanted)),
-            None => Ok(None),
-        },
-        ["value_of", wanted] => match text_of(alloc, wanted)? {
-            Some(wanted) => place(alloc, tables.value_place(&wanted)),
-            None => Ok(None),
-        },
-        ["least_uri", place] => match place.parse::<u32>() {
-            Ok(place) if place < tables.uris() => number(alloc, tables.least_uri(place)),
-            _ => Ok(None),
-        },
-        ["own", uri, local, rest @ ..] => match name_of(uri, local) {
-            Some(name) if is_name(tables, name) => own(alloc, tables, name, rest),
-            _ => Ok(None),
-        },
-        ["own_of", uri, local, wanted] => match (name_of(uri, local), text_of(alloc, wanted)?) {
-            (Some(name), Some(wanted)) if is_name(tables, name) => {
-                place(alloc, tables.name_value_place(name, &wanted))
-            }
-            _ => Ok(None),
-        },
-        [kind, uri, rest @ ..] => match uri.parse::<u32>() {
-            Ok(uri) => under(alloc, tables, kind, uri, rest),
-            Err(_) => Ok(None),
-        },
-        _ => Ok(None),
+/// The text at a place of the partition, where that is there.
+fn text_at<T: Tables>(tables: &T, partition: Partition, place: u32) -> Option<Option<&Txt>> {
+    match partition {
+        Partition::Uris => Some(tables.uri_at(place)),
+        Partition::Locals(uri) if uri < tables.uris() => Some(tables.local_at(uri, place)),
+        Partition::Prefixes(uri) if uri < tables.uris() => Some(tables.prefix_at(uri, place)),
+        Partition::Values => Some(tables.value_at(place)),
+        Partition::Own(name) if is_name(tables, name) => Some(tables.name_value_at(name, place)),
+        _ => None,
     }
 }
 
-/// The answer to a look-up in a name's own partition.
-fn own<T: Tables>(
-    alloc: Global,
-    tables: &T,
-    name: NameId,
-    rest: &[&str],
-) -> Result<Option<String>, AllocError> {
-    if !is_name(tables, name) {
-        return Ok(None);
-    }
-    match rest {
-        [] => number(alloc, tables.name_values(name)),
-        [place] => match place.parse::<u32>() {
-            Ok(place) => text(alloc, tables.name_value_at(name, place)),
-            Err(_) => Ok(None),
-        },
-        _ => Ok(None),
+/// The least place of a text in the partition, where that is there.
+fn place_of<T: Tables>(tables: &T, partition: Partition, text: &Txt) -> Option<Option<u32>> {
+    match partition {
+        Partition::Uris => Some(tables.uri_of(text)),
+        Partition::Locals(uri) if uri < tables.uris() => Some(tables.local_of(uri, text)),
+        Partition::Prefixes(uri) if uri < tables.uris() => Some(tables.prefix_of(uri, text)),
+        Partition::Values => Some(tables.value_place(text)),
+        Partition::Own(name) if is_name(tables, name) => Some(tables.name_value_place(name, text)),
+        _ => None,
     }
 }
 
-/// The answer to a look-up among the local names or prefixes of a URI.
-fn under<T: Tables>(
-    alloc: Global,
-    tables: &T,
-    kind: &str,
-    uri: u32,
-    rest: &[&str],
-) -> Result<Option<String>, AllocError> {
-    if uri >= tables.uris() {
-        return Ok(None);
-    }
-    match (kind, rest) {
-        ("locals", []) => number(alloc, tables.locals(uri)),
-        ("prefixes", []) => number(alloc, tables.prefixes(uri)),
-        ("local", [place]) => match place.parse::<u32>() {
-            Ok(place) => text(alloc, tables.local_at(uri, place)),
-            Err(_) => Ok(None),
-        },
-        ("prefix", [place]) => match place.parse::<u32>() {
-            Ok(place) => text(alloc, tables.prefix_at(uri, place)),
-            Err(_) => Ok(None),
-        },
-        ("local_of", [wanted]) => match text_of(alloc, wanted)? {
-            Some(wanted) => place(alloc, tables.local_of(uri, &wanted)),
-            None => Ok(None),
-        },
-        ("prefix_of", [wanted]) => match text_of(alloc, wanted)? {
-            Some(wanted) => place(alloc, tables.prefix_of(uri, &wanted)),
-            None => Ok(None),
-        },
-        ("least_local", [place]) => match place.parse::<u32>() {
-            Ok(place) if place < tables.locals(uri) => number(
-                alloc,
-                tables.least_local(uri, place),
-            ),
-            _ => Ok(None),
-        },
-        _ => Ok(None),
+/// The least place of the URI, or the local name, at a place that is there.
+fn least<T: Tables>(tables: &T, partition: Partition, place: u32) -> Option<u32> {
+    match partition {
+        Partition::Uris if place < tables.uris() => Some(tables.least_uri(place)),
+        Partition::Locals(uri) if uri < tables.uris() && place < tables.locals(uri) => {
+            Some(tables.least_local(uri, place))
+        }
+        _ => None,
     }
 }
 
 /// A number as an answer.
-fn number(alloc: Global, number: u32) -> Result<Option<String>, AllocError> {
-    Ok(Some(format!(in alloc; "{number}")?))
+fn number(alloc: Global, number: Option<u32>) -> Result<Option<String>, AllocError> {
+    match number {
+        Some(number) => Ok(Some(format!(in alloc; "{number}")?)),
+        None => Ok(None),
+    }
 }
 
 /// A place, or that there is none.
-fn place(alloc: Global, place: Option<u32>) -> Result<Option<String>, AllocError> {
+fn place(alloc: Global, place: Option<Option<u32>>) -> Result<Option<String>, AllocError> {
     match place {
+        Some(None) => Ok(Some(String::from_str(alloc, "none")?)),
         Some(place) => number(alloc, place),
-        None => Ok(Some(String::from_str(alloc, "none")?)),
+        None => Ok(None),
     }
 }
 
 /// A text, or that there is none.
-fn text(alloc: Global, text: Option<&Txt>) -> Result<Option<String>, AllocError> {
+fn found(alloc: Global, text: Option<Option<&Txt>>) -> Result<Option<String>, AllocError> {
     match text {
-        Some(text) => Ok(Some(show::hex(alloc, text.as_str().as_bytes())?)),
-        None => Ok(Some(String::from_str(alloc, "none")?)),
+        Some(Some(text)) => Ok(Some(show::hex(alloc, text.as_str().as_bytes())?)),
+        Some(None) => Ok(Some(String::from_str(alloc, "none")?)),
+        None => Ok(None),
     }
 }

@@ -11,7 +11,7 @@ use crate::show;
 use exi_bits::{Align, BitOut};
 use exi_lexical::value_of;
 use exi_moment::{is_moment, write_moment};
-use exi_names::{Datatype, Val, Whole};
+use exi_names::{Datatype, Val, ValList, Whole};
 use exi_scalar::{write_binary, write_boolean, write_decimal, write_float, write_integer};
 use std::alloc::{AllocError, Global};
 
@@ -25,29 +25,56 @@ pub fn answer(alloc: Global, fields: &[&str]) -> Result<Option<String>, AllocErr
     }
 }
 
+/// The value of a text under a datatype, if it has one; nothing where the text is no hex of UTF-8.
+fn valued(alloc: Global, kind: &Datatype, text: &str) -> Result<Option<Option<Val>>, AllocError> {
+    match text_of(alloc, text)? {
+        Some(text) => Ok(Some(value_of(alloc, kind, &text)?)),
+        None => Ok(None),
+    }
+}
+
+/// The answer where a text has no value.
+fn none(alloc: Global) -> Result<Option<String>, AllocError> {
+    Ok(Some(String::from_str(alloc, "none")?))
+}
+
 /// `value DATATYPE TEXT`
 fn value(alloc: Global, kind: &str, text: &str) -> Result<Option<String>, AllocError> {
-    let (Some(kind), Some(text)) = (datatype(alloc, kind)?, text_of(alloc, text)?) else {
-        return Ok(None);
-    };
-    match value_of(alloc, &kind, &text)? {
-        Some(found) => show::value(alloc, &found),
-        None => Ok(Some(String::from_str(alloc, "none")?)),
+    match datatype(alloc, kind)? {
+        Some(kind) => value_under(alloc, &kind, text),
+        None => Ok(None),
+    }
+}
+
+fn value_under(alloc: Global, kind: &Datatype, text: &str) -> Result<Option<String>, AllocError> {
+    match valued(alloc, kind, text)? {
+        Some(Some(found)) => show::value(alloc, &found),
+        Some(None) => none(alloc),
+        None => Ok(None),
     }
 }
 
 /// `place DATATYPE TEXT`, of an enumeration
 fn place(alloc: Global, kind: &str, text: &str) -> Result<Option<String>, AllocError> {
-    let (Some(kind), Some(text)) = (datatype(alloc, kind)?, text_of(alloc, text)?) else {
+    match datatype(alloc, kind)? {
+        Some(kind) => place_under(alloc, &kind, text),
+        None => Ok(None),
+    }
+}
+
+fn place_under(alloc: Global, kind: &Datatype, text: &str) -> Result<Option<String>, AllocError> {
+    let Datatype::Choice { base: _, values } = kind else {
         return Ok(None);
     };
-    let Datatype::Choice { base: _, values } = &kind else {
-        return Ok(None);
-    };
-    let Some(found) = value_of(alloc, &kind, &text)? else {
-        return Ok(Some(String::from_str(alloc, "none")?));
-    };
-    match values.place_of(&found) {
+    match valued(alloc, kind, text)? {
+        Some(Some(found)) => place_in(alloc, values, &found),
+        Some(None) => none(alloc),
+        None => Ok(None),
+    }
+}
+
+fn place_in(alloc: Global, values: &ValList, found: &Val) -> Result<Option<String>, AllocError> {
+    match values.place_of(found) {
         Some(place) => Ok(Some(format!(in alloc; "{place}")?)),
         None => Ok(None),
     }
@@ -106,17 +133,38 @@ fn write(
     let (Some(align), Ok(skip)) = (align_of(align), skip.parse::<u64>()) else {
         return Ok(None);
     };
-    let (Some(kind), Some(text)) = (datatype(alloc, kind)?, text_of(alloc, text)?) else {
-        return Ok(None);
-    };
+    match datatype(alloc, kind)? {
+        Some(kind) => write_under(alloc, &kind, align, skip, text),
+        None => Ok(None),
+    }
+}
+
+fn write_under(
+    alloc: Global,
+    kind: &Datatype,
+    align: Align,
+    skip: u64,
+    text: &str,
+) -> Result<Option<String>, AllocError> {
+    let pattern = matches!(kind, Datatype::Boolean { pattern: true });
+    match valued(alloc, kind, text)? {
+        Some(Some(value)) => write_value(alloc, pattern, &value, align, skip),
+        Some(None) => none(alloc),
+        None => Ok(None),
+    }
+}
+
+fn write_value(
+    alloc: Global,
+    pattern: bool,
+    value: &Val,
+    align: Align,
+    skip: u64,
+) -> Result<Option<String>, AllocError> {
     let Some(mut out) = zeros(alloc, align, skip)? else {
         return Ok(None);
     };
-    let Some(value) = value_of(alloc, &kind, &text)? else {
-        return Ok(Some(String::from_str(alloc, "none")?));
-    };
-    let pattern = matches!(kind, Datatype::Boolean { pattern: true });
-    if put(&mut out, pattern, &value, align)? {
+    if put(&mut out, pattern, value, align)? {
         show::bits(alloc, &out)
     } else {
         Ok(None)

@@ -3,6 +3,7 @@
 use crate::fields::{align_of, set_of, text_of, zeros};
 use crate::show;
 use exi_bits::Align;
+use exi_names::{Alphabet, Txt};
 use exi_text::{is_writable, write_chars};
 use std::alloc::{AllocError, Global};
 
@@ -30,9 +31,6 @@ fn number(
     let (Ok(skip), Ok(number)) = (skip.parse::<u64>(), number.parse::<u64>()) else {
         return Ok(None);
     };
-    let Some(mut out) = zeros(alloc, align, skip)? else {
-        return Ok(None);
-    };
     if width > 64 {
         return Ok(None);
     }
@@ -45,6 +43,9 @@ fn number(
     if u128::from(number) >= 1 << width {
         return Ok(None);
     }
+    let Some(mut out) = zeros(alloc, align, skip)? else {
+        return Ok(None);
+    };
     out.put(number, width, align)?;
     show::bits(alloc, &out)
 }
@@ -72,15 +73,38 @@ fn chars(
     let (Some(align), Ok(skip)) = (align_of(align), skip.parse::<u64>()) else {
         return Ok(None);
     };
-    let (Some(set), Some(text)) = (set_of(alloc, set)?, text_of(alloc, text)?) else {
+    match set_of(alloc, set)? {
+        Some(set) => chars_of(alloc, set.as_ref(), align, skip, text),
+        None => Ok(None),
+    }
+}
+
+fn chars_of(
+    alloc: Global,
+    set: Option<&Alphabet>,
+    align: Align,
+    skip: u64,
+    text: &str,
+) -> Result<Option<String>, AllocError> {
+    match text_of(alloc, text)? {
+        Some(text) => write(alloc, set, align, skip, &text),
+        None => Ok(None),
+    }
+}
+
+fn write(
+    alloc: Global,
+    set: Option<&Alphabet>,
+    align: Align,
+    skip: u64,
+    text: &Txt,
+) -> Result<Option<String>, AllocError> {
+    if !is_writable(text) {
         return Ok(None);
-    };
+    }
     let Some(mut out) = zeros(alloc, align, skip)? else {
         return Ok(None);
     };
-    if !is_writable(&text) {
-        return Ok(None);
-    }
-    write_chars(alloc, &mut out, &text, set.as_ref(), align)?;
+    write_chars(alloc, &mut out, text, set, align)?;
     show::bits(alloc, &out)
 }
