@@ -1,16 +1,12 @@
 -- What is spelled is read under any meter that takes its dues.
-use Rattle.std.proofs.Common.{◌≡◌, ℕ, Bool, true, false, cond, List, [], ◌∷◌, ◌++◌, Result, Ok, Err, refl, sym, ap, ◌∙◌}
+use Rattle.std.proofs.Common.{◌≡◌, ℕ, Bool, true, false, cond, List, [], ◌∷◌, Result, Ok, Err, refl, sym, ap, ◌∙◌}
 use Rattle.exi_bits.specs.declared.fault.Fault.{Fault}
 use Rattle.exi_bits.specs.Bits.{rest}
-use Rattle.exi_gram.specs.Books.{IsBook}
 use Rattle.exi_meter.specs.Metering.{Metering}
-use Rattle.exi_typed.specs.ReadStates.{Failure}
 use Rattle.exi_typed.proofs.ContextItems.{fine, told}
-use Rattle.exi_reader.specs.Configurations.{Config, Setting, spot_in}
-use Rattle.exi_reader.specs.Metered.{Due, IsAsked, Outcome, SpelledIsAsked, due_fits, limit_of, paying, with_due}
+use Rattle.exi_reader.specs.Metered.{Due, Outcome, SpelledIsAsked, due_fits, limit_of, paying, with_due}
 use Rattle.exi_reader.specs.OneEvent.{one}
 use Rattle.exi_reader.specs.Plans.{Given}
-use Rattle.exi_reader.specs.Spelled.{IsIn, IsOne}
 use Rattle.exi_reader.proofs.EventOne.{spelled_is_one}
 use Rattle.exi_reader.proofs.Metering.{one_is_metered}
 

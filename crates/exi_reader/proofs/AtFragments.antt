@@ -2,13 +2,10 @@
 use Rattle.std.proofs.Common.{◌≡◌, ◌≢◌, ℕ, ◌+◌, ◌-◌, ◌*◌, ◌/◌, ◌≤◌, Bool, true, false, cond, List, [], ◌∷◌, Option, Some, None, Result, Ok, Err, refl, sym, ap, ◌∙◌, subst, arith, All}
 use Rattle.std.proofs.lemmas.List.Elements.{All-head}
 use Rattle.exi_bits.specs.declared.fault.Fault.{Fault}
-use Rattle.exi_builtin.specs.Learning.{Learning}
 use Rattle.exi_gram.specs.Books.{IsBook}
-use Rattle.exi_gram.specs.Switches.{prefixes}
 use Rattle.exi_meter.specs.Metering.{Metering}
 use Rattle.exi_names.specs.Events.{Happening}
 use Rattle.exi_names.specs.Events as event
-use Rattle.exi_tables.specs.Partitions.{Partitions}
 use Rattle.exi_typed.specs.ReadStates.{Failure, ReadState}
 use Rattle.exi_typed.proofs.ContextItems.{told}
 use Rattle.exi_reader.specs.Changes.{has_level, innermost, left_level, put_aside, texts_of}

@@ -1,12 +1,12 @@
 -- In no state of a book, and in no built-in state, is a group of productions empty.
-use Rattle.std.proofs.Common.{◌≡◌, ℕ, zero, suc, Bool, true, false, List, [], ◌∷◌, map, get_or, refl, sym, ap, ◌∙◌, subst, arith, All}
+use Rattle.std.proofs.Common.{ℕ, zero, suc, Bool, true, false, List, [], ◌∷◌, map, get_or, refl, sym, subst, arith, All}
 use Rattle.std.proofs.lemmas.List.Elements.{All-nil, All-cons}
 use Rattle.exi_builtin.specs.BuiltIn.{BuiltInRule, is_kept, written_rules}
 use Rattle.exi_builtin.specs.Learning.{Learning}
 use Rattle.exi_builtin.specs.declared.learnable.Room.{Room}
 use Rattle.exi_builtin.specs.declared.learnable.Room.TheVariants as room
 use Rattle.exi_gram.specs.Books.{HoldsStates, IsBook, is_kept as is_entry_kept, placed_in, state_at, state_of}
-use Rattle.exi_gram.specs.Codes.{HasMembers, IsClosedUp, Productions, Second, group, kept_seconds, mapped, mapped_second, single}
+use Rattle.exi_gram.specs.Codes.{HasMembers, IsClosedUp, Productions, Second, group, kept_seconds, mapped_second, single}
 use Rattle.exi_gram.specs.Naming.{Entry}
 use Rattle.exi_gram.specs.Tables.{no_productions}
 use Rattle.exi_gram.specs.Terminals.{Rule}

@@ -1,5 +1,5 @@
 -- The production that a code tells, read by its place among those of a state.
-use Rattle.std.proofs.Common.{◌≡◌, ◌<◌, ℕ, zero, suc, ◌+◌, Bool, true, false, List, [], ◌∷◌, ◌++◌, length, map, get_or, Option, Some, None, Result, Ok, Err, refl, sym, ap, ◌∙◌, subst, arith}
+use Rattle.std.proofs.Common.{◌≡◌, ◌<◌, ℕ, zero, suc, ◌+◌, true, false, List, [], ◌∷◌, ◌++◌, length, map, get_or, Option, None, Result, Ok, Err, refl, sym, ap, ◌∙◌, subst, arith}
 use Rattle.std.specs.Prelude.{slice_get}
 use Rattle.std.proofs.lemmas.Bool.{le-ltb}
 use Rattle.std.proofs.lemmas.List.{map-append}
@@ -16,7 +16,7 @@ use Rattle.exi_builtin.specs.declared.learnable.Learnable.{Learnable}
 use Rattle.exi_builtin.specs.declared.learnable.Learnable.TheVariants as learnable
 use Rattle.exi_builtin.specs.declared.learnable.Room.{Room}
 use Rattle.exi_builtin.specs.BuiltIn.{BuiltInRule}
-use Rattle.exi_builtin.specs.Learning.{Learning, productions, rule_in as learned_rule, rules, state_behind}
+use Rattle.exi_builtin.specs.Learning.{Learning, productions, rule_in as learned_rule, state_behind}
 use Rattle.exi_builtin.proofs.Rules.{rules_are}
 use Rattle.exi_gram.specs.declared.named.Named.TheVariants as named
 use Rattle.exi_gram.specs.Books.{state_at}

@@ -1,5 +1,4 @@
 -- A code is read onward, in the same bytes.
-use Rattle.std.proofs.Common.{◌≡◌}
 use Rattle.exi_bits.specs.declared.align.Align.{Align}
 use Rattle.exi_gram.specs.Codes.{Productions, code_at}
 use Rattle.exi_gram.proofs.CodeTells.{code_on}

@@ -22,7 +22,7 @@ use Rattle.exi_gram.specs.Wholes.{document, document_content, document_end, whol
 use Rattle.exi_gram.proofs.CodeTells.{Each, EachOf, code_is, each_mapped, each_pruned}
 use Rattle.exi_names.specs.StartTables.{Names}
 use Rattle.exi_tables.specs.Partitions.{Partitions}
-use Rattle.exi_reader.specs.Configurations.{Config, Setting, built_in, element_rules, in_book, outer_rules, rules_in, rules_of, spot_in}
+use Rattle.exi_reader.specs.Configurations.{Setting, built_in, element_rules, in_book, outer_rules, rules_in, rules_of, spot_in}
 use Rattle.exi_reader.specs.Rules.{Rule, book_rule, built_in_rule, built_in_terminal, fragment_start, rule_of}
 use Rattle.exi_reader.specs.Sound.{CodesFit, FitsContent, FitsDocument, FitsIn, FitsInside, FitsOutside, FitsStart, IsElementOfName, IsOfNames, IsOuter, IsSoundBody, IsSoundElement, IsSoundGrammar, IsSoundLearning, IsStateOfName}
 use Rattle.exi_reader.specs.declared.frames.Element.{Element}

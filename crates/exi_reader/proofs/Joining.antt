@@ -1,26 +1,25 @@
 -- A reader at a fragment that was read by itself: it can take what came of it, and turns lead to where it is then.
-use Rattle.std.proofs.Common.{◌≡◌, ◌<◌, ◌≤◌, ℕ, ◌+◌, ◌*◌, ◌%◌, Bool, true, false, cond, List, [], ◌∷◌, ◌++◌, length, Option, Some, None, refl, sym, ap, ◌∙◌, subst, arith}
+use Rattle.std.proofs.Common.{◌≡◌, ◌≤◌, ℕ, ◌+◌, ◌*◌, Bool, true, false, cond, List, [], ◌∷◌, ◌++◌, length, Option, Some, None, refl, sym, ap, ◌∙◌, subst, arith}
 use Rattle.exi_bits.specs.Bits.{IsAligned, IsBytes}
 use Rattle.exi_gram.specs.Books.{IsBook}
 use Rattle.exi_gram.specs.Switches.{align_of}
-use Rattle.exi_meter.specs.Metering.{Bounds, IsWithin}
+use Rattle.exi_meter.specs.Metering.{IsWithin}
 use Rattle.exi_names.specs.Events.{Happening}
 use Rattle.exi_names.specs.StartTables.{IsStart}
 use Rattle.exi_names.specs.declared.names.QName.{QName}
 use Rattle.exi_reader.specs.Changes.{innermost, put_aside, same_texts, texts_of}
-use Rattle.exi_reader.specs.Configurations.{Body, Config, Setting, first_config, spot_in}
+use Rattle.exi_reader.specs.Configurations.{Config, Setting, first_config}
 use Rattle.exi_reader.specs.Handing.{Standing}
 use Rattle.exi_reader.specs.Joins.{CanJoin, CanSplice, IsPlaceBehind, JoinedAs}
 use Rattle.exi_reader.specs.OneEvent.{one}
 use Rattle.exi_reader.specs.Reading.{GoesOnReached, IsOutcome, IsReached, Reading}
-use Rattle.exi_reader.specs.Runs.{IsRun, IsSequence, Job, Leads}
+use Rattle.exi_reader.specs.Runs.{Leads}
 use Rattle.exi_reader.specs.Spelled.{IsIn}
-use Rattle.exi_reader.specs.Splices.{AtFragment, GoesAs, Spliced, ended, fits, on, on_behind, other_root, root_of, spliced, tally_of, with_root, wrong_root}
+use Rattle.exi_reader.specs.Splices.{AtFragment, GoesAs, Spliced, ended, fits, on, on_behind, other_root, root_of, spliced, with_root, wrong_root}
 use Rattle.exi_reader.specs.declared.end.End.{End}
 use Rattle.exi_reader.specs.declared.end.End.TheVariants as end
 use Rattle.exi_reader.specs.declared.splice.Spliced.{Spliced as Joined}
 use Rattle.exi_reader.specs.declared.splice.Spliced.TheVariants as joined
-use Rattle.exi_reader.specs.declared.start.Start.TheVariants as start
 use Rattle.exi_reader.proofs.EventOne.{one_is_spelled}
 use Rattle.exi_reader.proofs.Sequences.{by_result}
 use Rattle.exi_reader.proofs.SpliceRuns.{splices_are_runs}

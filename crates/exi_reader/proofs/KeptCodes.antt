@@ -1,5 +1,5 @@
 -- What a code tells is left by the options: SC stands only where elements may be self-contained.
-use Rattle.std.proofs.Common.{◌≡◌, ℕ, Bool, true, false, cond, List, [], ◌∷◌, filter, Option, slice_get, refl, sym, subst, All}
+use Rattle.std.proofs.Common.{◌≡◌, ℕ, Bool, true, false, cond, List, [], ◌∷◌, filter, slice_get, refl, sym, subst, All}
 use Rattle.std.specs.Prelude.{◌&&◌, ◌||◌}
 use Rattle.std.proofs.lemmas.List.Elements.{All-append, All-cons, All-head, All-nil, All-weaker, filter_passes}
 use Rattle.exi_bits.specs.Bits.{Spot}
@@ -7,7 +7,6 @@ use Rattle.exi_builtin.specs.BuiltIn.{element_content, is_kept, left_of, start_t
 use Rattle.exi_builtin.specs.Learning.{Learning, behind_learned}
 use Rattle.exi_builtin.specs.declared.learnable.Learnable.{Learnable}
 use Rattle.exi_builtin.specs.declared.learnable.Learnable.TheVariants as learnable
-use Rattle.exi_builtin.specs.declared.learnable.Room.{Room}
 use Rattle.exi_builtin.specs.declared.learnable.Room.TheVariants as room
 use Rattle.exi_gram.specs.Books.{IsBook}
 use Rattle.exi_gram.specs.Codes.{Productions, Second, code_at, group, group_unless_empty, kept_second, kept_seconds, pruned, single}
@@ -24,7 +23,7 @@ use Rattle.exi_reader.specs.declared.frames.Outer.{Outer}
 use Rattle.exi_reader.specs.declared.frames.Outer.TheVariants as outer
 use Rattle.exi_reader.specs.declared.frames.State.{State}
 use Rattle.exi_reader.specs.declared.frames.State.TheVariants as state
-use Rattle.exi_reader.proofs.Fitting.{built_in_each, codes_fit, content_of, each_behind, learned_content, learned_start_tag, ruled, start_tag_of}
+use Rattle.exi_reader.proofs.Fitting.{built_in_each, codes_fit, content_of, each_behind, learned_content, learned_start_tag, start_tag_of}
 
 -- ---- what is pruned passes
 passes_rest : {X : Type 0} (P : X → Type 0) (xs : List X) → All P xs → All (EachOf P) (group_unless_empty xs)

@@ -9,7 +9,7 @@ mod Endings
 mod EventOne
 mod Fewness
 mod FirstTurns
-mod Fitting
+pub mod Fitting
 mod InStep
 mod Joining
 mod KeptCodes
@@ -18,7 +18,7 @@ mod Metering
 mod Names
 mod Passing
 mod PlanFacts
-mod Reached
+pub mod Reached
 mod Readings
 mod Refusals
 mod RootTexts
@@ -28,11 +28,11 @@ mod Soundness
 mod SpliceRuns
 mod Splicing
 mod Standing
-mod Steady
+pub mod Steady
 mod StepParts
 mod Steppers
 mod Stepping
 mod Steps
-mod Turning
+pub mod Turning
 mod Withins
 mod Worked

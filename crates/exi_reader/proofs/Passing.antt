@@ -5,19 +5,18 @@ use Rattle.exi_bits.specs.Bits.{IsBytes}
 use Rattle.exi_bits.specs.declared.fault.Kind.TheVariants as kind
 use Rattle.exi_gram.specs.Books.{IsBook}
 use Rattle.exi_meter.specs.Metering.{Bounds, Metering, nothing_used, tally_fits, text_fits, with_text}
-use Rattle.exi_meter.specs.declared.tally.Tally.{Tally}
 use Rattle.exi_names.specs.Events.{Happening}
 use Rattle.exi_names.specs.StartTables.{IsStart}
 use Rattle.exi_names.specs.declared.names.QName.{QName}
 use Rattle.exi_typed.specs.ReadStates.{Failure}
 use Rattle.exi_typed.proofs.ContextItems.{told}
-use Rattle.exi_reader.specs.Changes.{is_alone, same_texts}
+use Rattle.exi_reader.specs.Changes.{same_texts}
 use Rattle.exi_reader.specs.Configurations.{Body, Config, Setting}
 use Rattle.exi_reader.specs.Laws.{IsWithinLimits}
 use Rattle.exi_reader.specs.Metered.{Due, due_fits, limit_of}
 use Rattle.exi_reader.specs.OneEvent.{one}
 use Rattle.exi_reader.specs.Plans.{Given}
-use Rattle.exi_reader.specs.Runs.{IsRun, IsSequence, Job, Leads, done, ends, events_of, failed_end, first, goes, is_end, turn}
+use Rattle.exi_reader.specs.Runs.{IsRun, Job, Leads, done, ends, events_of, first, goes, is_end, turn}
 use Rattle.exi_reader.specs.Shifts.{PassesAt, StopsAtRoot, StopsBy, StopsInside, TooMuchStops, WhereSo}
 use Rattle.exi_reader.specs.Sound.{IsSound}
 use Rattle.exi_reader.specs.Splices.{AtFragment, other_root, root_of, tally_of}

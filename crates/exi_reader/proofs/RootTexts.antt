@@ -1,5 +1,5 @@
 -- A name without a prefix charges the characters of its URI and of its local name.
-use Rattle.std.proofs.Common.{◌≡◌, inl, inr, ℕ, ◌+◌, Bool, false, List, [], ◌∷◌, ◌++◌, length, Option, Some, None, refl, sym, ap, ◌∙◌, subst, arith}
+use Rattle.std.proofs.Common.{◌≡◌, inl, inr, ℕ, ◌+◌, Bool, false, List, [], ◌∷◌, ◌++◌, length, Option, Some, None, refl, ap, ◌∙◌, subst, arith}
 use Rattle.exi_bits.specs.declared.align.Align.{Align}
 use Rattle.exi_gram.specs.Switches.{align_of, prefixes}
 use Rattle.exi_meter.specs.Metering.{Metering, with_text}

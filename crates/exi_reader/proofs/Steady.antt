@@ -1,38 +1,34 @@
 -- What a step needs holds wherever turns lead from a job's first place.
-use Rattle.std.proofs.Common.{◌≡◌, ◌≢◌, ◌⊎◌, inl, inr, ◌<◌, ◌≤◌, ◌^◌, ◌-◌, ℕ, zero, suc, ◌+◌, ◌*◌, Bool, true, false, List, [], ◌∷◌, length, map, get_or, Option, Some, None, Result, Ok, Err, refl, sym, ap, ◌∙◌, subst, arith}
+use Rattle.std.proofs.Common.{◌≡◌, ◌≢◌, ◌⊎◌, inl, inr, ◌<◌, ◌≤◌, ◌^◌, ◌-◌, ℕ, ◌+◌, ◌*◌, Bool, true, false, List, [], ◌∷◌, length, get_or, Option, Some, None, Ok, refl, sym, ap, ◌∙◌, subst, arith}
 use Rattle.std.specs.Prelude.{All, slice_get}
-use Rattle.std.proofs.lemmas.List.Elements.{All-head, All-tail}
+use Rattle.std.proofs.lemmas.List.Elements.{All-head}
 use Rattle.std.proofs.lemmas.Option.{slice_get_within, get_or_from_slice_get}
 use Rattle.exi_bits.specs.Bits.{Spot}
-use Rattle.exi_bits.specs.declared.fault.Fault.{Fault}
-use Rattle.exi_bits.specs.Unsigned.{◌>>=◌}
 use Rattle.exi_builtin.specs.declared.element_grammar.ElementGrammar.{ElementGrammar}
 use Rattle.exi_builtin.specs.declared.learnable.Learnable.{Learnable}
 use Rattle.exi_builtin.specs.declared.learnable.Room.{Room}
 use Rattle.exi_builtin.specs.declared.learnable.Room.TheVariants as room
 use Rattle.exi_builtin.specs.Learning.{IsRoom, Learning, learned_in}
 use Rattle.exi_gram.specs.declared.options.Options.{Options}
-use Rattle.exi_gram.specs.Books.{HoldsStates, IsBook, IsStateOf, state_of}
+use Rattle.exi_gram.specs.Books.{HoldsStates, IsBook, IsStateOf}
 use Rattle.exi_gram.specs.Codes.{Productions, code_at}
 use Rattle.exi_gram.specs.Naming.{Entry}
 use Rattle.exi_gram.specs.Switches.{align_of}
-use Rattle.exi_gram.specs.Wholes.{document}
-use Rattle.exi_gram.specs.Terminals as symbol
 use Rattle.exi_meter.specs.Metering.{Bounds, IsWithinStream}
 use Rattle.exi_names.specs.declared.names.NameId.{NameId}
 use Rattle.exi_names.specs.Events.{Happening, at, ch, cm, dt, ed, ee, er, ns, pi, sc, sd, se}
 use Rattle.exi_names.specs.StartTables.{IsStart, Names}
 use Rattle.exi_tables.specs.Growth.{NoneLonger}
 use Rattle.exi_tables.specs.Partitions.{IsName, Partitions, locals, uris}
-use Rattle.exi_typed.proofs.ContextItems.{bind_fine, fine, fine_is}
-use Rattle.exi_reader.specs.Changes.{has_level, innermost, is_alone, outer_room, room_in, state_room}
-use Rattle.exi_reader.specs.Configurations.{Body, Config, Setting, first_config, rules_of, spot_in}
+use Rattle.exi_typed.proofs.ContextItems.{bind_fine, fine_is}
+use Rattle.exi_reader.specs.Changes.{has_level, innermost, outer_room, room_in, state_room}
+use Rattle.exi_reader.specs.Configurations.{Body, Config, Setting, rules_of, spot_in}
 use Rattle.exi_reader.specs.Fews.{Few, FewGrammars, FewLearned}
 use Rattle.exi_reader.specs.Fragments.{fragments_at, fragments_in}
-use Rattle.exi_reader.specs.Handing.{AreThere, HasLevels, HasNames, HasRoom, IsSteady, IsThere, IsThereIn, Standing, code_name, known_at_code, known_rule, known_terminal, told_id}
-use Rattle.exi_reader.specs.Rules.{Rule, Telling, Terminal, attribute, characters, comment, declaration, document_type, element, end_document, end_element, entity, informed, instruction, known, self_contained, spelled, start_document}
+use Rattle.exi_reader.specs.Handing.{AreThere, HasNames, IsSteady, IsThere, IsThereIn, code_name, known_at_code, known_rule, known_terminal}
+use Rattle.exi_reader.specs.Rules.{Rule, Terminal, attribute, characters, comment, declaration, document_type, element, end_document, end_element, entity, informed, instruction, known, self_contained, spelled, start_document}
 use Rattle.exi_reader.specs.Runs.{Job, Leads, events_of, first}
-use Rattle.exi_reader.specs.Sound.{FitsContent, FitsDocument, FitsIn, FitsInside, FitsOutside, FitsStart, HasGrammar, IsLeastName, IsOuter, IsSound, IsSoundAside, IsSoundBody, IsSoundElement, IsStateOfName, levels_aside, levels_in}
+use Rattle.exi_reader.specs.Sound.{FitsContent, FitsDocument, FitsIn, FitsInside, FitsOutside, FitsStart, IsLeastName, IsOuter, IsSound, IsSoundAside, IsSoundElement, IsStateOfName, levels_aside, levels_in}
 use Rattle.exi_reader.specs.declared.frames.Element.{Element}
 use Rattle.exi_reader.specs.declared.frames.Outer.{Outer}
 use Rattle.exi_reader.specs.declared.frames.Outer.TheVariants as outer

@@ -1,5 +1,5 @@
 -- One event in its parts: its code, what is charged, and its content.
-use Rattle.std.proofs.Common.{◌≡◌, ◌&&◌, ℕ, Bool, true, false, cond, List, [], ◌∷◌, Option, Some, None, Result, Ok, Err, refl, sym, ap, ◌∙◌, subst}
+use Rattle.std.proofs.Common.{◌≡◌, ◌&&◌, ℕ, Bool, true, false, cond, List, [], ◌∷◌, Option, Some, None, Result, Ok, Err, refl, sym, ap, ◌∙◌}
 use Rattle.exi_bits.specs.declared.align.Align.{Align}
 use Rattle.exi_bits.specs.Bits.{Spot}
 use Rattle.exi_bits.specs.declared.fault.Fault.{Fault}
@@ -18,14 +18,14 @@ use Rattle.exi_names.specs.Seen as value
 use Rattle.exi_typed.specs.ReadStates.{ReadState, ContextReader, Failure, failing}
 use Rattle.exi_typed.specs.Items.{item_at, qualified, string}
 use Rattle.exi_typed.specs.Strings.{Named, value_at}
-use Rattle.exi_typed.proofs.ContextItems.{fine, fine_is, told}
+use Rattle.exi_typed.proofs.ContextItems.{fine, fine_is}
 use Rattle.exi_reader.specs.declared.frames.Outer.TheVariants as outer
 use Rattle.exi_reader.specs.Configurations.{Body, Config, Setting, read_state_in, reached, rules_of, spot_in}
 use Rattle.exi_reader.specs.Handing.{charged_at, charges_on, known_at_code, known_rule, known_terminal, leading_to, learned_by, making, opening_to, root_at, string_made, value_made}
 use Rattle.exi_reader.specs.OneEvent.{at_event, behind, charge_at, followed, moved_limit, one, remembered, unless}
 use Rattle.exi_reader.specs.Changes.{enclosing, inner_state, learns_name, moved_elements, moves, outer_behind, resumed, room_in, with_inner}
 use Rattle.exi_reader.specs.Contents.{attribute_value_at, both_at, four_texts_at, text_at, told_name_at, two_texts_at}
-use Rattle.exi_reader.specs.Plans.{Alone, Given, Plan, alone_in, at_end, at_first, at_start, attribute_plan, element_made, element_plan, end_plan, is_event, no_element, nowhere, plan_of, plan_on, seen_in, start_plan, wrong_element}
+use Rattle.exi_reader.specs.Plans.{Alone, Given, Plan, alone_in, at_end, at_first, at_start, attribute_plan, element_made, element_plan, end_plan, is_event, no_element, nowhere, plan_on, seen_in, start_plan, wrong_element}
 use Rattle.exi_reader.specs.Rules.{Rule, Telling, Terminal, attribute, characters, comment, declaration, document_type, element, end_document, end_element, entity, informed, instruction, known, self_contained, spelled, start_document}
 
 -- what a plan asks and charges

@@ -1,42 +1,38 @@
 -- A turn of a reader, and all of them, in the words of sequential processing.
-use Rattle.std.proofs.Common.{◌≡◌, ◌≢◌, ◌⊎◌, inl, inr, ◌<◌, ◌≤◌, ◌^◌, ◌-◌, ℕ, zero, suc, ◌+◌, ◌*◌, Bool, true, false, cond, List, [], ◌∷◌, ◌++◌, length, Option, Some, None, Result, Ok, Err, refl, sym, ap, ◌∙◌, subst, arith, append_assoc}
+use Rattle.std.proofs.Common.{◌≡◌, inl, inr, ◌≤◌, ◌^◌, ◌-◌, ℕ, ◌+◌, ◌*◌, Bool, true, false, cond, List, [], ◌∷◌, ◌++◌, length, Option, Some, None, Result, Ok, Err, refl, sym, ap, ◌∙◌, subst, arith}
 use Rattle.std.proofs.lemmas.List.{append-nil, length-append}
 use Rattle.std.proofs.lemmas.List.Elements.{All-head}
 use Rattle.std.specs.Result.{IsErrOf}
 use Rattle.exi_bits.specs.Bits.{IsBytes}
 use Rattle.exi_bits.specs.declared.fault.Fault.{Fault}
 use Rattle.exi_gram.specs.Books.{IsBook}
-use Rattle.exi_meter.specs.Metering.{Bounds, IsWithinStream, Metering}
+use Rattle.exi_meter.specs.Metering.{Bounds, IsWithinStream}
 use Rattle.exi_names.specs.Events.{Happening}
 use Rattle.exi_names.specs.Events as event
 use Rattle.exi_names.specs.StartTables.{IsStart}
 use Rattle.exi_typed.specs.ReadStates.{Failure}
 use Rattle.exi_tables.specs.Partitions.{IsName}
-use Rattle.exi_reader.specs.Changes.{has_level, innermost, put_aside, texts_of}
+use Rattle.exi_reader.specs.Changes.{innermost, put_aside, texts_of}
 use Rattle.exi_reader.specs.Configurations.{Body, Config, Setting, first_config}
-use Rattle.exi_reader.specs.Handing.{Hands, HandsAny, HandsFragment, IsSteady, Standing, fragment_in, listed, push_halt, with_config}
+use Rattle.exi_reader.specs.Handing.{Hands, HandsAny, HandsFragment, IsSteady, Standing, fragment_in, listed, push_halt}
 use Rattle.exi_reader.specs.OneEvent.{at_event, moved_limit, one}
 use Rattle.exi_reader.specs.Plans.{Given}
 use Rattle.exi_reader.specs.Reading.{IsFront, IsReached, Reading, Sequences, Turns, event_of}
-use Rattle.exi_reader.specs.Runs.{IsRun, IsSequence, Job, Leads, Turn, closing, ends, events_of, failed_end, first, given_turn, goes, has_ended, turn, turned_by}
+use Rattle.exi_reader.specs.Runs.{IsRun, Job, Leads, Turn, closing, ends, events_of, failed_end, first, given_turn, goes, has_ended, turn, turned_by}
 use Rattle.exi_names.specs.declared.names.QName.{QName}
 use Rattle.exi_names.specs.declared.stops.PushStop.{PushStop}
 use Rattle.exi_names.specs.declared.stops.PushStop.TheVariants as push
 use Rattle.exi_reader.specs.Splices.{AtFragment}
 use Rattle.exi_reader.specs.declared.end.End.{End}
 use Rattle.exi_reader.specs.declared.end.End.TheVariants as ending
-use Rattle.exi_reader.specs.declared.halt.Halt.{Halt}
 use Rattle.exi_reader.specs.declared.halt.Halt.TheVariants as halt
 use Rattle.exi_reader.specs.declared.start.Start.{Start}
 use Rattle.exi_reader.specs.declared.turn.ReadStop.{ReadStop}
 use Rattle.exi_reader.specs.declared.turn.ReadStop.TheVariants as stop
-use Rattle.exi_reader.specs.declared.turn.Turn.{Turn as Made}
 use Rattle.exi_reader.specs.declared.turn.Turn.TheVariants as told
 use Rattle.exi_reader.proofs.AtFragments.{Deep, at_fragment, led_deep, level_some}
 use Rattle.exi_reader.proofs.Sequences.{a_run_is_there, front_of_run}
 use Rattle.exi_reader.specs.Sound.{IsSound, IsSoundAside}
-use Rattle.exi_reader.specs.declared.frames.Element.{Element}
-use Rattle.exi_reader.specs.declared.frames.Outer.{Outer}
 use Rattle.exi_reader.proofs.Reached.{reached_are_sound}
 use Rattle.exi_reader.proofs.Steady.{few_led, open_name, steady}
 
@@ -307,23 +303,6 @@ fragment_name s at =
 pub reader_name : (s : Standing) (w : Bool) (r : Reading) → view s w ≡ r → r.waits ≡ true → IsReached r → IsName s.config.tables (innermost s.config.elements)
 reader_name s true r e h k = fragment_name s (subst IsReached (sym e) k)
 reader_name s false r e h k = true_no_false (sym (ap (λ (z : Reading). z.waits) e ∙ h))
-
-pub reached_entered : (s new : Standing) (w : Bool) (r : Reading) → view s w ≡ r → r.waits ≡ true → IsReached r → new ≡ with_config s (put_aside s.setting s.config) → IsReached (view new false)
-reached_entered s new false r e h at is = true_no_false (sym (ap (λ (z : Reading). z.waits) e ∙ h))
-reached_entered s new true r e h at is =
-    let from : IsReached (view s true) = subst IsReached (sym e) at in
-    subst (λ (z : Standing). IsReached (view z false)) (sym is) (record {
-      body = from.body;
-      start = from.start;
-      limits = from.limits;
-      within = from.within;
-      book = from.book;
-      names = from.names;
-      octets = from.octets;
-      turns = from.turns;
-      leads = from.leads;
-      fragment = λ k. true_no_false (sym k);
-    })
 
 module _ {T : Type 0} (took : T → List Happening → T → Type 0) (broke : T → Happening → T → Type 0) (before after : T) where
   abbrev step_of : Standing → Result Given Failure

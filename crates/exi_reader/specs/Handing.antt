@@ -2,7 +2,6 @@
 use Rattle.std.specs.Prelude.{◌≡◌, ◌≢◌, ◌⊎◌, ◌<◌, ◌-◌, ◌^◌, ℕ, length, Bool, true, false, List, [], ◌∷◌, Option, Some, None, Result, Ok, Err, if◌then◌else◌}
 use Rattle.exi_bits.specs.Bits.{Spot}
 use Rattle.exi_bits.specs.declared.fault.Fault.{Fault}
-use Rattle.exi_bits.specs.declared.fault.Kind.{Kind}
 use Rattle.exi_bits.specs.declared.fault.Kind.TheVariants as kind
 use Rattle.exi_bits.specs.declared.fault.Stop.{Stop}
 use Rattle.exi_bits.specs.declared.fault.Stop.TheVariants as stop

@@ -1,5 +1,5 @@
 -- What the calls of a reader promise, in the words of sequential processing.
-use Rattle.std.specs.Prelude.{◌≡◌, ◌⊎◌, ◌≤◌, ◌^◌, ◌*◌, ◌+◌, ℕ, Bool, true, false, List, [], ◌∷◌, ◌++◌, length, Option, Some, None, Result, Ok, Err}
+use Rattle.std.specs.Prelude.{◌≡◌, ◌⊎◌, ◌≤◌, ◌^◌, ◌*◌, ◌+◌, ℕ, Bool, true, false, List, [], ◌∷◌, ◌++◌, length, Option, Some, Result, Ok, Err}
 use Rattle.exi_bits.specs.Bits.{IsAligned, IsBytes}
 use Rattle.exi_gram.specs.Books.{IsBook}
 use Rattle.exi_gram.specs.Switches.{align_of}
@@ -9,7 +9,7 @@ use Rattle.exi_names.specs.Events as event
 use Rattle.exi_names.specs.StartTables.{IsStart}
 use Rattle.exi_reader.specs.Configurations.{Config, Setting, first_config}
 use Rattle.exi_reader.specs.Handing.{listed}
-use Rattle.exi_reader.specs.Runs.{Job, IsSequence, Leads, Turn, ends, first, goes, turn}
+use Rattle.exi_reader.specs.Runs.{Job, IsSequence, Leads, Turn, ends, goes, turn}
 use Rattle.exi_reader.specs.declared.end.End.{End}
 use Rattle.exi_reader.specs.Splices.{AtFragment, ended, on, spliced, wrong_root}
 use Rattle.exi_reader.specs.declared.job.Job.{Job as Told}

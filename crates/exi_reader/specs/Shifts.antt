@@ -1,6 +1,6 @@
 -- A self-contained fragment that charges more than the limits leave where it stands: where sequential processing stops
 -- then. The limits are the codec's own; fragments are those of EXI 1.0, section 8.4.3.
-use Rattle.std.specs.Prelude.{◌≡◌, ◌⊎◌, ℕ, ◌+◌, ◌*◌, Bool, true, false, List, [], ◌∷◌, ◌++◌, length, Option, Some, None}
+use Rattle.std.specs.Prelude.{◌≡◌, ℕ, ◌+◌, Bool, true, false, List, [], ◌∷◌, ◌++◌, length, Option, Some, None}
 use Rattle.exi_bits.specs.Bits.{IsBytes}
 use Rattle.exi_gram.specs.Books.{IsBook}
 use Rattle.exi_meter.specs.Metering.{Bounds, Metering, tally_fits, text_fits}

@@ -1,7 +1,7 @@
 use Rattle.std.proofs.Common.{ap, ◌∙◌}
 use Rattle.exi_reader.specs.Handing.{Standing, alone_of}
 use Rattle.exi_reader.proofs.StepParts.{one_without}
-use Rattle.exi_reader.proofs.Stepping.{step_levels, step_names, step_paid, step_room, step_unpaid}
+use Rattle.exi_reader.proofs.Stepping.{step_levels, step_names, step_paid, step_unpaid}
 use Rattle.exi_reader.proofs.Turning.{hands_fault, hands_memory, hands_ok, hands_stopped}
 use Rattle.exi_reader.proofs.stepper.Stepper.step.Goals as goal
 

@@ -3,7 +3,6 @@ use Rattle.std.proofs.lemmas.Result.{err_from_is_err_and}
 use Rattle.exi_names.specs.Events as event
 use Rattle.exi_names.specs.Seen as value
 use Rattle.exi_names.specs.Shown.{named}
-use Rattle.exi_names.specs.declared.names.QName.{QName}
 use Rattle.exi_typed.specs.Places.{IsNameAt, name_in}
 use Rattle.exi_typed.specs.Strings.{Named}
 use Rattle.exi_reader.specs.Handing.{Standing}
