@@ -34,8 +34,6 @@ mod bit_in;
 mod bit_out;
 mod fault;
 pub mod laws;
-#[cfg(test)]
-mod tests;
 mod widths;
 mod words;
 

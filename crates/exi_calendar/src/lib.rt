@@ -43,8 +43,6 @@
 pub mod laws;
 mod layout;
 mod read;
-#[cfg(test)]
-mod tests;
 mod write;
 
 pub use read::moment;

@@ -3,7 +3,5 @@
 #![tactic(auto)]
 
 mod make;
-#[cfg(test)]
-mod tests;
 
 pub use make::book;

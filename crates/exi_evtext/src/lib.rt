@@ -37,8 +37,6 @@ mod read_event;
 mod read_value;
 mod scalar;
 mod stop;
-#[cfg(test)]
-mod tests;
 mod value;
 
 pub use parse::parse_events;

@@ -39,11 +39,7 @@ mod rows;
 mod schema;
 mod second;
 mod state;
-#[cfg(test)]
-mod table_tests;
 mod terminal;
-#[cfg(test)]
-mod tests;
 mod wholes;
 mod write;
 

@@ -14,8 +14,6 @@
 mod header;
 pub mod laws;
 mod read;
-#[cfg(test)]
-mod tests;
 mod write;
 
 pub use header::Header;

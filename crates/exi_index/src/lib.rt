@@ -12,8 +12,6 @@
 pub mod laws;
 mod parse;
 mod print;
-#[cfg(test)]
-mod tests;
 
 pub use parse::parse_hints;
 pub use print::{print_hints, push_hint};

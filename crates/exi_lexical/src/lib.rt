@@ -31,8 +31,6 @@ mod binaries;
 mod canonical;
 pub mod laws;
 mod spaces;
-#[cfg(test)]
-mod tests;
 mod values;
 
 pub use canonical::canon;

@@ -43,8 +43,6 @@ mod fields;
 pub mod laws;
 mod numbers;
 mod read;
-#[cfg(test)]
-mod tests;
 mod write;
 
 pub use fields::is_moment;

@@ -34,8 +34,6 @@ mod names;
 mod octets;
 mod start;
 mod stops;
-#[cfg(test)]
-mod tests;
 mod textual;
 mod txt;
 mod txt_list;

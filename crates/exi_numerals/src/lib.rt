@@ -19,8 +19,6 @@ mod decimal;
 mod float;
 mod integer;
 pub mod laws;
-#[cfg(test)]
-mod tests;
 
 pub use decimal::{Decimal, decimal_of, push_decimal};
 pub use float::{Float, float_of, push_float};

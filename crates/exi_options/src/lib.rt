@@ -19,8 +19,6 @@ pub mod laws;
 mod name;
 mod read;
 mod table;
-#[cfg(test)]
-mod tests;
 mod told;
 mod write;
 

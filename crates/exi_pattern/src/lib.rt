@@ -11,8 +11,6 @@ mod pieces;
 mod quantities;
 mod splits;
 mod stop;
-#[cfg(test)]
-mod tests;
 
 pub use charset::CharSet;
 pub use pieces::chars_of;

@@ -26,8 +26,6 @@ mod printer;
 mod starts;
 mod status;
 mod stream;
-#[cfg(test)]
-mod tests;
 mod top;
 mod words;
 

@@ -29,8 +29,6 @@ mod float;
 mod integer;
 pub mod laws;
 mod signed;
-#[cfg(test)]
-mod tests;
 
 pub use binary::{read_binary, write_binary};
 pub use boolean::{read_boolean, write_boolean};

@@ -66,8 +66,6 @@ mod partitioned;
 mod place_values;
 mod spots;
 mod tables;
-#[cfg(test)]
-mod tests;
 mod texts;
 mod value_store;
 

@@ -28,8 +28,6 @@ pub mod laws;
 mod plain;
 mod read;
 mod set;
-#[cfg(test)]
-mod tests;
 mod write;
 
 pub use read::read_chars;

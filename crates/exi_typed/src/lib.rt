@@ -116,8 +116,6 @@ mod parts;
 mod put;
 mod spaces;
 mod strings;
-#[cfg(test)]
-mod tests;
 mod values;
 mod write;
 mod write_declarations;

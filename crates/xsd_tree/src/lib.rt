@@ -22,8 +22,6 @@
 mod elements;
 mod node;
 mod start_tag;
-#[cfg(test)]
-mod tests;
 
 pub use elements::tree;
 pub use node::{Node, Tree};

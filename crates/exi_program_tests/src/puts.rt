@@ -1,0 +1,67 @@
+use exi_names::{Octets, Txt};
+use exi_ports::{MemShelf, MemSink, NoGate};
+use exi_run::{Status, run};
+use std::alloc::{AllocError, Global};
+use std::sync::Wait;
+use std::test::Fail;
+use std::thread::Threads;
+
+/// A shelf with a stream of the element `a` with the text `x`, worked from the recommendation's tables by hand.
+fn shelf_of_one(alloc: Global) -> Result<MemShelf, AllocError> {
+    let mut shelf = MemShelf::new(alloc);
+    let bytes = Octets::of(alloc, b"\x80\x40\x98\x70\x37\x80")?;
+    shelf.add_file(Txt::of(alloc, "in.exi")?, bytes)?;
+    Ok(shelf)
+}
+
+/// Runs the words over that shelf.
+fn put(
+    rt: &(impl Threads + Wait + Sync),
+    alloc: Global,
+    words: &[Txt],
+    sink: &mut MemSink,
+) -> Result<Status, AllocError> {
+    let mut shelf = shelf_of_one(alloc)?;
+    Ok(run(rt, alloc, words, &mut shelf, sink, &NoGate))
+}
+
+/// The words that ask for its events.
+fn read_words(alloc: Global) -> Result<[Txt; 2], AllocError> {
+    Ok([Txt::of(alloc, "read")?, Txt::of(alloc, "in.exi")?])
+}
+
+#[test]
+fn a_stream_is_printed_one_line_a_put(rt: HostRuntime) -> Result<(), Fail> {
+    let words = read_words(rt.alloc())?;
+    let mut sink = MemSink::new(rt.alloc());
+    assert_eq!(rt; put(&rt, rt.alloc(), &words, &mut sink)?, Status::Ok);
+    assert_eq!(rt;
+        sink.taken().as_slice(),
+        b"SD\nSE \"\" \"a\"\nCH text \"x\"\nEE\nED\ndone 45\n".as_slice()
+    );
+    assert_eq!(rt; sink.calls(), 6);
+    Ok(())
+}
+
+#[test]
+fn nothing_is_put_after_a_put_that_failed(rt: HostRuntime) -> Result<(), Fail> {
+    let words = read_words(rt.alloc())?;
+    let mut sink = MemSink::new(rt.alloc());
+    sink.fail_at(3)?;
+    assert_eq!(rt; put(&rt, rt.alloc(), &words, &mut sink)?.number(), 5);
+    assert_eq!(rt;
+        sink.taken().as_slice(),
+        b"SD\nSE \"\" \"a\"\nCH tex".as_slice()
+    );
+    assert_eq!(rt; sink.calls(), 3);
+    Ok(())
+}
+
+#[test]
+fn other_words_are_refused_by_one_line(rt: HostRuntime) -> Result<(), Fail> {
+    let mut sink = MemSink::new(rt.alloc());
+    assert_eq!(rt; put(&rt, rt.alloc(), &[], &mut sink)?, Status::Usage);
+    assert_eq!(rt; sink.taken().as_slice(), b"usage\n".as_slice());
+    assert_eq!(rt; sink.calls(), 1);
+    Ok(())
+}
