@@ -1,0 +1,5 @@
+pub mod Choosing
+pub mod Matching
+pub mod BuiltIns
+pub mod Books
+pub mod Picking

@@ -1,0 +1,12 @@
+use Rattle.std.proofs.Common.{None, [], ◌∷◌, refl}
+use Rattle.exi_reader.specs.Rules.{start_document}
+use Rattle.exi_choice.proofs.choice.choose_start.Goals as goal
+
+pub returns-in-StartDocument : goal.returns-in-StartDocument
+returns-in-StartDocument c = λ g l. rw c.in-StartDocument.is record {
+  coded = record { parts = 0 ∷ []; item = record { on = start_document; to = 1; inner = None } };
+  first = refl;
+  rule = refl;
+  parts = refl;
+  way = refl;
+}
