@@ -1,0 +1,203 @@
+-- How a writer writes one event: in its own words, and in parts. The parts together are the one event of the definition.
+use Rattle.std.specs.Prelude.{◌≡◌, ◌<◌, ◌+◌, ◌*◌, not, ℕ, Bool, true, false, List, ◌++◌, length, Option, Some, None, Result, Ok, Err, if◌then◌else◌, ◌^◌}
+use Rattle.exi_bits.specs.declared.fault.Kind.{Kind}
+use Rattle.exi_builtin.specs.declared.learnable.Learned.{Learned}
+use Rattle.exi_builtin.specs.declared.learnable.Learned.TheVariants as used
+use Rattle.exi_gram.specs.Books.{IsBook}
+use Rattle.exi_meter.specs.Metering.{Bounds, Metering, with_tally, without_level}
+use Rattle.exi_meter.specs.declared.tally.Tally.{Tally}
+use Rattle.exi_names.specs.declared.names.NameId.{NameId}
+use Rattle.exi_names.specs.declared.names.QName.{QName}
+use Rattle.exi_names.specs.Events.{Happening}
+use Rattle.exi_tables.specs.Partitions.{Partitions}
+use Rattle.exi_reader.specs.Configurations.{Body, Config, Setting, first_config, rules_of}
+use Rattle.exi_reader.specs.declared.start.Start.{Start}
+use Rattle.exi_reader.specs.declared.start.Start.TheVariants as start
+use Rattle.exi_reader.specs.Changes.{enclosing, put_aside, closed, learns, moves, opened, room_in}
+use Rattle.exi_reader.specs.Handing.{AreThere, HasLevels, HasRoom, IsThere, rule_in, CanLearn, learned_by, root_at}
+use Rattle.exi_reader.specs.Sound.{FitsIn, IsSound}
+use Rattle.exi_reader.specs.Plans.{Alone, Plan, alone_in, ended_in, is_event, no_element, plan_of}
+use Rattle.exi_reader.specs.Rules.{Rule, Telling}
+use Rattle.exi_reader.specs.declared.rule.Content.{Content}
+use Rattle.exi_reader.specs.declared.rule.Rule.{Rule as Kept}
+use Rattle.exi_reader.specs.declared.rule.Content.TheVariants as content
+use Rattle.exi_typed.specs.Strings.{Named}
+use Rattle.exi_writing.specs.Pieces.{Piece}
+use Rattle.exi_writing.specs.OneEvent.{Refused, Written, behind_code, by_code, followed, limit, matches, not_derived, padding, written_by}
+use Rattle.exi_toll.specs.declared.stop.PutStop.{PutStop}
+use Rattle.exi_toll.specs.declared.stop.PutStop.TheVariants as stop
+use Rattle.exi_choice.specs.Wanted.{first_for, is_of, picked}
+use Rattle.exi_toll.specs.Charges.{Charged, charge, charge_event, charge_level}
+
+-- what a writer stands for: what is written by, the bits that are written, and how far
+pub record Page : Type 0 where
+  pub setting : Setting
+  pub bits : List Bool
+  pub config : Config
+
+-- more bits are written, and nothing else is changed
+abbrev pub with_bits : Page → List Bool → Page
+with_bits p text = record { setting = p.setting; bits = p.bits ++ text; config = record p.config { place = length (p.bits ++ text) } }
+
+abbrev pub fragment_page : Page → Page
+fragment_page p = record p { config = put_aside p.setting p.config }
+
+abbrev pub by_choice : Setting → Config → Content → Happening → Result Written Refused
+by_choice g c wanted e = by_code g c e (picked g c e (first_for wanted (rules_of g c)))
+
+-- ---- the code of an event
+abbrev pub code_behind : Config → List Bool → Config
+code_behind c code = record c { place = c.place + length code }
+
+-- the production in an event's place, behind its code
+abbrev pub tried : Setting → Config → Rule → List Bool → Happening → Result Written Refused
+tried g c r code e = if matches g c e r then behind_code code (followed (plan_of g c r) (code_behind c code) (written_by g c r e c.tables)) else Err not_derived
+
+pub record MayStand (p : Plan) : Type 0 where
+  pub free : p.barred ≡ None
+  pub placed : p.misplaced ≡ None
+
+-- in the place of a fragment's element nothing else may stand
+abbrev pub no_element_for : Content → Alone → Option Kind
+no_element_for (content.Element own) a = None
+no_element_for wanted a = no_element a
+
+-- the production was found, and its code written
+pub record IsBegun (wanted : Content) (old new : Page) (toll owed : Charged) (rule : Kept) : Type 0 where
+  pub code : List Bool
+  pub is : (e : Happening) → by_choice old.setting old.config wanted e ≡ tried old.setting old.config (rule_in rule) code e
+  pub on : is_of wanted (rule_in rule).on ≡ true
+  pub stands : MayStand (plan_of old.setting old.config (rule_in rule))
+  pub fits : FitsIn old.config.tables old.config.outer old.config.elements (rule_in rule).on rule.to
+  pub element : no_element_for wanted (alone_in old.config.elements old.config.outer) ≡ None
+  pub page : new ≡ record { setting = old.setting; bits = old.bits ++ code; config = code_behind old.config code }
+  pub charged : owed ≡ charge_level (plan_of old.setting old.config (rule_in rule)).entered (charge_event (plan_of old.setting old.config (rule_in rule)).counted toll)
+
+abbrev pub Begins : Content → Result Kept PutStop → Page → Page → Charged → Charged → Type 0
+Begins wanted (Ok rule) old new toll charged = IsBegun wanted old new toll charged rule
+Begins wanted (Err stop.NotDerived) old new toll charged = ((e : Happening) → by_choice old.setting old.config wanted e ≡ Err not_derived)
+Begins wanted (Err (stop.Limit k)) old new toll charged = ⊥
+Begins wanted (Err stop.Memory) old new toll charged = Unit {0}
+
+-- ---- what stands behind the code
+-- more bits are written, and these tables stand
+abbrev pub put_page : Page → List Bool → Partitions → Page
+put_page p text tables = record { setting = p.setting; bits = p.bits ++ text; config = record p.config { place = length (p.bits ++ text); tables = tables } }
+
+-- it was written, and its units are charged; or it has no spelling, and the meter is as it was; or memory was refused
+abbrev pub PutsIn : {A X : Type 0} → Result A PutStop → Option (Piece X) → Page → Page → Charged → Charged → Type 0
+PutsIn {A} {X} (Ok a) w old new toll charged = (piece : Piece X) × (w ≡ Some piece) × (new ≡ put_page old piece.bits piece.tables) × (charged ≡ charge piece.units toll)
+PutsIn (Err stop.NotDerived) w old new toll charged = (w ≡ None) × (new.config.meter ≡ old.config.meter)
+PutsIn (Err (stop.Limit k)) w old new toll charged = ⊥
+PutsIn (Err stop.Memory) w old new toll charged = Unit {0}
+
+abbrev pub id_of : Option (Piece Named) → NameId → Type 0
+id_of None id = Unit {0}
+id_of (Some piece) id = id ≡ piece.item.id
+
+-- ---- an event
+abbrev pub page_behind : Page → Written → Page
+page_behind p w = record { setting = p.setting; bits = p.bits ++ w.bits; config = w.given.1 }
+
+-- it was written, exactly so; or no production stands for it, and nothing is charged; or it passes a limit, and the charges
+-- before stand; or memory was refused
+abbrev pub Writes : {X : Type 0} → Result X PutStop → Page → Page → Result Written Refused → Type 0
+Writes (Ok x) old new w = (v : Written) × (w ≡ Ok v) × (new ≡ page_behind old v)
+Writes (Err stop.NotDerived) old new w = (w ≡ Err not_derived) × (new.config.meter ≡ old.config.meter)
+Writes (Err (stop.Limit k)) old new w = w ≡ Err (limit k new.config.meter)
+Writes (Err stop.Memory) old new w = Unit {0}
+
+-- SC: the body is to be put aside
+abbrev pub WritesFragment : {X : Type 0} → Result X PutStop → Page → Page → Result Written Refused → Type 0
+WritesFragment (Ok x) old new w = (v : Written) × (w ≡ Ok v) × (fragment_page new ≡ page_behind old v)
+WritesFragment (Err stop.NotDerived) old new w = (w ≡ Err not_derived) × (new.config.meter ≡ old.config.meter)
+WritesFragment (Err (stop.Limit k)) old new w = w ≡ Err (limit k new.config.meter)
+WritesFragment (Err stop.Memory) old new w = Unit {0}
+
+-- ---- what an event needs, and writing keeps
+pub record IsReady (p : Page) : Type 0 where
+  pub place : p.config.place ≡ length p.bits
+  pub there : IsThere p.setting p.config.outer
+  pub elements : AreThere p.setting p.config.learned p.config.elements
+  pub room : HasRoom p.config
+  pub levels : HasLevels p.config
+  pub sound : IsSound p.config
+  pub book : IsBook p.setting
+
+-- ---- the start and the ends
+-- a fragment begins at a whole byte
+abbrev pub StartsAt : Start → ℕ → Type 0
+StartsAt start.Body bits = Unit {0}
+StartsAt (start.Fragment byte) bits = 8 * byte ≡ bits
+
+abbrev pub first_page : Setting → Start → Bounds → List Bool → Page
+first_page g s limits head = record { setting = g; bits = head; config = first_config g (length head) s limits }
+
+-- behind ED, the bits of a fragment filled up to a whole byte
+abbrev pub ended_bits : Alone → List Bool → List Bool
+ended_bits a text = text ++ padding (not (is_event a)) (length text)
+
+abbrev pub ended_page : Alone → Page → Page
+ended_page a p = record { setting = p.setting; bits = ended_bits a p.bits; config = record (ended_in a p.config) { place = length (ended_bits a p.bits) } }
+
+abbrev pub resumed_page : Body → Page → Page
+resumed_page b p = record p { config = record p.config { meter = without_level p.config.meter; tables = b.tables; elements = enclosing b.elements; outer = b.outer; learned = b.learned } }
+
+-- behind a fragment that was written apart
+abbrev pub spliced_page : List Bool → Tally → Page → Page
+spliced_page text tally p = record { setting = p.setting; bits = p.bits ++ text; config = record p.config { place = length (p.bits ++ text); meter = without_level (with_tally p.config.meter tally); elements = enclosing p.config.elements; after_start = false } }
+
+-- ---- how an event ends
+-- there is not much yet, and what learns stands
+pub record CanGrow (c : Config) : Type 0 where
+  pub learns : CanLearn (room_in c.elements c.outer) c.learned
+  pub grammars : length c.learned.grammars < 2 ^ 31
+
+-- what is charged enters no level
+abbrev pub KeepsLevel : Metering → Charged → Type 0
+KeepsLevel old (Ok m) = m.level ≡ old.level
+KeepsLevel old (Err why) = Unit {0}
+
+-- the charges are made, and this page stands; or one passes its limit, and those before stand; or memory was refused
+abbrev pub Ends : Result (Unit {0}) PutStop → Page → Charged → (Metering → Page) → Type 0
+Ends (Ok x) new toll next = (m : Metering) × (toll ≡ Ok m) × (new ≡ next m)
+Ends (Err stop.NotDerived) new toll next = ⊥
+Ends (Err (stop.Limit k)) new toll next = toll ≡ Err (limit k new.config.meter)
+Ends (Err stop.Memory) new toll next = Unit {0}
+
+abbrev pub at_config : Page → Config → Page
+at_config p c = record { setting = p.setting; bits = p.bits; config = c }
+
+-- this is charged, and the event is no SE
+abbrev pub paid_config : Metering → Config → Config
+paid_config m c = record c { meter = m; after_start = false }
+
+-- the state that follows
+abbrev pub moved_page : ℕ → Page → Metering → Page
+moved_page to p m = at_config p (moves to (paid_config m p.config))
+
+-- the state learns by the use of a name that is told so
+abbrev pub learned_config : Telling → Learned → Config → Config
+learned_config t u c = record c { learned = learned_by t (room_in c.elements c.outer) u c.learned }
+
+abbrev pub learned_page : Telling → Learned → ℕ → Page → Metering → Page
+learned_page t u to p m = at_config p (moves to (learned_config t u (paid_config m p.config)))
+
+-- the innermost element has ended
+abbrev pub closed_page : Page → Metering → Page
+closed_page p m = at_config p (closed (learns used.Ee (paid_config m p.config)))
+
+-- an element is opened
+abbrev pub rooted_config : QName → Config → Config
+rooted_config name c = record c { root = root_at (alone_in c.elements c.outer) c.aside name c.root }
+
+abbrev pub opened_page : Telling → ℕ → Option ℕ → Named → Page → Metering → Page
+opened_page t to inner n p m = at_config p (record (opened n.id inner (moves to (learned_config t (used.Se n.id) (rooted_config n.name (paid_config m p.config))))) { after_start = is_event (alone_in p.config.elements p.config.outer) })
+
+-- behind ED
+abbrev pub ending_page : Page → Metering → Page
+ending_page p m = ended_page (alone_in p.config.elements p.config.outer) (at_config p (paid_config m p.config))
+
+-- behind SC, up to a whole byte
+abbrev pub padded_page : Page → Metering → Page
+padded_page p m = record { setting = p.setting; bits = p.bits ++ padding true (length p.bits); config = record (paid_config m p.config) { place = length (p.bits ++ padding true (length p.bits)) } }

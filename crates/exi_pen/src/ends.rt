@@ -1,0 +1,128 @@
+ghost use Rattle.std.specs.Prelude.{◌≡◌, ◌<◌, ◌%◌, true, IfOk, OnOk, length};
+ghost use Rattle.exi_bits.specs.Written.{IsWholeBytes};
+ghost use Rattle.exi_gram.specs.Books.{IsBook};
+ghost use Rattle.exi_gram.specs.Switches.{align_of};
+ghost use Rattle.exi_meter.specs.Metering.{IsWithinStream, tally_fits};
+ghost use Rattle.exi_names.specs.StartTables.{IsStart};
+ghost use Rattle.exi_reader.specs.Changes.{innermost, texts_of};
+ghost use Rattle.exi_reader.specs.Handing.{HasLevels, alone_of};
+ghost use Rattle.exi_tables.specs.Partitions.{IsName};
+ghost use Rattle.exi_pen.specs.Pages.{StartsAt, ended_page, first_page, fragment_page, resumed_page, spliced_page};
+
+use crate::pen::Pen;
+use exi_bits::BitOut;
+use exi_builtin::Overlay;
+use exi_gram::Book;
+use exi_meter::{Limits, Meter, Tally};
+use exi_names::{NameId, NameRef, QName};
+use exi_reader::{Alone, Aside, Asides, Elements, Outer, Start, first_outer, first_tables};
+use exi_tables::Tables;
+use std::alloc::{AllocError, Global};
+use std::mem;
+
+/// The name of an element, in memory of its own.
+pub fn copy_name<T: Tables>(tables: &T, name: NameId) -> Result<QName, AllocError>
+    requires name { IsName (T.held tables.now) name }
+    ensures { IfOk result (λ n. n ≡ texts_of (T.held tables.now) name) }
+{
+    let uri = tables.uri_at(name.uri).unwrap();
+    let local = tables.local_at(name.uri, name.local).unwrap();
+    NameRef {
+        uri,
+        local,
+        prefix: None,
+    }
+    .copy()
+}
+
+impl<'a, T: Tables + Drop> Pen<'a, T> {
+    /// Where a body or a fragment begins, behind these bits.
+    pub fn new(
+        alloc: Global,
+        book: &'a Book,
+        limits: Limits,
+        start: Start,
+        head: BitOut,
+    ) -> Result<Pen<'a, T>, AllocError>
+        requires place { StartsAt start (length head) }
+        requires aligned { IsWholeBytes (align_of book.now.options) head }
+        ensures first { IfOk result (λ p. p ≡ first_page book.now start limits head) }
+        ensures within { IfOk result (λ p. IsWithinStream limits) }
+        ensures book { IfOk result (λ p. IsBook book.now) }
+        ensures names { IfOk result (λ p. IsStart book.now.schema.names) }
+    {
+        let tables = first_tables(alloc, book)?;
+        Ok(Pen {
+            alloc,
+            book,
+            start,
+            out: head,
+            meter: Meter::new(limits),
+            tables,
+            elements: Elements::new(alloc),
+            outer: first_outer(book.options(), start),
+            overlay: Overlay::new(alloc),
+            after_start: false,
+            root: None,
+            aside: Asides::new(alloc),
+        })
+    }
+
+    /// Behind ED: the end, or behind a fragment its outer body, whose element has ended too.
+    pub fn end(&mut self, alone: Alone)
+        requires levels { HasLevels self.old.config }
+        ensures { self.new ≡ ended_page (alone_of alone) self.old }
+    {
+        if alone.is_event() {
+            self.outer = Outer::Ended;
+            return;
+        }
+        self.out.pad();
+        match self.aside.pop() {
+            None => self.outer = Outer::Ended,
+            Some(body) => self.resume(body),
+        }
+    }
+
+    /// Takes a body up again that was put aside.
+    fn resume(&mut self, body: Aside<T>)
+        requires level { 0 < self.old.config.meter.level }
+        ensures { self.new ≡ resumed_page body self.old }
+    {
+        let (tables, overlay, elements, outer) = body.into_parts();
+        self.meter.leave();
+        self.tables = tables;
+        self.overlay = overlay;
+        self.elements = elements;
+        self.outer = outer;
+    }
+
+    /// Puts the body aside, and stands in the fragment that begins here.
+    pub fn put_aside(&mut self) -> Result<(), AllocError>
+        requires name { IsName self.old.config.tables (innermost self.old.config.elements) }
+        ensures { OnOk result (self.new ≡ fragment_page self.old) }
+    {
+        let tables = first_tables(self.alloc, self.book)?;
+        let overlay = mem::replace(&mut self.overlay, Overlay::new(self.alloc));
+        let elements = mem::replace(&mut self.elements, Elements::new(self.alloc));
+        let tables = mem::replace(&mut self.tables, tables);
+        let body = Aside::new(tables, overlay, elements, self.outer);
+        self.outer = Outer::AloneStart;
+        self.aside.push(body)
+    }
+
+    /// Takes the bits of a fragment that was written apart, and what it charged: the innermost element has ended.
+    pub fn splice(&mut self, bits: &BitOut, tally: &Tally) -> Result<(), AllocError>
+        requires whole { length bits.now % 8 ≡ 0 }
+        requires fitting { tally_fits self.old.config.meter tally.now ≡ true }
+        requires level { 0 < self.old.config.meter.level }
+        ensures { OnOk result (self.new ≡ spliced_page bits.now tally.now self.old) }
+    {
+        self.out.append(bits)?;
+        self.meter.add(tally);
+        self.meter.leave();
+        self.elements.close();
+        self.after_start = false;
+        Ok(())
+    }
+}

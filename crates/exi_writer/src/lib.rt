@@ -1,0 +1,31 @@
+//! Writing of EXI 1.0 (sections 6, 7.1 and 8.4), for streams without a schema: what it is, what holds of it, and a writer.
+//!
+//! [`write_body`] writes a list of events behind a header's bits. A [`Writer`] takes one event at a time: [`Writer::put`]
+//! writes it, and where it was SC, [`Writer::enter`] goes into the fragment, or [`Writer::splice`] takes what was written of it
+//! apart. Behind the header `80`, the events SD, SE "a", CH "x", EE, ED are `40 98 70 37 80`, bit by bit:
+//!
+//! ```text
+//!        SE(*)                             CH                        EE  ED
+//!   SD   URI   length  "a"                 code  length  "x"         code
+//! +----+----+--------+--------+----------+----+--------+--------+----+----+
+//! |    | 01 |00000010|01100001|          | 11 |00000011|01111000|  0 |    |
+//! +----+----+--------+--------+----------+----+--------+--------+----+----+
+//! 8    8    10       18       26         26   28       36       44   45
+//! ```
+//!
+//! The definitions are in `specs/`: of the productions of a state that may stand for an event, the one with the fewest parts in
+//! its code, and among these the one with the least code; its items by the one spelling that is written; what it charges; and
+//! the next configuration, which is the reader's.
+#![tactic(auto)]
+
+mod body;
+mod fault;
+mod fragments;
+mod start;
+mod writer;
+
+pub use body::write_body;
+pub use exi_toll::PutStop;
+pub use fault::WriteFault;
+pub use start::WriteStart;
+pub use writer::Writer;
