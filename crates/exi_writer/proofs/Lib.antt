@@ -1,6 +1,10 @@
+pub mod Choices
 pub mod Composed
 pub mod Lists
 pub mod Moves
 pub mod Parts
 pub mod Putting
+pub mod SameLists
+pub mod SameOne
+pub mod Sameness
 pub mod Starts

@@ -1,4 +1,4 @@
-//! Writing of EXI 1.0 (sections 6, 7.1 and 8.4), for streams without a schema: what it is, what holds of it, and a writer.
+//! A writer of EXI 1.0 (sections 6, 7.1 and 8.4), for streams without a schema, and what holds of what it writes.
 //!
 //! [`write_body`] writes a list of events behind a header's bits. A [`Writer`] takes one event at a time: [`Writer::put`]
 //! writes it, and where it was SC, [`Writer::enter`] goes into the fragment, or [`Writer::splice`] takes what was written of it
@@ -13,14 +13,16 @@
 //! 8    8    10       18       26         26   28       36       44   45
 //! ```
 //!
-//! The definitions are in `specs/`: of the productions of a state that may stand for an event, the one with the fewest parts in
-//! its code, and among these the one with the least code; its items by the one spelling that is written; what it charges; and
-//! the next configuration, which is the reader's.
+//! What is written is defined in exi_writing: of the productions of a state that may stand for an event, the one with the
+//! fewest parts in its code, and among these the one with the least code; its items by the one spelling that is written; what
+//! it charges; and the next configuration, which is the reader's. The definitions here say what the calls promise, in its
+//! words. [`laws`] says that what is read of a list that was written is that list.
 #![tactic(auto)]
 
 mod body;
 mod fault;
 mod fragments;
+pub mod laws;
 mod start;
 mod writer;
 

@@ -183,8 +183,9 @@ impl<'a, T: Tables + Drop> Writer<'a, T> {
         !self.waits && self.pen.has_ended()
     }
 
-    /// The bits; those of a fragment are whole bytes.
+    /// The bits. The last ED has to be written: of a list that is refused no bits are given out.
     pub fn finish(self) -> BitOut
+        requires ended { has_ended self.config ≡ true }
         ensures { result ≡ self.entry.bits }
     {
         let pen = self.pen;
