@@ -65,3 +65,44 @@ fn other_words_are_refused_by_one_line(rt: HostRuntime) -> Result<(), Fail> {
     assert_eq!(rt; sink.calls(), 1);
     Ok(())
 }
+
+/// Writes the stream of an event text.
+fn written(
+    rt: &(impl Threads + Wait + Sync),
+    alloc: Global,
+    text: &[u8],
+    sink: &mut MemSink,
+) -> Result<Status, AllocError> {
+    let mut shelf = MemShelf::new(alloc);
+    shelf.add_file(Txt::of(alloc, "events")?, Octets::of(alloc, text)?)?;
+    let words = [Txt::of(alloc, "write")?, Txt::of(alloc, "events")?];
+    Ok(run(rt, alloc, &words, &mut shelf, sink, &NoGate))
+}
+
+#[test]
+fn a_stream_is_written_in_one_put(rt: HostRuntime) -> Result<(), Fail> {
+    let text = b"SD\nSE \"\" \"a\"\nCH text \"x\"\nEE\nED\n";
+    let mut sink = MemSink::new(rt.alloc());
+    assert_eq!(rt; written(&rt, rt.alloc(), text, &mut sink)?, Status::Ok);
+    assert_eq!(rt;
+        sink.taken().as_slice(),
+        b"\x80\x40\x98\x70\x37\x80".as_slice()
+    );
+    assert_eq!(rt; sink.calls(), 1);
+    Ok(())
+}
+
+#[test]
+fn nothing_of_a_stream_is_put_where_the_list_ends_early(rt: HostRuntime) -> Result<(), Fail> {
+    let mut sink = MemSink::new(rt.alloc());
+    assert_eq!(rt;
+        written(&rt, rt.alloc(), b"SD\nSE \"\" \"a\"\n", &mut sink)?,
+        Status::Events
+    );
+    assert_eq!(rt;
+        sink.taken().as_slice(),
+        b"events NotDerived 3\n".as_slice()
+    );
+    assert_eq!(rt; sink.calls(), 1);
+    Ok(())
+}

@@ -1,5 +1,5 @@
 -- What the status says, in parts.
-use Rattle.std.proofs.Common.{◌≡◌, ◌≢◌, ◌≤◌, ◌⊎◌, ℕ, List, [], ◌∷◌, ◌++◌, Option, Some, None, Ok, Err, inl, inr, length, take, drop, refl, sym, ap, ◌∙◌, subst, arith}
+use Rattle.std.proofs.Common.{◌≡◌, ◌≢◌, ◌≤◌, ◌⊎◌, ℕ, List, [], ◌∷◌, ◌++◌, Option, Some, None, Result, Ok, Err, inl, inr, length, take, drop, refl, sym, ap, ◌∙◌, subst, arith}
 use Rattle.std.specs.Prelude.{IfSome}
 use Rattle.std.proofs.lemmas.List.{append-nil, take-append-drop}
 use Rattle.exi_gram.specs.declared.options.Options.{Options}
@@ -15,14 +15,17 @@ use Rattle.exi_run.specs.declared.ending.Ending.TheVariants as ending
 use Rattle.exi_run.specs.declared.form.Form.{Form}
 use Rattle.exi_run.specs.declared.status.Status.{Status}
 use Rattle.exi_run.specs.declared.status.Status.TheVariants as status
-use Rattle.exi_run.specs.Answers.{Answered, AnsweredBy, AreWithin, GrowsByLines, HasLong, HasRole, IsAnswered, IsLater, IsLong, IsWithin, MayRefuse, OfStream, RefusalPut, Served, Starves, Tells, no_memory}
-use Rattle.exi_run.specs.Dues.{Due, all_pieces, Files, found, long, failed, OwedBy, OwedFrom, OwedOf, most_bytes, refusal_due, text_of}
+use Rattle.exi_run.specs.Answers.{Answered, AnsweredBy, AreWithin, Ends, GrowsByLines, HasLong, HasRole, IsAnswered, IsLater, IsLong, IsWithin, IsWriting, MayRefuse, OfStream, OfWriting, RefusalPut, Served, Starves, StarvesOnly, Tells, Writes, WritesNone, no_memory}
+use Rattle.exi_run.specs.Dues.{Due, all_pieces, Files, found, long, failed, Owed, OwedBy, OwedFrom, OwedOf, most_bytes, refusal_due, text_due, text_of}
 use Rattle.exi_run.specs.Endings.{status_of}
 use Rattle.exi_run.specs.Printing.{grows_more, grows_none}
-use Rattle.exi_run.specs.Refusals.{refusal_line, refusal_status}
+use Rattle.exi_run.specs.Refusals.{refusal_line, refusal_status, unwritten_line}
 use Rattle.exi_run.specs.Wholes.{IsWhole}
 use Rattle.exi_run.specs.Statuses.{Sort, told, refuses, breaks, starved, sort_of, IsOr, IsTold}
-use Rattle.exi_run.specs.Tasks.{Task, stream, Need, needs, needs_of}
+use Rattle.exi_run.specs.Tasks.{Task, stream, writing, Need, needs, needs_of}
+use Rattle.exi_run.specs.Wishes.{Wish, stream_of, written_for}
+use Rattle.exi_run.specs.declared.unwritten.Unwritten.{Unwritten}
+use Rattle.exi_writing.specs.Runs.{Run}
 use Rattle.exi_run.proofs.Owing.{text-whole, told-said}
 
 -- ---- what may be owed: a refusal's line, or what a command owes whose files were found
@@ -36,16 +39,24 @@ abbrev OneLong : Option Files → List Need → Role → Type 0
 OneLong files [] role = ⊥
 OneLong files (n ∷ ns) role = ((role ≡ n.role) × Fetched files n.name most_bytes fetch.TooLong) ⊎ OneLong files ns role
 
+-- an event text that was found, and is not written
+abbrev TextCause : Option Task → Option Files → Unwritten → Type 0
+TextCause None files why = ⊥
+TextCause (Some (stream f file o)) files why = ⊥
+TextCause (Some (writing file w)) files why = (text : List ℕ) × Fetched files file most_bytes (fetch.Bytes text) × (written_for w text ≡ Err why)
+
 abbrev Causes : Option Task → Option Files → Refusal → Type 0
 Causes t files refusal.Usage = t ≡ None
 Causes t files refusal.ReadFailed = t ≢ None
 Causes t files (refusal.TooLong role) = OneLong files (needs_of t) role
+Causes t files (refusal.Events why) = TextCause t files why
 
 -- of the files
 abbrev FileCauses : Option Files → List Need → Refusal → Type 0
 FileCauses files ns refusal.Usage = ⊥
 FileCauses files ns refusal.ReadFailed = Unit {0}
 FileCauses files ns (refusal.TooLong role) = OneLong files ns role
+FileCauses files ns (refusal.Events why) = ⊥
 
 abbrev IsRefused : Option Files → List Need → Due → Type 0
 IsRefused files ns due = (r : Refusal) × (due ≡ refusal_due r) × FileCauses files ns r
@@ -57,6 +68,7 @@ cause_more : (files : Option Files) (n : Need) (ns : List Need) (r : Refusal) �
 cause_more files n ns refusal.Usage c = absurd c
 cause_more files n ns refusal.ReadFailed c = tt
 cause_more files n ns (refusal.TooLong role) c = inr c
+cause_more files n ns (refusal.Events why) c = absurd c
 
 one_more : (files : Option Files) (n : Need) (ns : List Need) (rest : List (List ℕ) → Type 0) (due : Due) (b : List ℕ) → Fetched files n.name most_bytes (fetch.Bytes b) → AreDone files ns (λ bs. rest (b ∷ bs)) ⊎ IsRefused files ns due → AreDone files (n ∷ ns) rest ⊎ IsRefused files (n ∷ ns) due
 one_more files n ns rest due b had (inl done) = inl (b ∷ done.0, (had, done.1), done.2)
@@ -101,25 +113,49 @@ told_end : (e : Ending) → IsTold (status_of e)
 told_end (ending.Done bit) = refl
 told_end (ending.Fault f) = refl
 
-done_told : (t : Task) (due : Due) (bs : List (List ℕ)) → OwedBy t due bs → IsTold due.status
-done_told (stream f file o) due [] owed = absurd owed
-done_told (stream f file o) due (b ∷ bs) (es, e, w, is) = subst (λ (d : Due). IsTold d.status) (sym is) (told_end e)
+-- why the command's event text is not written
+abbrev WhyOf : Task → List (List ℕ) → Unwritten → Type 0
+WhyOf (stream f file o) bs why = ⊥
+WhyOf (writing file w) [] why = ⊥
+WhyOf (writing file w) (text ∷ bs) why = written_for w text ≡ Err why
 
-came_done : (t : Task) (files : Option Files) (s : Status) (old new : Option (List ℕ)) (due : Due) → AreDone files (needs t) (OwedBy t due) → IsPut s due old new → CameDone (Some t) files s old new
-came_done t files s old new due done p = (due, done, p, subst IsTold p.0 (done_told t due done.0 done.2))
+abbrev WasUnwritten : Task → Due → List (List ℕ) → Type 0
+WasUnwritten t due bs = (why : Unwritten) × (due ≡ refusal_due (refusal.Events why)) × WhyOf t bs why
+
+text_told : (file : List ℕ) (w : Wish) (text : List ℕ) (others : List (List ℕ)) (due : Due) (o : Result Run Unwritten) → written_for w text ≡ o → due ≡ text_due w o → IsTold due.status ⊎ WasUnwritten (writing file w) due (text ∷ others)
+text_told file w text others due (Ok r) is d = inl (subst (λ (x : Due). IsTold x.status) (sym d) refl)
+text_told file w text others due (Err why) is d = inr (why, d, is)
+
+done_told : (t : Task) (due : Due) (bs : List (List ℕ)) → OwedBy t due bs → IsTold due.status ⊎ WasUnwritten t due bs
+done_told (stream f file o) due [] owed = absurd owed
+done_told (stream f file o) due (b ∷ bs) (es, e, w, is) = inl (subst (λ (d : Due). IsTold d.status) (sym is) (told_end e))
+done_told (writing file w) due [] owed = absurd owed
+done_told (writing file w) due (text ∷ bs) owed = text_told file w text bs due (written_for w text) refl owed
 
 refused_put : (s : Status) (old new : Option (List ℕ)) (due : Due) (r : Refusal) → due ≡ refusal_due r → IsPut s due old new → (s ≡ refusal_status r) × Grows old (refusal_line r) new
 refused_put s old new due r is p =
     (sym p.0 ∙ ap (λ (d : Due). d.status) is, subst (λ (t : List ℕ). Grows old t new) (ap (λ (d : Due). text_of (all_pieces d)) is ∙ append-nil (refusal_line r)) p.1)
 
+text_cause : (t : Task) (files : Option Files) (bs : List (List ℕ)) (why : Unwritten) → AreFound files (needs t) bs → WhyOf t bs why → TextCause (Some t) files why
+text_cause (stream f file o) files bs why are w = absurd w
+text_cause (writing file w) files [] why are h = absurd h
+text_cause (writing file w) files (text ∷ bs) why are h = (text, are.0, h)
+
+came_done : (t : Task) (files : Option Files) (s : Status) (old new : Option (List ℕ)) (due : Due) → (done : AreDone files (needs t) (OwedBy t due)) → IsPut s due old new → IsTold due.status ⊎ WasUnwritten t due done.0 → Came (Some t) files s old new
+came_done t files s old new due done p (inl h) = inl (due, done, p, subst IsTold p.0 h)
+came_done t files s old new due done p (inr (why, d, is)) =
+    let put = refused_put s old new due (refusal.Events why) d p in
+    inr (inl (refusal.Events why, text_cause t files done.0 why done.1 is, put.0, put.1))
+
 of_file_cause : (t : Task) (files : Option Files) (r : Refusal) → FileCauses files (needs t) r → Causes (Some t) files r
 of_file_cause t files refusal.Usage c = absurd c
 of_file_cause t files refusal.ReadFailed c = λ h. cc
 of_file_cause t files (refusal.TooLong role) c = c
+of_file_cause t files (refusal.Events why) c = absurd c
 
 came_by : (t : Task) (files : Option Files) (s : Status) (old new : Option (List ℕ)) (due : Due) → (AreDone files (needs t) (OwedBy t due) ⊎ IsRefused files (needs t) due) → (IsPut s due old new ⊎ ((s ≡ status.WriteFault) ⊎ (s ≡ status.NoMemory))) → Came (Some t) files s old new
 came_by t files s old new due o (inr early) = inr (inr early)
-came_by t files s old new due (inl done) (inl p) = inl (came_done t files s old new due done p)
+came_by t files s old new due (inl done) (inl p) = came_done t files s old new due done p (done_told t due done.0 done.2)
 came_by t files s old new due (inr lost) (inl p) = let put = refused_put s old new due lost.0 lost.1 p in inr (inl (lost.0, of_file_cause t files lost.0 lost.2, put.0, put.1))
 
 came_usage : (files : Option Files) (s : Status) (old new : Option (List ℕ)) (due : Due) → due ≡ refusal_due refusal.Usage → (IsPut s due old new ⊎ ((s ≡ status.WriteFault) ⊎ (s ≡ status.NoMemory))) → Came None files s old new
@@ -146,6 +182,7 @@ refusal_untold : (r : Refusal) (s : Status) → s ≡ refusal_status r → IsTol
 refusal_untold refusal.Usage s is h = let x : refuses ≡ told = ap sort_of (sym is) ∙ h in absurd cc
 refusal_untold refusal.ReadFailed s is h = let x : refuses ≡ told = ap sort_of (sym is) ∙ h in absurd cc
 refusal_untold (refusal.TooLong role) s is h = let x : refuses ≡ told = ap sort_of (sym is) ∙ h in absurd cc
+refusal_untold (refusal.Events why) s is h = let x : refuses ≡ told = ap sort_of (sym is) ∙ h in absurd cc
 
 early_untold : (s : Status) → ((s ≡ status.WriteFault) ⊎ (s ≡ status.NoMemory)) → IsTold s → ⊥
 early_untold s (inl is) h = let x : breaks ≡ told = ap sort_of (sym is) ∙ h in absurd cc
@@ -162,6 +199,7 @@ TellsStream f t files s old new = OfStream f t files (λ words bytes. IsTold s �
 
 pub tells : (f : Form) (t : Option Task) (files : Option Files) (rose : Type 0) (s : Status) (old new : Option (List ℕ)) → IsAnswered t files rose s old new → TellsStream f t files s old new
 tells f None files rose s old new a = tt
+tells f (Some (writing name w)) files rose s old new a = tt
 tells f (Some (stream g name words)) None rose s old new a = λ is. tt
 tells f (Some (stream g name words)) (Some held) rose s old new a =
     λ is. subst (λ (h : Form). IfSome (file_at held name) (λ bytes. IsTold s → Tells h words s old new bytes)) (sym is) (tells_by g words name held s old new (came (Some (stream g name words)) (Some held) rose s old new a))
@@ -172,6 +210,7 @@ refused_by files s old new (inl done) = absurd done.1
 refused_by files s old new (inr (inl (refusal.Usage, c, is, g))) = inl is
 refused_by files s old new (inr (inl (refusal.ReadFailed, c, is, g))) = absurd (c refl)
 refused_by files s old new (inr (inl (refusal.TooLong role, c, is, g))) = absurd c
+refused_by files s old new (inr (inl (refusal.Events why, c, is, g))) = absurd c
 refused_by files s old new (inr (inr early)) = inr early
 
 pub refused : (t : Option Task) (files : Option Files) (rose : Type 0) (s : Status) (old new : Option (List ℕ)) → IsAnswered t files rose s old new → t ≡ None → IsOr status.Usage s
@@ -190,6 +229,7 @@ usage_by : (t : Option Task) (files : Option Files) (s : Status) (old new : Opti
 usage_by t files s old new (refusal.Usage, c, is, g) st = c
 usage_by t files s old new (refusal.ReadFailed, c, is, g) st = let x : status.ReadFault ≡ status.Usage = sym is ∙ st in absurd cc
 usage_by t files s old new (refusal.TooLong role, c, is, g) st = let x : status.TooLong ≡ status.Usage = sym is ∙ st in absurd cc
+usage_by t files s old new (refusal.Events why, c, is, g) st = let x : status.Events ≡ status.Usage = sym is ∙ st in absurd cc
 
 pub usage_is : (t : Option Task) (files : Option Files) (rose : Type 0) (s : Status) (old new : Option (List ℕ)) → IsAnswered t files rose s old new → s ≡ status.Usage → t ≡ None
 usage_is t files rose s old new a st = usage_by t files s old new (refusal_of t files s old new (came t files rose s old new a) (ap sort_of st)) st
@@ -208,6 +248,7 @@ long_by : (t : Option Task) (held : Files) (s : Status) (old new : Option (List 
 long_by t held s old new (refusal.Usage, c, is, g) st = let x : status.Usage ≡ status.TooLong = sym is ∙ st in absurd cc
 long_by t held s old new (refusal.ReadFailed, c, is, g) st = let x : status.ReadFault ≡ status.TooLong = sym is ∙ st in absurd cc
 long_by t held s old new (refusal.TooLong role, c, is, g) st = has_long held (needs_of t) role c
+long_by t held s old new (refusal.Events why, c, is, g) st = let x : status.Events ≡ status.TooLong = sym is ∙ st in absurd cc
 
 pub too_long_is : (t : Option Task) (files : Option Files) (rose : Type 0) (s : Status) (old new : Option (List ℕ)) → IsAnswered t files rose s old new → IfSome files (λ held. s ≡ status.TooLong → HasLong held (needs_of t))
 too_long_is t None rose s old new a = tt
@@ -227,6 +268,12 @@ done_short : (t : Option Task) (held : Files) (due : Due) → IsDone t (Some hel
 done_short None held due d l = d
 done_short (Some t) held due d l = none_long held (needs t) d.0 d.1 l
 
+text_short : (t : Option Task) (held : Files) (why : Unwritten) → TextCause t (Some held) why → HasLong held (needs_of t) → ⊥
+text_short None held why c l = c
+text_short (Some (stream f file o)) held why c l = c
+text_short (Some (writing file w)) held why (text, had, is) (inl l) = found_short text (file_at held file) had l
+text_short (Some (writing file w)) held why (text, had, is) (inr l) = l
+
 some_long : (t : Option Task) (held : Files) → HasLong held (needs_of t) → t ≡ None → ⊥
 some_long None held l is = l
 some_long (Some t) held l is = cc
@@ -236,6 +283,7 @@ long_or t held rose s old new (inl done) fell l still = absurd (done_short t hel
 long_or t held rose s old new (inr (inl (refusal.Usage, c, is, g))) fell l still = absurd (some_long t held l c)
 long_or t held rose s old new (inr (inl (refusal.ReadFailed, c, is, g))) fell l still = absurd (still (fell is))
 long_or t held rose s old new (inr (inl (refusal.TooLong role, c, is, g))) fell l still = inl is
+long_or t held rose s old new (inr (inl (refusal.Events why, c, is, g))) fell l still = absurd (text_short t held why c l)
 long_or t held rose s old new (inr (inr early)) fell l still = inr early
 
 pub long_is : (t : Option Task) (files : Option Files) (rose : Type 0) (s : Status) (old new : Option (List ℕ)) → IsAnswered t files rose s old new → (s ≡ status.ReadFault → rose) → IfSome files (λ held. HasLong held (needs_of t) → (rose → ⊥) → IsOr status.TooLong s)
@@ -248,10 +296,16 @@ role_there files [] role l = l
 role_there files (n ∷ ns) role (inl l) = inl l.0
 role_there files (n ∷ ns) role (inr l) = inr (role_there files ns role l)
 
+is_writing : (t : Option Task) (files : Option Files) (why : Unwritten) → TextCause t files why → IsWriting t
+is_writing None files why c = c
+is_writing (Some (stream f file o)) files why c = c
+is_writing (Some (writing file w)) files why c = tt
+
 may_refuse : (t : Option Task) (files : Option Files) (r : Refusal) → Causes t files r → MayRefuse t r
 may_refuse t files refusal.Usage c = c
 may_refuse t files refusal.ReadFailed c = c
 may_refuse t files (refusal.TooLong role) c = role_there files (needs_of t) role c
+may_refuse t files (refusal.Events why) c = is_writing t files why c
 
 pub refusal_is : (t : Option Task) (files : Option Files) (rose : Type 0) (s : Status) (old new : Option (List ℕ)) → IsAnswered t files rose s old new → RefusalPut t s old new
 refusal_is t files rose s old new a =
@@ -260,19 +314,17 @@ refusal_is t files rose s old new a =
 
 refusal_now : (r : Refusal) (s : Status) → s ≡ refusal_status r → IsLater s → ⊥
 refusal_now refusal.Usage s is (inl l) = let x : status.Usage ≡ status.Schema = sym is ∙ l in cc
-refusal_now refusal.Usage s is (inr (inl l)) = let x : status.Usage ≡ status.Events = sym is ∙ l in cc
-refusal_now refusal.Usage s is (inr (inr l)) = let x : status.Usage ≡ status.Hints = sym is ∙ l in cc
+refusal_now refusal.Usage s is (inr l) = let x : status.Usage ≡ status.Hints = sym is ∙ l in cc
 refusal_now refusal.ReadFailed s is (inl l) = let x : status.ReadFault ≡ status.Schema = sym is ∙ l in cc
-refusal_now refusal.ReadFailed s is (inr (inl l)) = let x : status.ReadFault ≡ status.Events = sym is ∙ l in cc
-refusal_now refusal.ReadFailed s is (inr (inr l)) = let x : status.ReadFault ≡ status.Hints = sym is ∙ l in cc
+refusal_now refusal.ReadFailed s is (inr l) = let x : status.ReadFault ≡ status.Hints = sym is ∙ l in cc
 refusal_now (refusal.TooLong role) s is (inl l) = let x : status.TooLong ≡ status.Schema = sym is ∙ l in cc
-refusal_now (refusal.TooLong role) s is (inr (inl l)) = let x : status.TooLong ≡ status.Events = sym is ∙ l in cc
-refusal_now (refusal.TooLong role) s is (inr (inr l)) = let x : status.TooLong ≡ status.Hints = sym is ∙ l in cc
+refusal_now (refusal.TooLong role) s is (inr l) = let x : status.TooLong ≡ status.Hints = sym is ∙ l in cc
+refusal_now (refusal.Events why) s is (inl l) = let x : status.Events ≡ status.Schema = sym is ∙ l in cc
+refusal_now (refusal.Events why) s is (inr l) = let x : status.Events ≡ status.Hints = sym is ∙ l in cc
 
 later_refuses : (s : Status) → IsLater s → sort_of s ≡ refuses
 later_refuses s (inl l) = ap sort_of l
-later_refuses s (inr (inl l)) = ap sort_of l
-later_refuses s (inr (inr l)) = ap sort_of l
+later_refuses s (inr l) = ap sort_of l
 
 pub not_later : (t : Option Task) (files : Option Files) (rose : Type 0) (s : Status) (old new : Option (List ℕ)) → IsAnswered t files rose s old new → IsLater s → ⊥
 not_later t files rose s old new a later =
@@ -289,17 +341,136 @@ within_all held [] role w l = l
 within_all held (n ∷ ns) role w (inl l) = long_within (file_at held n.name) w.0 l.1
 within_all held (n ∷ ns) role w (inr l) = within_all held ns role w.1 l
 
-complete_by : (t : Option Task) (held : Files) (rose out : Type 0) (s : Status) (old new : Option (List ℕ)) → Came t (Some held) s old new → (s ≡ status.ReadFault → rose) → (s ≡ status.WriteFault → out) → t ≢ None → AreWithin held (needs_of t) → (rose → ⊥) → (out → ⊥) → IsTold s ⊎ (s ≡ status.NoMemory)
-complete_by t held rose out s old new (inl done) fell write some w still calm = inl done.3
+-- how a command ends that was done
+ends_text : (w : Wish) (due : Due) (s : Status) (o : Result Run Unwritten) → due ≡ text_due w o → due.status ≡ s → (s ≡ status.Ok) ⊎ (s ≡ status.Events)
+ends_text w due s (Ok r) d is = inl (sym is ∙ ap (λ (x : Due). x.status) d)
+ends_text w due s (Err why) d is = inr (sym is ∙ ap (λ (x : Due). x.status) d)
+
+ends_done : (t : Option Task) (files : Option Files) (due : Due) (s : Status) (old new : Option (List ℕ)) → IsDone t files due → IsPut s due old new → IsTold s → Ends t s
+ends_done None files due s old new done p h = done
+ends_done (Some (stream f file o)) files due s old new done p h = h
+ends_done (Some (writing file w)) files due s old new ([], are, owed) p h = absurd are
+ends_done (Some (writing file w)) files due s old new (text ∷ bs, are, owed) p h = ends_text w due s (written_for w text) owed p.0
+
+ends_refused : (t : Option Task) (files : Option Files) (why : Unwritten) (s : Status) → TextCause t files why → s ≡ status.Events → Ends t s
+ends_refused None files why s c is = c
+ends_refused (Some (stream f file o)) files why s c is = absurd c
+ends_refused (Some (writing file w)) files why s c is = inr is
+
+complete_by : (t : Option Task) (held : Files) (rose out : Type 0) (s : Status) (old new : Option (List ℕ)) → Came t (Some held) s old new → (s ≡ status.ReadFault → rose) → (s ≡ status.WriteFault → out) → t ≢ None → AreWithin held (needs_of t) → (rose → ⊥) → (out → ⊥) → Ends t s ⊎ (s ≡ status.NoMemory)
+complete_by t held rose out s old new (inl (due, done, p, h)) fell write some w still calm = inl (ends_done t (Some held) due s old new done p h)
 complete_by t held rose out s old new (inr (inl (refusal.Usage, c, is, g))) fell write some w still calm = absurd (some c)
 complete_by t held rose out s old new (inr (inl (refusal.ReadFailed, c, is, g))) fell write some w still calm = absurd (still (fell is))
 complete_by t held rose out s old new (inr (inl (refusal.TooLong role, c, is, g))) fell write some w still calm = absurd (within_all held (needs_of t) role w c)
+complete_by t held rose out s old new (inr (inl (refusal.Events why, c, is, g))) fell write some w still calm = inl (ends_refused t (Some held) why s c is)
 complete_by t held rose out s old new (inr (inr (inl b))) fell write some w still calm = absurd (calm (write b))
 complete_by t held rose out s old new (inr (inr (inr m))) fell write some w still calm = inr m
 
-pub completes : (t : Option Task) (files : Option Files) (rose out : Type 0) (s : Status) (old new : Option (List ℕ)) → IsAnswered t files rose s old new → (s ≡ status.ReadFault → rose) → (s ≡ status.WriteFault → out) → IfSome files (λ held. t ≢ None → AreWithin held (needs_of t) → (rose → ⊥) → (out → ⊥) → IsTold s ⊎ (s ≡ status.NoMemory))
+pub completes : (t : Option Task) (files : Option Files) (rose out : Type 0) (s : Status) (old new : Option (List ℕ)) → IsAnswered t files rose s old new → (s ≡ status.ReadFault → rose) → (s ≡ status.WriteFault → out) → IfSome files (λ held. t ≢ None → AreWithin held (needs_of t) → (rose → ⊥) → (out → ⊥) → Ends t s ⊎ (s ≡ status.NoMemory))
 completes t None rose out s old new a fell write = tt
 completes t (Some held) rose out s old new a fell write = λ some w still calm. complete_by t held rose out s old new (came t (Some held) rose s old new a) fell write some w still calm
+
+-- ---- a stream that is written
+-- of a text that was found, by what is written of it
+written_text : (w : Wish) (text : List ℕ) (due : Due) (s : Status) (old new : Option (List ℕ)) (o : Result Run Unwritten) → written_for w text ≡ o → due ≡ text_due w o → IsPut s due old new → s ≡ status.Ok → Writes w old new text
+written_text w text due s old new (Ok r) is d p ok = (r, is, subst (λ (t : List ℕ). Grows old t new) (ap (λ (x : Due). text_of (all_pieces x)) d ∙ append-nil (stream_of w r)) p.1)
+written_text w text due s old new (Err why) is d p ok = let x : status.Events ≡ status.Ok = sym (ap (λ (x : Due). x.status) d) ∙ p.0 ∙ ok in absurd cc
+
+writes_file : (w : Wish) (name : List ℕ) (held : Files) (s : Status) (old new : Option (List ℕ)) (b : List ℕ) (due : Due) (file : Option (List ℕ)) → file_at held name ≡ file → file_at held name ≡ Some b → due ≡ text_due w (written_for w b) → IsPut s due old new → IfSome file (λ text. s ≡ status.Ok → Writes w old new text)
+writes_file w name held s old new b due None is at d p = tt
+writes_file w name held s old new b due (Some text) is at d p =
+    let same : Some b ≡ Some text = sym at ∙ is in
+    let b_is : b ≡ text = cc in
+    λ ok. subst (λ (x : List ℕ). Writes w old new x) b_is (written_text w b due s old new (written_for w b) refl d p ok)
+
+not_ok : (w : Wish) (s : Status) (file : Option (List ℕ)) (old new : Option (List ℕ)) → (IsTold s → ⊥) → IfSome file (λ text. s ≡ status.Ok → Writes w old new text)
+not_ok w s None old new never = tt
+not_ok w s (Some text) old new never = λ ok. absurd (never (ap sort_of ok))
+
+writes_by : (w : Wish) (name : List ℕ) (held : Files) (s : Status) (old new : Option (List ℕ)) → Came (Some (writing name w)) (Some held) s old new → IfSome (file_at held name) (λ text. s ≡ status.Ok → Writes w old new text)
+writes_by w name held s old new (inl (due, ([], are, o), p, h)) = absurd are
+writes_by w name held s old new (inl (due, (b ∷ bs, are, o), p, h)) = writes_file w name held s old new b due (file_at held name) refl are.0.0 o p
+writes_by w name held s old new (inr (inl lost)) = not_ok w s (file_at held name) old new (refusal_untold lost.0 s lost.2)
+writes_by w name held s old new (inr (inr early)) = not_ok w s (file_at held name) old new (early_untold s early)
+
+pub writes : (t : Option Task) (files : Option Files) (rose : Type 0) (s : Status) (old new : Option (List ℕ)) → IsAnswered t files rose s old new → OfWriting t files (λ w text. s ≡ status.Ok → Writes w old new text)
+writes None files rose s old new a = tt
+writes (Some (stream f name o)) files rose s old new a = tt
+writes (Some (writing name w)) None rose s old new a = tt
+writes (Some (writing name w)) (Some held) rose s old new a = writes_by w name held s old new (came (Some (writing name w)) (Some held) rose s old new a)
+
+-- ---- an event text that is not written
+none_file : (w : Wish) (name : List ℕ) (held : Files) (old new : Option (List ℕ)) (b : List ℕ) (why : Unwritten) (file : Option (List ℕ)) → file_at held name ≡ file → file_at held name ≡ Some b → written_for w b ≡ Err why → Grows old (unwritten_line why) new → IfSome file (λ text. WritesNone w old new text)
+none_file w name held old new b why None is at e g = tt
+none_file w name held old new b why (Some text) is at e g =
+    let same : Some b ≡ Some text = sym at ∙ is in
+    let b_is : b ≡ text = cc in
+    subst (λ (x : List ℕ). WritesNone w old new x) b_is (why, e, g)
+
+after_events : (w : Wish) (s : Status) (file : Option (List ℕ)) (old new : Option (List ℕ)) → IfSome file (λ text. WritesNone w old new text) → IfSome file (λ text. s ≡ status.Events → WritesNone w old new text)
+after_events w s None old new h = tt
+after_events w s (Some text) old new h = λ is. h
+
+not_events : (w : Wish) (s : Status) (file : Option (List ℕ)) (old new : Option (List ℕ)) → (s ≡ status.Events → ⊥) → IfSome file (λ text. s ≡ status.Events → WritesNone w old new text)
+not_events w s None old new never = tt
+not_events w s (Some text) old new never = λ is. absurd (never is)
+
+told_no_events : (s : Status) → IsTold s → s ≡ status.Events → ⊥
+told_no_events s h is = let x : refuses ≡ told = ap sort_of (sym is) ∙ h in cc
+
+none_by : (w : Wish) (name : List ℕ) (held : Files) (s : Status) (old new : Option (List ℕ)) → Came (Some (writing name w)) (Some held) s old new → IfSome (file_at held name) (λ text. s ≡ status.Events → WritesNone w old new text)
+none_by w name held s old new (inl (due, done, p, h)) = not_events w s (file_at held name) old new (told_no_events s h)
+none_by w name held s old new (inr (inl (refusal.Usage, c, is, g))) = not_events w s (file_at held name) old new (λ e. let x : status.Usage ≡ status.Events = sym is ∙ e in cc)
+none_by w name held s old new (inr (inl (refusal.ReadFailed, c, is, g))) = not_events w s (file_at held name) old new (λ e. let x : status.ReadFault ≡ status.Events = sym is ∙ e in cc)
+none_by w name held s old new (inr (inl (refusal.TooLong role, c, is, g))) = not_events w s (file_at held name) old new (λ e. let x : status.TooLong ≡ status.Events = sym is ∙ e in cc)
+none_by w name held s old new (inr (inl (refusal.Events why, (b, had, e), is, g))) = after_events w s (file_at held name) old new (none_file w name held old new b why (file_at held name) refl had.0 e g)
+none_by w name held s old new (inr (inr (inl b))) = not_events w s (file_at held name) old new (λ e. let x : status.WriteFault ≡ status.Events = sym b ∙ e in cc)
+none_by w name held s old new (inr (inr (inr m))) = not_events w s (file_at held name) old new (λ e. let x : status.NoMemory ≡ status.Events = sym m ∙ e in cc)
+
+pub writes_none : (t : Option Task) (files : Option Files) (rose : Type 0) (s : Status) (old new : Option (List ℕ)) → IsAnswered t files rose s old new → OfWriting t files (λ w text. s ≡ status.Events → WritesNone w old new text)
+writes_none None files rose s old new a = tt
+writes_none (Some (stream f name o)) files rose s old new a = tt
+writes_none (Some (writing name w)) None rose s old new a = tt
+writes_none (Some (writing name w)) (Some held) rose s old new a = none_by w name held s old new (came (Some (writing name w)) (Some held) rose s old new a)
+
+events_by : (t : Option Task) (files : Option Files) (s : Status) (old new : Option (List ℕ)) → CameRefused t files s old new → s ≡ status.Events → IsWriting t
+events_by t files s old new (refusal.Usage, c, is, g) e = let x : status.Usage ≡ status.Events = sym is ∙ e in absurd cc
+events_by t files s old new (refusal.ReadFailed, c, is, g) e = let x : status.ReadFault ≡ status.Events = sym is ∙ e in absurd cc
+events_by t files s old new (refusal.TooLong role, c, is, g) e = let x : status.TooLong ≡ status.Events = sym is ∙ e in absurd cc
+events_by t files s old new (refusal.Events why, c, is, g) e = is_writing t files why c
+
+pub events_is : (t : Option Task) (files : Option Files) (rose : Type 0) (s : Status) (old new : Option (List ℕ)) → IsAnswered t files rose s old new → s ≡ status.Events → IsWriting t
+events_is t files rose s old new a e = events_by t files s old new (refusal_of t files s old new (came t files rose s old new a) (ap sort_of e)) e
+
+-- ---- no memory
+no_lines : (w : Wish) (o : Result Run Unwritten) → (text_due w o).lines ≡ []
+no_lines w (Ok r) = refl
+no_lines w (Err why) = refl
+
+owed_lines : (w : Wish) (name : List ℕ) (files : Option Files) (rose : Type 0) (due : Due) → Owed (Some (writing name w)) files rose due → due.lines ≡ []
+owed_lines w name files rose due (found b, had, is) = ap (λ (x : Due). x.lines) is ∙ no_lines w (written_for w b)
+owed_lines w name files rose due (long, had, is) = ap (λ (x : Due). x.lines) is
+owed_lines w name files rose due (failed, had, is) = ap (λ (x : Due). x.lines) is
+
+by_no_lines : (old new : Option (List ℕ)) (text : List ℕ) → GrowsByLines old [] text new → Grows old text new
+by_no_lines old new text ([], others, is, g) = g
+by_no_lines old new text (l ∷ some, others, is, g) = absurd cc
+
+grows_nothing : (old new : Option (List ℕ)) → Grows old [] new → new ≡ old
+grows_nothing None new g = g
+grows_nothing (Some o) new g = g ∙ ap (λ (t : List ℕ). Some t) (append-nil o)
+
+starves_at : (due : Due) (old new : Option (List ℕ)) → due.lines ≡ [] → AnsweredBy starved due status.NoMemory old new → (new ≡ old) ⊎ Grows old no_memory new
+starves_at due old new none (inl g) = inl (grows_nothing old new (by_no_lines old new [] (subst (λ (l : List (List ℕ)). GrowsByLines old l [] new) none g)))
+starves_at due old new none (inr g) = inr (by_no_lines old new no_memory (subst (λ (l : List (List ℕ)). GrowsByLines old l no_memory new) none g))
+
+starves_now : (due : Due) (s : Status) (old new : Option (List ℕ)) → due.lines ≡ [] → Answered due s old new → StarvesOnly s old new
+starves_now due s old new none a = λ is. starves_at due old new none (subst (λ (x : Status). Answered due x old new) is a)
+
+pub starves_is : (t : Option Task) (files : Option Files) (rose : Type 0) (s : Status) (old new : Option (List ℕ)) → IsAnswered t files rose s old new → IsWriting t → StarvesOnly s old new
+starves_is None files rose s old new a w = absurd w
+starves_is (Some (stream f name o)) files rose s old new a w = absurd w
+starves_is (Some (writing name x)) files rose s old new (due, owed, a) w = starves_now due s old new (owed_lines x name files rose due owed) a
 
 -- ---- from what was done to the answer
 answered_told : (s : Status) (due : Due) (old new : Option (List ℕ)) → IsTold s → IsPut s due old new → Answered due s old new
@@ -333,6 +504,7 @@ pub refused_all : (r : Refusal) (old new : Option (List ℕ)) → Grows old (ref
 refused_all refusal.Usage old new g = (refl, subst (λ (t : List ℕ). Grows old t new) (sym (append-nil (refusal_line refusal.Usage))) g)
 refused_all refusal.ReadFailed old new g = (refl, subst (λ (t : List ℕ). Grows old t new) (sym (append-nil (refusal_line refusal.ReadFailed))) g)
 refused_all (refusal.TooLong role) old new g = (refl, subst (λ (t : List ℕ). Grows old t new) (sym (append-nil (refusal_line (refusal.TooLong role)))) g)
+refused_all (refusal.Events why) old new g = (refl, subst (λ (t : List ℕ). Grows old t new) (sym (append-nil (refusal_line (refusal.Events why)))) g)
 
 pub refused_part : (r : Refusal) (old new : Option (List ℕ)) → GrowsInPart old (refusal_line r) new → Answered (refusal_due r) status.WriteFault old new
 refused_part r old new p =

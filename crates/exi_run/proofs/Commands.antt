@@ -4,7 +4,7 @@ use Rattle.std.specs.Prelude.{false, ◌&&◌, ◌==◌, is_some, option_copied}
 use Rattle.std.specs.Borrow.{Bor}
 use Rattle.exi_names.specs.Characters.{is_xml_char}
 use Rattle.exi_run.specs.declared.words.Next.{Next}
-use Rattle.exi_run.specs.Tasks.{form_of, task_by, task_of}
+use Rattle.exi_run.specs.Tasks.{task_by, task_of, verb_of}
 use Rattle.exi_run.specs.Words.{Given, are_few_xml, given_by, is_hyphened, text, word_taken, words_taken}
 
 -- ---- a schema's name
@@ -25,7 +25,7 @@ pub words_first : (g : Given) (n : Next) (ws others : List (List ℕ)) (word d :
 words_first g n [] others word d few w o = absurd (omega (arith, few))
 words_first g n (x ∷ xs) others word d few w o = rw (w, o) refl
 
-pub task_first : (ws others : List (List ℕ)) (word d : List ℕ) → 1 ≤ length ws → word ≡ get_or ws 0 d → others ≡ drop 1 ws → task_of ws ≡ task_by (form_of (text word)) (given_by others)
+pub task_first : (ws others : List (List ℕ)) (word d : List ℕ) → 1 ≤ length ws → word ≡ get_or ws 0 d → others ≡ drop 1 ws → task_of ws ≡ task_by (verb_of (text word)) (given_by others)
 task_first [] others word d few w o = absurd (omega (arith, few))
 task_first (x ∷ xs) others word d few w o = rw (w, o) refl
 

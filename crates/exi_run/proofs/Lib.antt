@@ -1,7 +1,11 @@
 pub mod Commands
+pub mod Named
 pub mod Wholes
 pub mod Printed
 pub mod Owing
 pub mod Bodies
+pub mod Writes
+pub mod Places
+pub mod Backs
 pub mod Serving
 pub mod Answering

@@ -13,9 +13,10 @@ use Rattle.exi_run.specs.declared.halt.Role.TheVariants as role
 use Rattle.exi_run.specs.declared.status.Status.{Status}
 use Rattle.exi_names.specs.Events.{Happening, Grows}
 use Rattle.exi_run.specs.Printing.{grows_none}
-use Rattle.exi_run.specs.Answers.{Fetches, GrowsByFront, Served}
-use Rattle.exi_run.specs.Dues.{Due, Files, Had, found, long, failed, IsHad, Owed, most_bytes, refusal_due, whole_due}
-use Rattle.exi_run.specs.Tasks.{stream}
+use Rattle.exi_run.specs.Answers.{DidWrite, Fetches, GrowsByFront, Served}
+use Rattle.exi_run.specs.Dues.{Due, Files, Had, found, long, failed, IsHad, Owed, most_bytes, refusal_due, text_due, whole_due}
+use Rattle.exi_run.specs.Tasks.{stream, writing}
+use Rattle.exi_run.specs.Wishes.{Wish, written_for}
 use Rattle.exi_run.specs.Wholes.{IsWhole}
 use Rattle.exi_run.specs.declared.ending.Ending.{Ending}
 use Rattle.exi_run.proofs.Owing.{OwesDid}
@@ -52,10 +53,31 @@ pub served_none : IsThere → (f : Form) (words : Options) (name : List ℕ) (fi
 served_none there f words name files rose (halt.Refused refusal.Usage) old fetched = absurd fetched
 served_none there f words name files rose (halt.Refused refusal.ReadFailed) old fetched = (refusal_due refusal.ReadFailed, (failed, fetched, refl), (refl, refl))
 served_none there f words name files rose (halt.Refused (refusal.TooLong r)) old fetched = (refusal_due (refusal.TooLong r), (long, fetched.1, ap (λ x. refusal_due (refusal.TooLong x)) fetched.0), (refl, refl))
+served_none there f words name files rose (halt.Refused (refusal.Events why)) old fetched = absurd fetched
 served_none there f words name files rose halt.Write old fetched = absurd fetched
 served_none there f words name files rose halt.Memory old fetched =
     let h = had_one files rose name in
     let o = stream_owes there f words name files rose h.0 h.1 in
+    (o.0, o.1, ([], o.0.lines, refl, grows_none old))
+
+-- ---- of an event text
+pub served_text : (w : Wish) (name : List ℕ) (files : Option Files) (rose : Type 0) (text : List ℕ) (r : Result Status Halt) (old new : Option (List ℕ)) → IsHad files rose name (found text) → DidWrite w text r old new → Served (Some (writing name w)) files rose r old new
+served_text w name files rose text r old new had did = (text_due w (written_for w text), (found text, had, refl), did)
+
+text_owes : (w : Wish) (name : List ℕ) (files : Option Files) (rose : Type 0) (h : Had) → IsHad files rose name h → (due : Due) × Owed (Some (writing name w)) files rose due
+text_owes w name files rose (found text) had = (text_due w (written_for w text), (found text, had, refl))
+text_owes w name files rose long had = (refusal_due (refusal.TooLong role.Input), (long, had, refl))
+text_owes w name files rose failed had = (refusal_due refusal.ReadFailed, (failed, had, refl))
+
+pub text_unserved : (w : Wish) (name : List ℕ) (files : Option Files) (rose : Type 0) (h : Halt) (old : Option (List ℕ)) → Fetches files rose name role.Input (Err h) → Served (Some (writing name w)) files rose (Err h) old old
+text_unserved w name files rose (halt.Refused refusal.Usage) old fetched = absurd fetched
+text_unserved w name files rose (halt.Refused refusal.ReadFailed) old fetched = (refusal_due refusal.ReadFailed, (failed, fetched, refl), (refl, refl))
+text_unserved w name files rose (halt.Refused (refusal.TooLong r)) old fetched = (refusal_due (refusal.TooLong r), (long, fetched.1, ap (λ x. refusal_due (refusal.TooLong x)) fetched.0), (refl, refl))
+text_unserved w name files rose (halt.Refused (refusal.Events why)) old fetched = absurd fetched
+text_unserved w name files rose halt.Write old fetched = absurd fetched
+text_unserved w name files rose halt.Memory old fetched =
+    let h = had_one files rose name in
+    let o = text_owes w name files rose h.0 h.1 in
     (o.0, o.1, ([], o.0.lines, refl, grows_none old))
 
 -- ---- the names asked

@@ -1,7 +1,9 @@
 -- What was done of what is owed, and what each status says of it.
-use Rattle.std.specs.Prelude.{◌≡◌, ◌≢◌, ◌⊎◌, ℕ, ◌<◌, ◌≤◌, List, [], ◌∷◌, ◌++◌, length, Option, Some, None, IfSome, Result, Ok, Err, codes}
+use Rattle.std.specs.Prelude.{◌≡◌, ◌≢◌, ◌⊎◌, ℕ, ◌<◌, ◌≤◌, Bool, List, [], ◌∷◌, ◌++◌, length, Option, Some, None, IfSome, Result, Ok, Err, codes}
 use Rattle.exi_gram.specs.declared.options.Options.{Options}
 use Rattle.exi_names.specs.Events.{Happening, Grows}
+use Rattle.exi_names.specs.Lists as lists
+use Rattle.exi_names.specs.declared.event_list.EventList.{EventList}
 use Rattle.exi_ports.specs.Ports.{file_at, GrowsInPart}
 use Rattle.exi_run.specs.declared.form.Form.{Form}
 use Rattle.exi_run.specs.declared.halt.Halt.{Halt}
@@ -12,13 +14,17 @@ use Rattle.exi_run.specs.declared.halt.Role.{Role}
 use Rattle.exi_run.specs.declared.ending.Ending.{Ending}
 use Rattle.exi_run.specs.declared.status.Status.{Status}
 use Rattle.exi_run.specs.declared.status.Status.TheVariants as status
-use Rattle.exi_run.specs.Dues.{Due, all_pieces, text_of, refusal_due, Files, most_bytes, found, long, failed, IsHad, Owed}
-use Rattle.exi_run.specs.Refusals.{refusal_line, refusal_status}
+use Rattle.exi_run.specs.declared.unwritten.Unwritten.{Unwritten}
+use Rattle.exi_run.specs.declared.unwritten.Unwritten.TheVariants as unwritten
+use Rattle.exi_run.specs.Dues.{Due, all_pieces, text_of, refusal_due, text_due, Files, most_bytes, found, long, failed, IsHad, Owed}
+use Rattle.exi_run.specs.Refusals.{refusal_line, refusal_status, unwritten_line}
 use Rattle.exi_run.specs.Wholes.{IsWhole, IsFront}
-use Rattle.exi_run.specs.Statuses.{Sort, told, refuses, breaks, starved, sort_of}
-use Rattle.exi_run.specs.Tasks.{Task, stream, Need, needs_of}
+use Rattle.exi_run.specs.Statuses.{IsTold, Sort, told, refuses, breaks, starved, sort_of}
+use Rattle.exi_run.specs.Tasks.{Task, stream, writing, Need, needs_of}
+use Rattle.exi_run.specs.Wishes.{Wish, head_bits, stream_of, written_for}
 use Rattle.exi_run.specs.Endings.{status_of}
 use Rattle.exi_run.specs.Forms.{all_said, told_as}
+use Rattle.exi_writing.specs.Runs.{Run}
 
 -- ---- what was done
 abbrev pub no_memory : List ℕ
@@ -69,6 +75,7 @@ Fetches files rose name role (Ok bytes) = IsHad files rose name (found bytes)
 Fetches files rose name role (Err (halt.Refused refusal.Usage)) = ⊥
 Fetches files rose name role (Err (halt.Refused refusal.ReadFailed)) = IsHad files rose name failed
 Fetches files rose name role (Err (halt.Refused (refusal.TooLong r))) = (r ≡ role) × IsHad files rose name long
+Fetches files rose name role (Err (halt.Refused (refusal.Events why))) = ⊥
 Fetches files rose name role (Err halt.Write) = ⊥
 Fetches files rose name role (Err halt.Memory) = Unit {0}
 
@@ -86,6 +93,25 @@ DidLast ps (Err (halt.Refused r)) old new = ⊥
 DidLast ps (Err halt.Write) old new = GrowsByFront old (text_of ps) new
 DidLast ps (Err halt.Memory) old new = new ≡ old
 
+-- ---- of a stream that is written
+-- the events that a text says, or the line that says none
+abbrev pub Lists : Result EventList Halt → Result (List Happening) ℕ → Type 0
+Lists (Ok list) read = read ≡ Ok (lists.events_of list)
+Lists (Err (halt.Refused r)) read = (line : ℕ) × (r ≡ refusal.Events (unwritten.Syntax line)) × (read ≡ Err line)
+Lists (Err halt.Write) read = ⊥
+Lists (Err halt.Memory) read = Unit {0}
+
+-- the bits of header and body, or why there are none
+abbrev pub Composes : Wish → List ℕ → Result (List Bool) Halt → Type 0
+Composes w text (Ok out) = (r : Run) × (written_for w text ≡ Ok r) × (out ≡ head_bits w ++ r.bits)
+Composes w text (Err (halt.Refused r)) = (why : Unwritten) × (r ≡ refusal.Events why) × (written_for w text ≡ Err why)
+Composes w text (Err halt.Write) = ⊥
+Composes w text (Err halt.Memory) = Unit {0}
+
+-- the stream was put, or nothing of it
+abbrev pub DidWrite : Wish → List ℕ → Result Status Halt → Option (List ℕ) → Option (List ℕ) → Type 0
+DidWrite w text r old new = Did (text_due w (written_for w text)) r old new
+
 -- ---- what a status says, in parts
 -- a fact of the bytes of a file, where the shelf tells them
 abbrev pub OfFile : Option (List ℕ) → Option Files → (List ℕ → Type 0) → Type 0
@@ -95,10 +121,40 @@ OfFile name files P = IfSome name (λ n. IfSome files (λ held. IfSome (file_at 
 abbrev pub OfStream : Form → Option Task → Option Files → (Options → List ℕ → Type 0) → Type 0
 OfStream f None files P = Unit {0}
 OfStream f (Some (stream g file o)) files P = f ≡ g → OfFile (Some file) files (P o)
+OfStream f (Some (writing file w)) files P = Unit {0}
+
+-- a fact of a stream that is written: of what is asked for, and the bytes of its event text
+abbrev pub OfWriting : Option Task → Option Files → (Wish → List ℕ → Type 0) → Type 0
+OfWriting None files P = Unit {0}
+OfWriting (Some (stream f file o)) files P = Unit {0}
+OfWriting (Some (writing file w)) files P = OfFile (Some file) files (P w)
 
 -- the sink took the whole of what the form tells of these bytes, and the status is that of their end
 abbrev pub Tells : Form → Options → Status → Option (List ℕ) → Option (List ℕ) → List ℕ → Type 0
 Tells f words s old new bytes = (es : List Happening) × (e : Ending) × IsWhole words bytes es e × (s ≡ status_of e) × Grows old (told_as f es e) new
+
+-- the sink took the stream of a text, header and body
+abbrev pub Writes : Wish → Option (List ℕ) → Option (List ℕ) → List ℕ → Type 0
+Writes w old new text = (r : Run) × (written_for w text ≡ Ok r) × Grows old (stream_of w r) new
+
+-- there is none, and the sink took the line that says why
+abbrev pub WritesNone : Wish → Option (List ℕ) → Option (List ℕ) → List ℕ → Type 0
+WritesNone w old new text = (why : Unwritten) × (written_for w text ≡ Err why) × Grows old (unwritten_line why) new
+
+abbrev pub IsWriting : Option Task → Type 0
+IsWriting None = ⊥
+IsWriting (Some (stream f file o)) = ⊥
+IsWriting (Some (writing file w)) = Unit {0}
+
+-- no memory was found: the line that says so, or nothing, was put
+abbrev pub StarvesOnly : Status → Option (List ℕ) → Option (List ℕ) → Type 0
+StarvesOnly s old new = s ≡ status.NoMemory → (new ≡ old) ⊎ Grows old no_memory new
+
+-- how a command ends that is not refused for its words or its files
+abbrev pub Ends : Option Task → Status → Type 0
+Ends None s = ⊥
+Ends (Some (stream f file o)) s = IsTold s
+Ends (Some (writing file w)) s = (s ≡ status.Ok) ⊎ (s ≡ status.Events)
 
 -- a file that is told is longer than the limit
 abbrev pub IsLong : Option (List ℕ) → Type 0
@@ -118,7 +174,7 @@ abbrev pub AreWithin : Files → List Need → Type 0
 AreWithin held [] = Unit {0}
 AreWithin held (n ∷ ns) = IsWithin (file_at held n.name) × AreWithin held ns
 
--- what may refuse: that the words are no command; a file of one that could not be read or is too long
+-- what may refuse: that the words are no command; a file of one that could not be read or is too long; an event text that is not written
 abbrev pub HasRole : List Need → Role → Type 0
 HasRole [] role = ⊥
 HasRole (n ∷ ns) role = (role ≡ n.role) ⊎ HasRole ns role
@@ -127,6 +183,7 @@ abbrev pub MayRefuse : Option Task → Refusal → Type 0
 MayRefuse t refusal.Usage = t ≡ None
 MayRefuse t refusal.ReadFailed = t ≢ None
 MayRefuse t (refusal.TooLong role) = HasRole (needs_of t) role
+MayRefuse t (refusal.Events why) = IsWriting t
 
 -- a status that refuses: the line of its refusal, and nothing else, was put
 abbrev pub RefusalPut : Option Task → Status → Option (List ℕ) → Option (List ℕ) → Type 0
@@ -134,4 +191,4 @@ RefusalPut t s old new = sort_of s ≡ refuses → (r : Refusal) × MayRefuse t 
 
 -- statuses of commands that are not there yet
 abbrev pub IsLater : Status → Type 0
-IsLater s = (s ≡ status.Schema) ⊎ ((s ≡ status.Events) ⊎ (s ≡ status.Hints))
+IsLater s = (s ≡ status.Schema) ⊎ (s ≡ status.Hints)

@@ -1,5 +1,5 @@
 -- What the program owes for its words, its files and its stream.
-use Rattle.std.specs.Prelude.{◌≡◌, ◌⊎◌, ℕ, List, [], ◌∷◌, ◌++◌, Option, Some, None}
+use Rattle.std.specs.Prelude.{◌≡◌, ◌⊎◌, ℕ, List, [], ◌∷◌, ◌++◌, Option, Some, None, Result, Ok, Err}
 use Rattle.std.specs.List.{flat_map}
 use Rattle.exi_gram.specs.declared.options.Options.{Options}
 use Rattle.exi_names.specs.Events.{Happening}
@@ -12,10 +12,14 @@ use Rattle.exi_run.specs.declared.halt.Refusal.TheVariants as refusal
 use Rattle.exi_run.specs.declared.halt.Role.{Role}
 use Rattle.exi_run.specs.declared.ending.Ending.{Ending}
 use Rattle.exi_run.specs.declared.status.Status.{Status}
+use Rattle.exi_run.specs.declared.status.Status.TheVariants as status
+use Rattle.exi_run.specs.declared.unwritten.Unwritten.{Unwritten}
 use Rattle.exi_run.specs.Refusals.{refusal_line, refusal_status}
 use Rattle.exi_run.specs.Wholes.{IsWhole}
-use Rattle.exi_run.specs.Tasks.{Task, stream, Need, needs}
+use Rattle.exi_run.specs.Wishes.{Wish, stream_of, written_for}
+use Rattle.exi_run.specs.Tasks.{Task, stream, writing, Need, needs}
 use Rattle.exi_run.specs.Endings.{status_of}
+use Rattle.exi_writing.specs.Runs.{Run}
 use Rattle.exi_run.specs.Forms.{pieces, last_pieces}
 
 -- the pieces that are owed, each in one put: lines, and then a last one or none; and the status behind them
@@ -80,10 +84,20 @@ whole_due f es e = record { lines = flat_map (pieces f) es; last = last_pieces f
 abbrev pub OwedOf : Form → Options → List ℕ → Due → Type 0
 OwedOf f words bytes due = (es : List Happening) × (e : Ending) × IsWhole words bytes es e × (due ≡ whole_due f es e)
 
+-- of an event text: the stream, or the line that says why there is none
+abbrev pub stream_due : List ℕ → Due
+stream_due bytes = record { lines = []; last = bytes ∷ []; status = status.Ok }
+
+abbrev pub text_due : Wish → Result Run Unwritten → Due
+text_due w (Ok r) = stream_due (stream_of w r)
+text_due w (Err why) = refusal_due (refusal.Events why)
+
 -- of a command whose files were found, by their bytes in their order
 abbrev pub OwedBy : Task → Due → List (List ℕ) → Type 0
 OwedBy (stream f file o) due [] = ⊥
 OwedBy (stream f file o) due (input ∷ others) = OwedOf f o input due
+OwedBy (writing file w) due [] = ⊥
+OwedBy (writing file w) due (input ∷ others) = due ≡ text_due w (written_for w input)
 
 -- of the words
 abbrev pub Owed : Option Task → Option Files → Type 0 → Due → Type 0

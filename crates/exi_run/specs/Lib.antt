@@ -1,12 +1,14 @@
 pub mod Statuses
+pub mod Endings
 pub mod Refusals
 pub mod Stops
 pub mod Words
-pub mod Tasks
 pub mod Header
-pub mod Endings
-pub mod Forms
 pub mod Wholes
+pub mod Wishes
+pub mod Tasks
+pub mod Forms
 pub mod Printing
 pub mod Dues
 pub mod Answers
+pub mod Backs

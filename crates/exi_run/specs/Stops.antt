@@ -3,6 +3,10 @@ use Rattle.exi_ports.specs.declared.sink.SinkStop.{SinkStop}
 use Rattle.exi_ports.specs.declared.sink.SinkStop.TheVariants as sink_stop
 use Rattle.exi_run.specs.declared.halt.Halt.{Halt}
 use Rattle.exi_run.specs.declared.halt.Halt.TheVariants as halt
+use Rattle.exi_run.specs.declared.halt.Refusal.TheVariants as refusal
+use Rattle.exi_run.specs.declared.unwritten.Unwritten.TheVariants as unwritten
+use Rattle.exi_writer.specs.declared.fault.WriteFault.{WriteFault}
+use Rattle.exi_writer.specs.declared.fault.WriteFault.TheVariants as fault
 use Rattle.exi_reader.specs.declared.turn.ReadStop.{ReadStop}
 use Rattle.exi_reader.specs.declared.turn.ReadStop.TheVariants as read_stop
 
@@ -15,3 +19,9 @@ halt_of sink_stop.Memory = halt.Memory
 abbrev pub halt_by : ReadStop → Halt
 halt_by read_stop.Stopped = halt.Write
 halt_by read_stop.Memory = halt.Memory
+
+-- of the writer
+abbrev pub halt_for : WriteFault → Halt
+halt_for (fault.NotDerived event) = halt.Refused (refusal.Events (unwritten.NotDerived event))
+halt_for (fault.Limit event k) = halt.Refused (refusal.Events (unwritten.Limit event k))
+halt_for fault.Memory = halt.Memory

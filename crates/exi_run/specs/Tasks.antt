@@ -1,64 +1,93 @@
 -- What the words ask for, and the files that it needs.
-use Rattle.std.specs.Prelude.{ℕ, List, [], ◌∷◌, map, Option, Some, None, option_copied, codes, if◌then◌else◌}
+use Rattle.std.specs.Prelude.{◌≡◌, ◌||◌, ℕ, false, List, [], ◌∷◌, map, Option, Some, None, option_copied, codes, if◌then◌else◌}
 use Rattle.std.specs.Str.{bytes_eq}
 use Rattle.exi_gram.specs.declared.options.Options.{Options}
 use Rattle.exi_gram.specs.declared.options.SchemaWord.TheVariants as schema
 use Rattle.exi_gram.specs.Switches.{conflicts}
+use Rattle.exi_options.specs.Laws.{IsTellable}
 use Rattle.exi_run.specs.declared.form.Form.{Form}
 use Rattle.exi_run.specs.declared.form.Form.TheVariants as form
 use Rattle.exi_run.specs.declared.halt.Role.{Role}
 use Rattle.exi_run.specs.declared.halt.Role.TheVariants as role
 use Rattle.exi_run.specs.declared.given.Given.{Given as Gathered}
 use Rattle.exi_run.specs.declared.command.Command.{Command}
+use Rattle.exi_run.specs.declared.command.Command.TheVariants as command
+use Rattle.exi_run.specs.declared.command.Telling.{Telling}
+use Rattle.exi_run.specs.declared.command.Verb.{Verb}
+use Rattle.exi_run.specs.declared.command.Verb.TheVariants as verb
+use Rattle.exi_run.specs.declared.command.Writing.{Writing}
 use Rattle.exi_run.specs.declared.words.Next.{Next}
+use Rattle.exi_run.specs.Wishes.{Wish, head_options, options_of, wish_of}
 use Rattle.exi_run.specs.Words.{Given, given_by, text}
 
 -- a command with what its words give: a stream is told in a form, by the name of its file and the options that its header may
--- leave to the words
+-- leave to the words; or one is written of the event text in a file
 pub data Task : Type 0 where
   stream : Form → List ℕ → Options → Task
+  writing : List ℕ → Wish → Task
 
 -- ---- what the code makes of the words
 abbrev pub gathered : Gathered → Given
-gathered g = record { file = option_copied g.file; flags = g.flags; most = g.most; capacity = g.capacity; schema = option_copied g.schema }
+gathered g = record { file = option_copied g.file; flags = g.flags; most = g.most; capacity = g.capacity; schema = option_copied g.schema; told = g.told; cookie = g.cookie }
 
 abbrev pub walked : Gathered × Next → Given × Next
 walked w = (gathered w.0, w.1)
 
+abbrev pub telling_task : Telling → Task
+telling_task t = stream t.form t.file.now t.options
+
+abbrev pub writing_task : Writing → Task
+writing_task w = writing w.file.now (wish_of (gathered w.given))
+
 abbrev pub task : Command → Task
-task c = stream c.form c.file.now c.options
+task (command.Tell t) = telling_task t
+task (command.Write w) = writing_task w
 
 abbrev pub tasked : Option Command → Option Task
 tasked None = None
 tasked (Some c) = Some (task c)
 
 -- ---- what the words ask for
--- `read` tells a stream as text, `index` where its self-contained elements begin
-abbrev pub form_of : List ℕ → Option Form
-form_of t = if bytes_eq t (codes "read") then Some form.Text else if bytes_eq t (codes "index") then Some form.Starts else None
+-- `read` tells a stream as text, `index` where its self-contained elements begin, `write` writes one
+abbrev pub verb_of : List ℕ → Option Verb
+verb_of t =
+    if bytes_eq t (codes "read") then Some (verb.Tell form.Text)
+    else if bytes_eq t (codes "index") then Some (verb.Tell form.Starts)
+    else if bytes_eq t (codes "write") then Some verb.Write
+    else None
 
--- the options that the words give. A schema's name is none of them: it is what a stream's own name of it is compared with
-abbrev pub options_of : Given → Options
-options_of g = record { flags = g.flags; schema = schema.Absent; block = 1_000_000; most = g.most; capacity = g.capacity }
+-- what a written header has is said for writing alone
+abbrev pub task_as : Verb → List ℕ → Given → Option Task
+task_as (verb.Tell f) file g = if g.told || g.cookie then None else Some (stream f file (options_of g))
+task_as verb.Write file g = Some (writing file (wish_of g))
 
 -- no options that exclude each other
-abbrev pub task_on : Form → List ℕ → Options → Option Task
-task_on f file o = if conflicts o then None else Some (stream f file o)
+abbrev pub task_on : Verb → List ℕ → Given → Option Task
+task_on v file g = if conflicts (options_of g) then None else task_as v file g
 
 -- the file is given
-abbrev pub task_with : Form → Option (List ℕ) → Options → Option Task
-task_with f None o = None
-task_with f (Some file) o = task_on f file o
+abbrev pub task_with : Verb → Option (List ℕ) → Given → Option Task
+task_with v None g = None
+task_with v (Some file) g = task_on v file g
 
-abbrev pub task_by : Option Form → Option Given → Option Task
+abbrev pub task_by : Option Verb → Option Given → Option Task
 task_by None g = None
-task_by (Some f) None = None
-task_by (Some f) (Some g) = task_with f g.file (options_of g)
+task_by (Some v) None = None
+task_by (Some v) (Some g) = task_with v g.file g
 
 -- the words of a command, where they have its form
 abbrev pub task_of : List (List ℕ) → Option Task
 task_of [] = None
-task_of (word ∷ words) = task_by (form_of (text word)) (given_by words)
+task_of (word ∷ words) = task_by (verb_of (text word)) (given_by words)
+
+-- its options exclude nothing, and can be told; those of a body tell no schema
+abbrev pub IsReady : Task → Type 0
+IsReady (stream f file o) = conflicts o ≡ false
+IsReady (writing file w) = (conflicts w.options ≡ false) × IsTellable (head_options w) × (w.options.schema ≡ schema.Absent)
+
+abbrev pub IsReadyIf : Option Task → Type 0
+IsReadyIf None = Unit {0}
+IsReadyIf (Some t) = IsReady t
 
 -- ---- files
 -- a file that is needed, by its name, and what for
@@ -69,6 +98,7 @@ pub record Need : Type 0 where
 -- the files that a command needs, in the order in which they are fetched
 abbrev pub needs : Task → List Need
 needs (stream f file o) = record { name = file; role = role.Input } ∷ []
+needs (writing file w) = record { name = file; role = role.Input } ∷ []
 
 abbrev pub needs_of : Option Task → List Need
 needs_of None = []

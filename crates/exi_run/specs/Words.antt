@@ -3,6 +3,7 @@
 --
 --     read FILE
 --     index FILE
+--     write FILE [--told] [--cookie]
 --
 --     --strict --fragment --byte-aligned --self-contained --comments --pis --dtd --prefixes
 --     --value-max-length N   --value-partition-capacity N   --schema-id TEXT
@@ -11,7 +12,7 @@
 -- option; so neither a value that is a word nor FILE is of that form, but behind the word `--`, which may stand once before FILE,
 -- each word is FILE. N is 1 to 10 decimal digits; TEXT has at most 65,536 characters, each of XML. A word is compared by its
 -- bytes in UTF-8.
-use Rattle.std.specs.Prelude.{ℕ, zero, suc, ◌==◌, ◌&&◌, Bool, true, false, List, [], ◌∷◌, length, nat_le, nat_lt, Option, Some, None, is_some, option_map, chars, codes, encode_utf8_all, if◌then◌else◌}
+use Rattle.std.specs.Prelude.{◌≡◌, ◌<◌, ◌^◌, IfSome, ℕ, zero, suc, ◌==◌, ◌&&◌, Bool, true, false, List, [], ◌∷◌, length, nat_le, nat_lt, Option, Some, None, is_some, option_map, chars, codes, encode_utf8_all, if◌then◌else◌}
 use Rattle.std.specs.Int.RustNames.{bit_and, bit_or}
 use Rattle.std.specs.List.{before_first, after_first, position_or_len}
 use Rattle.std.specs.Str.{bytes_eq}
@@ -21,6 +22,8 @@ use Rattle.exi_names.specs.Characters.{is_xml_char}
 use Rattle.exi_options.specs.Document.{flag}
 use Rattle.exi_options.specs.Reading.{most_characters}
 use Rattle.exi_run.specs.declared.given.TheConstants.{MOST_DIGITS}
+use Rattle.exi_run.specs.declared.names.Mark.{Mark}
+use Rattle.exi_run.specs.declared.names.Mark.TheVariants as mark
 use Rattle.exi_run.specs.declared.names.Named.{Named}
 use Rattle.exi_run.specs.declared.names.Named.TheVariants as named
 use Rattle.exi_run.specs.declared.names.Valued.{Valued}
@@ -65,6 +68,8 @@ option_named t =
     else if bytes_eq t (codes "--value-max-length") then Some (named.Value valued.MaxLength)
     else if bytes_eq t (codes "--value-partition-capacity") then Some (named.Value valued.Capacity)
     else if bytes_eq t (codes "--schema-id") then Some (named.Value valued.SchemaId)
+    else if bytes_eq t (codes "--told") then Some (named.Mark mark.Told)
+    else if bytes_eq t (codes "--cookie") then Some (named.Mark mark.Cookie)
     else None
 
 -- ---- what the words have given so far
@@ -76,9 +81,12 @@ pub record Given : Type 0 where
   pub capacity : Option ℕ
   -- the schema's name, by its bytes
   pub schema : Option (List ℕ)
+  -- whether the header of a stream that is written has the options document, and the cookie
+  pub told : Bool
+  pub cookie : Bool
 
 abbrev pub nothing : Given
-nothing = record { file = None; flags = flag 0; most = None; capacity = None; schema = None }
+nothing = record { file = None; flags = flag 0; most = None; capacity = None; schema = None; told = false; cookie = false }
 
 -- FILE, which is given once at most
 abbrev pub with_file : List ℕ → Given → Option Given
@@ -86,6 +94,11 @@ with_file name g = if is_some g.file then None else Some (record g { file = Some
 
 abbrev pub with_switch : OptionFlags → Given → Option Given
 with_switch f g = if bit_and g.flags.0 f.0 == f.0 then None else Some (record g { flags = flag (bit_or g.flags.0 f.0) })
+
+-- which is asked for once at most
+unfoldable pub with_mark : Mark → Given → Option Given
+with_mark mark.Told g = if g.told then None else Some (record g { told = true })
+with_mark mark.Cookie g = if g.cookie then None else Some (record g { cookie = true })
 
 -- how many digits a number has at most
 abbrev pub most_digits : ℕ
@@ -102,6 +115,17 @@ are_few_xml (suc n) (c ∷ cs) = is_xml_char c && are_few_xml n cs
 
 abbrev pub is_schema_name : List ℕ → Bool
 is_schema_name t = are_few_xml most_characters (chars t)
+
+-- the text, where there is one, may name a schema
+abbrev pub IsNamed : Option (List ℕ) → Type 0
+IsNamed name = IfSome name (λ t. is_schema_name t ≡ true)
+
+-- what is given fits in options that can be told
+pub record IsFit (g : Given) : Type 0 where
+  pub flags : g.flags.0 < 256
+  pub most : IfSome g.most (λ n. n < 2 ^ 128)
+  pub capacity : IfSome g.capacity (λ n. n < 2 ^ 128)
+  pub named : IsNamed g.schema
 
 abbrev pub with_most : Given → ℕ → Given
 with_most g n = record g { most = Some n }
@@ -128,6 +152,8 @@ abbrev pub with_option : Option Named → Option (List ℕ) → Given → Walk
 with_option None value g = None
 with_option (Some (named.Switch f)) None g = go_on next.Any (with_switch f g)
 with_option (Some (named.Switch f)) (Some value) g = None
+with_option (Some (named.Mark m)) None g = go_on next.Any (with_mark m g)
+with_option (Some (named.Mark m)) (Some value) g = None
 with_option (Some (named.Value k)) None g = Some (g, next.Value k)
 with_option (Some (named.Value k)) (Some value) g = go_on next.Any (with_value k value g)
 

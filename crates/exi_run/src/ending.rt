@@ -16,7 +16,7 @@ pub enum Ending {
     Fault(Fault),
 }
 
-fn push_number(out: &mut Vec<u8>, word: &[u8], number: u64) -> Result<(), AllocError>
+pub(crate) fn push_number(out: &mut Vec<u8>, word: &[u8], number: u64) -> Result<(), AllocError>
     ensures { OnOk result (out.new.items ≡ out.old.items ++ (word.now ++ decimal number)) }
 {
     out.extend_from_slice(word)?;
@@ -24,7 +24,7 @@ fn push_number(out: &mut Vec<u8>, word: &[u8], number: u64) -> Result<(), AllocE
     out.extend_from_slice(digits.format(number).as_bytes())
 }
 
-fn push_kind(out: &mut Vec<u8>, kind: Kind) -> Result<(), AllocError>
+pub(crate) fn push_kind(out: &mut Vec<u8>, kind: Kind) -> Result<(), AllocError>
     ensures { OnOk result (out.new.items ≡ out.old.items ++ kind_words kind) }
 {
     out.extend_from_slice(kind.word().as_bytes())?;

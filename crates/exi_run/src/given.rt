@@ -1,10 +1,11 @@
 //! What the words behind a command give, one at a time.
 
 ghost use Rattle.std.specs.Prelude.{◌≡◌, chars, option_map};
-ghost use Rattle.exi_run.specs.Tasks.{gathered, options_of};
-ghost use Rattle.exi_run.specs.Words.{is_schema_name, nothing, number_told, with_file, with_switch, with_value};
+ghost use Rattle.exi_run.specs.Tasks.{gathered};
+ghost use Rattle.exi_run.specs.Wishes.{options_of};
+ghost use Rattle.exi_run.specs.Words.{is_schema_name, nothing, number_told, with_file, with_mark, with_switch, with_value};
 
-use crate::names::Valued;
+use crate::names::{Mark, Valued};
 use bitflags::Flags;
 use exi_digits::number;
 use exi_gram::{OptionFlags, Options, SchemaWord};
@@ -27,6 +28,10 @@ pub(crate) struct Given<'a> {
     pub capacity: Option<u128>,
     /// The schema's name, which a stream's own name of it is compared with.
     pub schema: Option<&'a str>,
+    /// Whether `--told` stands.
+    pub told: bool,
+    /// Whether `--cookie` stands.
+    pub cookie: bool,
 }
 
 /// A number of 1 to 10 digits.
@@ -68,6 +73,8 @@ impl<'a> Given<'a> {
             most: None,
             capacity: None,
             schema: None,
+            told: false,
+            cookie: false,
         }
     }
 
@@ -94,6 +101,22 @@ impl<'a> Given<'a> {
         let mut flags = self.flags;
         flags.insert(flag);
         Some(Given { flags, ..self })
+    }
+
+    /// With what a written header has, where it was not asked for.
+    #[tactic(auto, unfolding(crate::specs::Words::with_mark))]
+    pub(crate) fn with_mark(self, mark: Mark) -> Option<Given<'a>>
+        ensures { option_map gathered result ≡ with_mark mark (gathered self.entry) }
+    {
+        match mark {
+            Mark::Told if self.told => None,
+            Mark::Told => Some(Given { told: true, ..self }),
+            Mark::Cookie if self.cookie => None,
+            Mark::Cookie => Some(Given {
+                cookie: true,
+                ..self
+            }),
+        }
     }
 
     /// With the greatest length of a value, where none was given.

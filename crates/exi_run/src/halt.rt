@@ -4,6 +4,7 @@ ghost use Rattle.exi_run.specs.declared.halt.Halt.TheVariants.{Memory};
 ghost use Rattle.exi_run.specs.Stops.{halt_of, halt_by};
 
 use crate::status::Status;
+use crate::unwritten::Unwritten;
 use exi_ports::SinkStop;
 use exi_reader::ReadStop;
 use std::alloc::AllocError;
@@ -19,7 +20,20 @@ pub enum Role {
     Input,
 }
 
-/// Why a command is refused before it begins. It has a line of its own, and puts nothing else.
+impl Role {
+    /// The line that refuses a file that is too long.
+    pub(crate) fn too_long(self) -> &'static [u8]
+        ensures { result.now ≡ refusal_line (Refusal.TooLong self) }
+    {
+        match self {
+            Role::Schema => b"too long schema\n",
+            Role::Hints => b"too long hints\n",
+            Role::Input => b"too long input\n",
+        }
+    }
+}
+
+/// Why a command is refused. It has a line of its own, and puts nothing else.
 #[derive(Clone, Copy, Debug, PartialEq, Eq)]
 pub enum Refusal {
     /// The words are not of a command's form.
@@ -28,22 +42,11 @@ pub enum Refusal {
     ReadFailed,
     /// A file is longer than 64 MiB.
     TooLong(Role),
+    /// The event text is not written.
+    Events(Unwritten),
 }
 
 impl Refusal {
-    /// Its line, with the line's end.
-    pub(crate) fn line(self) -> &'static [u8]
-        ensures { result.now ≡ refusal_line self }
-    {
-        match self {
-            Refusal::Usage => b"usage\n",
-            Refusal::ReadFailed => b"read failed\n",
-            Refusal::TooLong(Role::Schema) => b"too long schema\n",
-            Refusal::TooLong(Role::Hints) => b"too long hints\n",
-            Refusal::TooLong(Role::Input) => b"too long input\n",
-        }
-    }
-
     /// The status behind its line.
     pub(crate) fn status(self) -> Status
         ensures { result ≡ refusal_status self }
@@ -52,6 +55,7 @@ impl Refusal {
             Refusal::Usage => Status::Usage,
             Refusal::ReadFailed => Status::ReadFault,
             Refusal::TooLong(_) => Status::TooLong,
+            Refusal::Events(_) => Status::Events,
         }
     }
 }

@@ -1,6 +1,7 @@
 ghost use Rattle.std.specs.Prelude.{◌≡◌, ◌++◌, List, ℕ};
 ghost use Rattle.exi_gram.specs.declared.options.Options.{Options};
 ghost use Rattle.exi_names.specs.Events.{Happening};
+ghost use Rattle.exi_run.specs.Backs.{WrittenIsRead};
 ghost use Rattle.exi_run.specs.declared.ending.Ending.{Ending};
 ghost use Rattle.exi_run.specs.Wholes.{IsWhole, IsFront};
 
@@ -20,4 +21,13 @@ pub fn front_of_whole()
     ensures { (words : Options) (bytes : List ℕ) (es fs : List Happening) (e : Ending) → IsFront words bytes es → IsWhole words bytes fs e → (rest : List Happening) × (fs ≡ es ++ rest) }
 {
     one_sequence();
+}
+
+/// What is written of a text is read again, to the last bit that was written: the events that the options leave of those that
+/// the text says, one by one.
+pub fn written_is_read()
+    ensures { WrittenIsRead }
+{
+    exi_writing::laws::written_is_read();
+    exi_header::laws::written_is_read();
 }

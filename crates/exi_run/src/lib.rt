@@ -14,6 +14,7 @@
 #![tactic(auto)]
 
 mod command;
+mod compose;
 mod ending;
 mod files;
 mod form;
@@ -23,15 +24,18 @@ mod header;
 mod laws;
 mod names;
 mod printer;
+mod refuse;
 mod starts;
 mod status;
 mod stream;
 mod top;
+mod unwritten;
 mod words;
 
 pub use ending::Ending;
 pub use form::Form;
 pub use halt::{Refusal, Role};
-pub use laws::{front_of_whole, one_whole};
+pub use laws::{front_of_whole, one_whole, written_is_read};
 pub use status::Status;
 pub use top::run;
+pub use unwritten::Unwritten;

@@ -16,6 +16,15 @@ pub(crate) enum Valued {
     SchemaId,
 }
 
+/// What the header of a stream that is written has.
+#[derive(Clone, Copy, Debug, PartialEq, Eq)]
+pub(crate) enum Mark {
+    /// `--told`: the options document.
+    Told,
+    /// `--cookie`: the cookie.
+    Cookie,
+}
+
 /// What an option's name stands for.
 #[derive(Clone, Copy, Debug, PartialEq, Eq)]
 pub(crate) enum Named {
@@ -23,6 +32,8 @@ pub(crate) enum Named {
     Switch(OptionFlags),
     /// An option that takes a value.
     Value(Valued),
+    /// What a written header has.
+    Mark(Mark),
 }
 
 /// Whether a word begins with a hyphen and has more behind it.
@@ -72,6 +83,10 @@ impl Named {
             Some(Named::Value(Valued::Capacity))
         } else if name == "--schema-id" {
             Some(Named::Value(Valued::SchemaId))
+        } else if name == "--told" {
+            Some(Named::Mark(Mark::Told))
+        } else if name == "--cookie" {
+            Some(Named::Mark(Mark::Cookie))
         } else {
             None
         }

@@ -10,11 +10,11 @@ ghost use Rattle.exi_run.specs.Endings.{last_line};
 ghost use Rattle.exi_run.specs.Forms.{last_pieces};
 ghost use Rattle.exi_run.specs.Printing.{PrintsBody};
 ghost use Rattle.exi_run.specs.Statuses.{IsTold};
-ghost use Rattle.exi_run.specs.Tasks.{task};
+ghost use Rattle.exi_run.specs.Tasks.{telling_task};
 ghost use Rattle.exi_run.specs.Wholes.{setting_of};
 ghost use Rattle.exi_run.specs.declared.form.Form.TheVariants as form;
 
-use crate::command::Command;
+use crate::command::Telling;
 use crate::ending::Ending;
 use crate::files::fetch_file;
 use crate::form::Form;
@@ -39,7 +39,7 @@ use std::marker::Brand;
 use std::sync::ledger::{Blank, Ledger};
 
 /// What streams without a schema and with these options are read by.
-fn book_of(alloc: Global, options: Options) -> Result<Book, AllocError>
+pub(crate) fn book_of(alloc: Global, options: Options) -> Result<Book, AllocError>
     requires free { conflicts options ≡ false }
     ensures { IfOk result (λ b. b ≡ setting_of options) }
 {
@@ -186,19 +186,19 @@ fn print_stream<O: Sink>(
 /// The stream of a file, in the form that a command tells it.
 pub(crate) fn tell_stream<F: Shelf, O: Sink>(
     alloc: Global,
-    command: &Command<'_>,
+    telling: &Telling<'_>,
     shelf: &mut F,
     out: &mut O,
 ) -> Result<Status, Halt>
-    requires free { conflicts command.now.options ≡ false }
-    ensures served { Served (Some (task command.now)) (F.files shelf.old) (Rose (F.faults shelf.old) (F.faults shelf.new)) result (O.taken out.old) (O.taken out.new) }
-    ensures asked { GrowsByFront (F.asked shelf.old) (command.now.file.now ∷ []) (F.asked shelf.new) }
+    requires free { conflicts telling.now.options ≡ false }
+    ensures served { Served (Some (telling_task telling.now)) (F.files shelf.old) (Rose (F.faults shelf.old) (F.faults shelf.new)) result (O.taken out.old) (O.taken out.new) }
+    ensures asked { GrowsByFront (F.asked shelf.old) (telling.now.file.now ∷ []) (F.asked shelf.new) }
     ensures later { O.faults out.old ≤ O.faults out.new }
     ensures write { IsErrOf result Halt.Write → Rose (O.faults out.old) (O.faults out.new) }
     ensures failed { IsErrOf result (Halt.Refused Refusal.ReadFailed) → Rose (F.faults shelf.old) (F.faults shelf.new) }
     ensures told { IfOk result IsTold }
 {
     one_whole();
-    let input = fetch_file(alloc, shelf, command.file, Role::Input)?;
-    print_stream(alloc, command.form, &command.options, input.as_slice(), out)
+    let input = fetch_file(alloc, shelf, telling.file, Role::Input)?;
+    print_stream(alloc, telling.form, &telling.options, input.as_slice(), out)
 }

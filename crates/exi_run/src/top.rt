@@ -1,13 +1,17 @@
 ghost use Rattle.std.specs.Prelude.{◌≡◌, ◌≤◌, ◌≢◌, ◌⊎◌, IfOk, IfSome, IsErrOf, None};
 ghost use Rattle.exi_names.specs.Events.{Rose};
-ghost use Rattle.exi_run.specs.Answers.{Answered, AreWithin, GrowsByFront, HasLong, IsAnswered, IsLater, OfStream, RefusalPut, Served, Starves, Tells};
+ghost use Rattle.exi_run.specs.Answers.{Answered, AreWithin, Ends, GrowsByFront, HasLong, IsAnswered, IsLater, IsWriting, OfStream, OfWriting, RefusalPut, Served, Starves, StarvesOnly, Tells, Writes, WritesNone};
+ghost use Rattle.exi_run.specs.Backs.{ReadsBack};
 ghost use Rattle.exi_run.specs.Dues.{refusal_due};
 ghost use Rattle.exi_run.specs.Statuses.{IsOr, IsTold};
-ghost use Rattle.exi_run.specs.Tasks.{names_of, needs_of, task_of};
+ghost use Rattle.exi_run.specs.Tasks.{IsReadyIf, names_of, needs_of, task_of};
 ghost use Rattle.exi_run.specs.declared.form.Form.TheVariants as form;
 
-use crate::command::Command;
+use crate::command::{Command, command_in};
+use crate::compose::write_stream;
 use crate::halt::{Halt, Refusal};
+use crate::laws::written_is_read;
+use crate::refuse::put_refusal;
 use crate::status::Status;
 use crate::stream::tell_stream;
 use exi_names::Txt;
@@ -29,9 +33,11 @@ fn serve<F: Shelf, O: Sink>(
     ensures write { IsErrOf result Halt.Write → Rose (O.faults out.old) (O.faults out.new) }
     ensures failed { IsErrOf result (Halt.Refused Refusal.ReadFailed) → Rose (F.faults shelf.old) (F.faults shelf.new) }
     ensures told { IfOk result IsTold }
+    ensures ready { IsReadyIf (task_of words.now) }
 {
-    match Command::of(words) {
-        Some(command) => tell_stream(alloc, &command, shelf, out),
+    match command_in(words) {
+        Some(Command::Tell(telling)) => tell_stream(alloc, &telling, shelf, out),
+        Some(Command::Write(writing)) => write_stream(alloc, &writing, shelf, out),
         None => Err(Halt::Refused(Refusal::Usage)),
     }
 }
@@ -48,12 +54,12 @@ fn starve<O: Sink>(out: &mut O) -> Status
 }
 
 /// The line of a refusal.
-fn refuse<O: Sink>(out: &mut O, refusal: Refusal) -> Status
+fn refuse<O: Sink>(alloc: Global, out: &mut O, refusal: Refusal) -> Status
     ensures answered { Answered (refusal_due refusal) result (O.taken out.old) (O.taken out.new) }
     ensures write { result ≡ Status.WriteFault → Rose (O.faults out.old) (O.faults out.new) }
     ensures read { result ≡ Status.ReadFault → refusal ≡ Refusal.ReadFailed }
 {
-    match out.put(refusal.line()) {
+    match put_refusal(alloc, out, refusal) {
         Ok(()) => refusal.status(),
         Err(SinkStop::Failed) => Status::WriteFault,
         Err(SinkStop::Memory) => starve(out),
@@ -66,21 +72,24 @@ fn respond<F: Shelf, O: Sink>(alloc: Global, words: &[Txt], shelf: &mut F, out: 
     ensures asked { GrowsByFront (F.asked shelf.old) (names_of (task_of words.now)) (F.asked shelf.new) }
     ensures write_fault { result ≡ Status.WriteFault → Rose (O.faults out.old) (O.faults out.new) }
     ensures read_fault { result ≡ Status.ReadFault → Rose (F.faults shelf.old) (F.faults shelf.new) }
+    ensures ready { IsReadyIf (task_of words.now) }
 {
     match serve(alloc, words, shelf, out) {
         Ok(status) => status,
-        Err(Halt::Refused(refusal)) => refuse(out, refusal),
+        Err(Halt::Refused(refusal)) => refuse(alloc, out, refusal),
         Err(Halt::Write) => Status::WriteFault,
         Err(Halt::Memory) => starve(out),
     }
 }
 
 /// Does what the words ask for: `read FILE` reads an EXI stream and puts it as text, `index FILE` puts where its
-/// self-contained elements begin; options that the stream's header leaves to the words stand beside FILE.
+/// self-contained elements begin; options that the stream's header leaves to the words stand beside FILE. `write FILE`
+/// writes the stream of an event text, as `read` puts it without its last line, by the options of the words.
 ///
 /// The file is fetched from `shelf` once, at most 64 MiB of it. Of `read`, `out` takes one line for each event and
 /// then one for the end, `done BIT` or `fault KIND BIT`; of `index`, one line for each self-contained element, the byte
 /// at which it begins, and then that of a fault. Each line is one put, and nothing more is put after one that fails.
+/// Of `write`, `out` takes the whole stream in one put, or one line that says why there is none.
 /// `rt` and `gate` are for workers, of which these commands have none yet.
 pub fn run<R: Threads + Wait + Sync, F: Shelf, O: Sink, G: Gate>(
     _rt: &R,
@@ -96,6 +105,22 @@ pub fn run<R: Threads + Wait + Sync, F: Shelf, O: Sink, G: Gate>(
 
     // The same for an index: exactly the bytes at which sequential processing meets self-contained elements, in order.
     ensures index { OfStream form.Starts (task_of words.now) (F.files shelf.old) (λ options bytes. IsTold result → Tells form.Starts options result (O.taken out.old) (O.taken out.new) bytes) }
+
+    // With status Ok of `write` the sink took the header and the body that the definition of writing gives for the
+    // events that the text says, and nothing else.
+    ensures write { OfWriting (task_of words.now) (F.files shelf.old) (λ wish text. result ≡ Status.Ok → Writes wish (O.taken out.old) (O.taken out.new) text) }
+
+    // Reading that stream by the same options ends at the last bit that was written, and gives the events of the text that the
+    // options leave, one by one: each value as the string that it was written as.
+    ensures read_back { OfWriting (task_of words.now) (F.files shelf.old) (λ wish text. ReadsBack wish text) }
+
+    // With status Events there is no such stream, and the sink took one line: the first line of the text that says no
+    // event, or else the first event that no production stands for or that passes a limit.
+    ensures events { OfWriting (task_of words.now) (F.files shelf.old) (λ wish text. result ≡ Status.Events → WritesNone wish (O.taken out.old) (O.taken out.new) text) }
+    ensures events_only { result ≡ Status.Events → IsWriting (task_of words.now) }
+
+    // Where memory runs out, nothing of a stream was put. So it is with a refusal, by the clause below.
+    ensures starved { IsWriting (task_of words.now) → StarvesOnly result (O.taken out.old) (O.taken out.new) }
 
     // With every status: what is owed for the words, the files and the stream was put, all of it, or for
     // WriteFault a front of it, or for NoMemory first pieces of it and a word on the want of memory.
@@ -118,10 +143,11 @@ pub fn run<R: Threads + Wait + Sync, F: Shelf, O: Sink, G: Gate>(
     ensures never { IsLater result → ⊥ }
 
     // Files within the limit, a shelf and a sink without a fault: the command is done, or memory ran out.
-    ensures complete { IfSome (F.files shelf.old) (λ held. (task_of words.now ≢ None) → AreWithin held (needs_of (task_of words.now)) → (Rose (F.faults shelf.old) (F.faults shelf.new) → ⊥) → (Rose (O.faults out.old) (O.faults out.new) → ⊥) → IsTold result ⊎ (result ≡ Status.NoMemory)) }
+    ensures complete { IfSome (F.files shelf.old) (λ held. (task_of words.now ≢ None) → AreWithin held (needs_of (task_of words.now)) → (Rose (F.faults shelf.old) (F.faults shelf.new) → ⊥) → (Rose (O.faults out.old) (O.faults out.new) → ⊥) → Ends (task_of words.now) result ⊎ (result ≡ Status.NoMemory)) }
 
     // No files are asked for but those that the words name, in their order and each once at most.
     ensures asked { GrowsByFront (F.asked shelf.old) (names_of (task_of words.now)) (F.asked shelf.new) }
 {
+    written_is_read();
     respond(alloc, words, shelf, out)
 }

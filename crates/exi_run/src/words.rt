@@ -1,8 +1,8 @@
 //! The words behind a command.
 
-ghost use Rattle.std.specs.Prelude.{◌≡◌, Some, option_copied, option_map};
+ghost use Rattle.std.specs.Prelude.{◌≡◌, IfSome, Some, option_copied, option_map};
 ghost use Rattle.exi_run.specs.Tasks.{gathered, walked};
-ghost use Rattle.exi_run.specs.Words.{ended, given_by, with_option, word_taken, words_taken};
+ghost use Rattle.exi_run.specs.Words.{IsFit, ended, given_by, with_option, word_taken, words_taken};
 
 use crate::given::Given;
 use crate::names::{Named, Valued, is_hyphened, split_at_equals};
@@ -29,7 +29,8 @@ fn take_option<'a>(
 {
     match (named?, value) {
         (Named::Switch(flag), None) => Some((given.with_switch(flag)?, Next::Any)),
-        (Named::Switch(_), Some(_)) => None,
+        (Named::Mark(mark), None) => Some((given.with_mark(mark)?, Next::Any)),
+        (Named::Switch(_) | Named::Mark(_), Some(_)) => None,
         (Named::Value(option), None) => Some((given, Next::Value(option))),
         (Named::Value(option), Some(text)) => Some((given.with_value(option, text)?, Next::Any)),
     }
@@ -99,7 +100,8 @@ fn take_words<'a>(given: Given<'a>, next: Next, words: &'a [Txt]) -> Option<Give
 
 /// What the words behind a command give, where they have its form.
 pub(crate) fn gather<'a>(words: &'a [Txt]) -> Option<Given<'a>>
-    ensures { option_map gathered result ≡ given_by words.now }
+    ensures given { option_map gathered result ≡ given_by words.now }
+    ensures fit { IfSome result (λ g. IsFit (gathered g)) }
 {
     take_words(Given::nothing(), Next::Any, words)
 }

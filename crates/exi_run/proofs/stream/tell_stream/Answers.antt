@@ -6,8 +6,8 @@ use Rattle.exi_run.proofs.stream.tell_stream.Goals as goal
 pub returns-in_err-input-clause-served : goal.returns-in_err-input-clause-served
 returns-in_err-input-clause-served g c =
     let p = err_from_is_err_and c.from_residual.result c.from_residual.ensures.1 in
-    rw (p.1, p.2) (served_none c.one_whole.ensures.there c.args.command.now.form c.args.command.now.options c.args.command.now.file.now (g.F.Shelf.files c.args.shelf.now) (Rose (g.F.Shelf.faults c.args.shelf.now) (g.F.Shelf.faults c.fetch_file.new.shelf)) c.in_err-input.field-0.0 (g.O.Sink.taken c.args.out.now) c.in_err-input.ensures.fetched)
+    rw (p.1, p.2) (served_none c.one_whole.ensures.there c.args.telling.now.form c.args.telling.now.options c.args.telling.now.file.now (g.F.Shelf.files c.args.shelf.now) (Rose (g.F.Shelf.faults c.args.shelf.now) (g.F.Shelf.faults c.fetch_file.new.shelf)) c.in_err-input.field-0.0 (g.O.Sink.taken c.args.out.now) c.in_err-input.ensures.fetched)
 
 pub returns-clause-served : goal.returns-clause-served
 returns-clause-served g c =
-    served_bytes c.args.command.now.form c.args.command.now.options c.args.command.now.file.now (g.F.Shelf.files c.args.shelf.now) (Rose (g.F.Shelf.faults c.args.shelf.now) (g.F.Shelf.faults c.fetch_file.new.shelf)) c.as_slice.result.now c.print_stream.result (g.O.Sink.taken c.args.out.now) (g.O.Sink.taken c.print_stream.new.out) (rw c.as_slice.ensures c.in_ok-input.ensures.fetched) c.print_stream.ensures.printed
+    served_bytes c.args.telling.now.form c.args.telling.now.options c.args.telling.now.file.now (g.F.Shelf.files c.args.shelf.now) (Rose (g.F.Shelf.faults c.args.shelf.now) (g.F.Shelf.faults c.fetch_file.new.shelf)) c.as_slice.result.now c.print_stream.result (g.O.Sink.taken c.args.out.now) (g.O.Sink.taken c.print_stream.new.out) (rw c.as_slice.ensures c.in_ok-input.ensures.fetched) c.print_stream.ensures.printed

@@ -1,7 +1,8 @@
 use Rattle.exi_names.specs.Events.{Rose}
 use Rattle.exi_run.specs.Tasks.{task_of}
 use Rattle.exi_run.specs.declared.form.Form.TheVariants as form
-use Rattle.exi_run.proofs.Answering.{tells, refused, usage_is, long_is, too_long_is, refusal_is, not_later, completes}
+use Rattle.exi_run.proofs.Answering.{tells, refused, usage_is, long_is, too_long_is, refusal_is, not_later, completes, writes, writes_none, events_is, starves_is}
+use Rattle.exi_run.proofs.Backs.{reads_back}
 use Rattle.exi_run.proofs.top.run.Goals as goal
 
 pub returns-clause-read : goal.returns-clause-read
@@ -9,6 +10,21 @@ returns-clause-read g c = tells form.Text (task_of c.args.words.now) (g.F.Shelf.
 
 pub returns-clause-index : goal.returns-clause-index
 returns-clause-index g c = tells form.Starts (task_of c.args.words.now) (g.F.Shelf.files c.args.shelf.now) (Rose (g.F.Shelf.faults c.args.shelf.now) (g.F.Shelf.faults c.respond.new.shelf)) c.respond.result (g.O.Sink.taken c.args.out.now) (g.O.Sink.taken c.respond.new.out) c.respond.ensures.answered
+
+pub returns-clause-write : goal.returns-clause-write
+returns-clause-write g c = writes (task_of c.args.words.now) (g.F.Shelf.files c.args.shelf.now) (Rose (g.F.Shelf.faults c.args.shelf.now) (g.F.Shelf.faults c.respond.new.shelf)) c.respond.result (g.O.Sink.taken c.args.out.now) (g.O.Sink.taken c.respond.new.out) c.respond.ensures.answered
+
+pub returns-clause-read_back : goal.returns-clause-read_back
+returns-clause-read_back g c = reads_back c.written_is_read.ensures (task_of c.args.words.now) (g.F.Shelf.files c.args.shelf.now) c.respond.ensures.ready
+
+pub returns-clause-events : goal.returns-clause-events
+returns-clause-events g c = writes_none (task_of c.args.words.now) (g.F.Shelf.files c.args.shelf.now) (Rose (g.F.Shelf.faults c.args.shelf.now) (g.F.Shelf.faults c.respond.new.shelf)) c.respond.result (g.O.Sink.taken c.args.out.now) (g.O.Sink.taken c.respond.new.out) c.respond.ensures.answered
+
+pub returns-clause-events_only : goal.returns-clause-events_only
+returns-clause-events_only g c = events_is (task_of c.args.words.now) (g.F.Shelf.files c.args.shelf.now) (Rose (g.F.Shelf.faults c.args.shelf.now) (g.F.Shelf.faults c.respond.new.shelf)) c.respond.result (g.O.Sink.taken c.args.out.now) (g.O.Sink.taken c.respond.new.out) c.respond.ensures.answered
+
+pub returns-clause-starved : goal.returns-clause-starved
+returns-clause-starved g c = starves_is (task_of c.args.words.now) (g.F.Shelf.files c.args.shelf.now) (Rose (g.F.Shelf.faults c.args.shelf.now) (g.F.Shelf.faults c.respond.new.shelf)) c.respond.result (g.O.Sink.taken c.args.out.now) (g.O.Sink.taken c.respond.new.out) c.respond.ensures.answered
 
 pub returns-clause-refused : goal.returns-clause-refused
 returns-clause-refused g c = refused (task_of c.args.words.now) (g.F.Shelf.files c.args.shelf.now) (Rose (g.F.Shelf.faults c.args.shelf.now) (g.F.Shelf.faults c.respond.new.shelf)) c.respond.result (g.O.Sink.taken c.args.out.now) (g.O.Sink.taken c.respond.new.out) c.respond.ensures.answered
