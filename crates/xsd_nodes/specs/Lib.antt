@@ -1,0 +1,3 @@
+pub mod PartNames
+pub mod AttributeNames
+pub mod Nodes
