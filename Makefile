@@ -1,7 +1,7 @@
 # exi: an EXI codec, proved. `rt` is the kit's command.
 PREFIX ?= /usr/local
 
-.PHONY: all demo test install clean
+.PHONY: all demo test install uninstall clean
 
 all: exi
 
@@ -23,6 +23,10 @@ test:
 install: exi
 	install -d '$(DESTDIR)$(PREFIX)/bin'
 	install -m 755 exi '$(DESTDIR)$(PREFIX)/bin/exi'
+	install -m 755 tools/exi-xml '$(DESTDIR)$(PREFIX)/bin/exi-xml'
+
+uninstall:
+	rm -f '$(DESTDIR)$(PREFIX)/bin/exi' '$(DESTDIR)$(PREFIX)/bin/exi-xml'
 
 clean:
 	rm -rf exi exi.log crates/*/out
