@@ -1,4 +1,5 @@
 pub mod Sets
+pub mod Joins
 pub mod Escapes
 pub mod Groups
 pub mod Quantities

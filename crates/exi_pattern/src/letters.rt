@@ -5,6 +5,8 @@ ghost use Rattle.std.specs.Option.{is_none};
 ghost use Rattle.exi_names.specs.Characters.{is_xml_char};
 ghost use Rattle.exi_pattern.specs.Sets.{every, with_letter, with_code, with_codes, with_member};
 ghost use Rattle.exi_pattern.specs.Patterns.{kept};
+ghost use Rattle.exi_pattern.specs.Joins.{joined, letters_in, with_all};
+ghost use Rattle.std.specs.Str.{chars};
 
 use crate::charset::CharSet;
 use crate::member::Member;
@@ -19,7 +21,7 @@ const MOST: usize = 255;
 ///
 /// They are kept sorted, so that each is found by binary search, and given up as soon as they are too many.
 #[derive(Debug, Drop)]
-pub(crate) struct Letters {
+pub struct Letters {
     few: Option<Vec<char>>,
 }
 
@@ -36,7 +38,7 @@ impl Model for Letters {
 
 impl Letters {
     /// No characters.
-    pub(crate) fn new(alloc: Global) -> Letters
+    pub fn new(alloc: Global) -> Letters
         ensures { result ≡ Some [] }
     {
         Letters {
@@ -115,6 +117,47 @@ impl Letters {
                 self.give_up();
                 Ok(())
             }
+        }
+    }
+
+    /// Adds the characters of a text that are XML's.
+    fn add_all(&mut self, text: &str) -> Result<(), AllocError>
+        ensures { OnOk result (self.new ≡ with_all (chars text.now) self.old) }
+    {
+        for c in text.chars() {
+            self.add_codes(c as u32, 1)?;
+        }
+        Ok(())
+    }
+
+    /// Adds the characters of a pattern. Where it leaves any character, or is refused, any may stand.
+    ///
+    /// # Errors
+    ///
+    /// `AllocError` where memory is refused.
+    pub fn join(&mut self, set: &CharSet) -> Result<(), AllocError>
+        ensures { OnOk result (self.new ≡ joined self.old (letters_in set.now)) }
+    {
+        match set {
+            CharSet::Set(letters) => self.add_all(letters.text().as_str()),
+            CharSet::Any | CharSet::Refused(_) => {
+                self.give_up();
+                Ok(())
+            }
+        }
+    }
+
+    /// The characters, where there is a set of them.
+    ///
+    /// # Errors
+    ///
+    /// `AllocError` where memory is refused.
+    pub fn into_alphabet(self, alloc: Global) -> Result<Option<Alphabet>, AllocError>
+        ensures { IfOk result (λ a. a ≡ self) }
+    {
+        match self.into_set(alloc)? {
+            CharSet::Set(letters) => Ok(Some(letters)),
+            CharSet::Any | CharSet::Refused(_) => Ok(None),
         }
     }
 

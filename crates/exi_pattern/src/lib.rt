@@ -13,4 +13,5 @@ mod splits;
 mod stop;
 
 pub use charset::CharSet;
+pub use letters::Letters;
 pub use pieces::chars_of;

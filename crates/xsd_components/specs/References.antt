@@ -6,7 +6,7 @@ use Rattle.exi_names.specs.declared.names.QName.{QName}
 use Rattle.xsd_builtins.specs.BuiltIns.{any_type, built_in}
 use Rattle.xsd_tree.specs.Trees.{xsd}
 use Rattle.xsd_tree.specs.declared.node.Node.{Node}
-use Rattle.xsd_nodes.specs.Nodes.{child, child_of, has, holder, is_among_at, is_at, is_global, places, text_at}
+use Rattle.xsd_nodes.specs.Nodes.{child, child_of, holder, is_among_at, is_at, is_global, places, text_at}
 use Rattle.xsd_nodes.specs.PartNames.{is_part}
 use Rattle.xsd_nodes.specs.declared.attribute_name.AttributeName.TheVariants as attribute
 use Rattle.xsd_nodes.specs.declared.part.Part.{Part}

@@ -1,12 +1,14 @@
 ghost use Rattle.std.specs.Prelude.{◌≡◌, IfOk};
 ghost use Rattle.xsd_components.specs.References.{component};
 
-use crate::globals::{globals_of, same_name};
-use exi_names::QName;
+use crate::globals::{find, firsts_of};
+use exi_gram::Items;
+use exi_names::{QName, Txt};
+use indexmap::IndexMap;
 use std::alloc::{AllocError, Global as Memory};
 use std::marker::Model;
 use xsd_document::Document;
-use xsd_nodes::{Part, is_among_at};
+use xsd_nodes::Part;
 use xsd_tree::Tree;
 
 /// A component that stands directly within a schema.
@@ -22,19 +24,19 @@ pub struct Global {
 #[derive(Debug, Drop)]
 pub struct Schema<'a> {
     document: Document<'a>,
-    globals: Vec<Global>,
+    firsts: IndexMap<Txt, Items<Global>>,
 }
 
 impl<'a> Model for Schema<'a> {
-    ghost use Rattle.std.specs.Prelude.{◌≡◌, List};
-    ghost use Rattle.xsd_components.specs.Globals.{globals_of};
+    ghost use Rattle.std.specs.Prelude.{List};
+    ghost use Rattle.xsd_components.specs.Globals.{AreFirsts};
     ghost use Rattle.xsd_tree.specs.declared.node.Node.{Node};
 
     ghost Value = { List Node };
 
     ghost view = { λ s. s.document };
 
-    ghost invariant = { λ s. s.globals.items ≡ globals_of s.document };
+    ghost invariant = { λ s. AreFirsts s.document s.firsts.entries };
 }
 
 impl<'a> Schema<'a> {
@@ -47,8 +49,8 @@ impl<'a> Schema<'a> {
         ensures { IfOk result (λ s. s ≡ tree.now) }
     {
         let document = Document::of(alloc, tree)?;
-        let globals = globals_of(alloc, tree.nodes())?;
-        Ok(Schema { document, globals })
+        let firsts = firsts_of(alloc, tree.nodes())?;
+        Ok(Schema { document, firsts })
     }
 
     /// The document.
@@ -58,16 +60,11 @@ impl<'a> Schema<'a> {
         &self.document
     }
 
-    /// The place of the first component of these parts and this name.
+    /// The place of the first component of these parts and this name. However many components there are, it is found by the
+    /// name at once.
     pub fn component(&self, kind: &[Part], name: &QName) -> Option<u32>
         ensures { result ≡ component self.now kind.now name.now }
     {
-        let nodes = self.document.nodes();
-        for global in self.globals.as_slice() {
-            if is_among_at(nodes, kind, global.place) && same_name(name, &global.name) {
-                return Some(global.place);
-            }
-        }
-        None
+        find(self.document.nodes(), &self.firsts, kind, name)
     }
 }

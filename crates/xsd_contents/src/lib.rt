@@ -21,5 +21,5 @@ mod words;
 
 pub use content::{is_empty, is_mixed, leaves_base};
 pub use value_step::ValueStep;
-pub use values::value_type;
+pub use values::{value_here, value_type};
 pub use words::{is_yes, number_at};

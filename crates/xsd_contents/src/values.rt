@@ -72,7 +72,11 @@ fn value_derived(
 }
 
 /// The value of a type: a simple type is its own.
-fn value_here(alloc: Global, schema: &Schema<'_>, of: TypeAt) -> Result<ValueStep, AllocError>
+///
+/// # Errors
+///
+/// `AllocError` where memory is refused.
+pub fn value_here(alloc: Global, schema: &Schema<'_>, of: TypeAt) -> Result<ValueStep, AllocError>
     ensures { IfOk result (λ s. s ≡ value_here schema.now of) }
 {
     match of {

@@ -21,6 +21,23 @@ pub enum Allowed {
     These(TxtList),
 }
 
+impl Allowed {
+    /// A copy.
+    ///
+    /// # Errors
+    ///
+    /// `AllocError` where memory is refused.
+    pub fn copy(&self, alloc: Global) -> Result<Allowed, AllocError>
+        ensures { IfOk result (λ a. a ≡ self.now) }
+    {
+        match self {
+            Allowed::Every => Ok(Allowed::Every),
+            Allowed::OtherThan(uri) => Ok(Allowed::OtherThan(uri.copy()?)),
+            Allowed::These(uris) => Ok(Allowed::These(uris.copy(alloc)?)),
+        }
+    }
+}
+
 /// What a word lists in a schema of this target namespace.
 fn listed(alloc: Global, own: &str, word: &Txt) -> Result<Txt, AllocError>
     ensures { IfOk result (λ t. t ≡ listed (chars own.now) word.now) }

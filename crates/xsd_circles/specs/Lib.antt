@@ -1,0 +1,4 @@
+pub mod Circles
+pub mod Levels
+pub mod Searches
+pub mod Laws

@@ -1,0 +1,3 @@
+pub mod Decls
+pub mod Walks
+pub mod Lists

@@ -1,0 +1,4 @@
+pub mod Within
+pub mod Orders
+pub mod There
+pub mod Marking

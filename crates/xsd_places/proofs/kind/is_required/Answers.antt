@@ -1,0 +1,8 @@
+use Rattle.std.proofs.Common.{ap, ◌∙◌}
+use Rattle.xsd_nodes.specs.declared.attribute_name.AttributeName.TheVariants as attribute
+use Rattle.xsd_places.specs.Kinds.{is_told}
+use Rattle.xsd_places.proofs.Words.{required_chars}
+use Rattle.xsd_places.proofs.kind.is_required.Goals as goal
+
+pub returns : goal.returns
+returns c = c.is_told.ensures ∙ ap (λ w. is_told c.args.nodes.now attribute.Use w c.args.place) required_chars

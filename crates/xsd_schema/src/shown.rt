@@ -1,0 +1,44 @@
+//! What is wrong with one element of a schema document.
+
+ghost use Rattle.std.specs.Prelude.{◌≡◌, ◌<◌, IfOk, length};
+ghost use Rattle.xsd_shows.specs.Shows.{shows_at};
+
+use std::alloc::{AllocError, Global};
+use xsd_circles::Circles;
+use xsd_components::Schema;
+use xsd_model::SchemaKind;
+use xsd_paths::Paths;
+use xsd_shows::Conditions;
+use xsd_simple::Simples;
+use xsd_slots::Order;
+use xsd_steps::Steps;
+use xsd_tree::Tree;
+use xsd_type_wildcards::TypeWildcards;
+use xsd_values::Values;
+
+/// What is wrong with the element at a place of a tree, the first that is; `joined` where the documents that it includes and
+/// imports are joined to it. All that the document's elements name is looked up anew in each call.
+///
+/// # Errors
+///
+/// `AllocError` where memory is refused.
+pub fn shows(
+    alloc: Global,
+    tree: &Tree,
+    place: u32,
+    joined: bool,
+) -> Result<Option<SchemaKind>, AllocError>
+    requires there { place < length tree.now }
+    ensures { IfOk result (λ k. k ≡ shows_at joined tree.now place) }
+{
+    let schema = Schema::of(alloc, tree)?;
+    let steps = Steps::of(alloc, &schema)?;
+    let paths = Paths::of(alloc, &steps)?;
+    let values = Values::of(alloc, &paths)?;
+    let simples = Simples::of(alloc, &values)?;
+    let wildcards = TypeWildcards::of(alloc, &paths)?;
+    let order = Order::of(alloc, tree)?;
+    let circles = Circles::of(alloc, &steps)?;
+    let conditions = Conditions::new(&order, &simples, &circles, &wildcards);
+    conditions.shows(alloc, joined, place)
+}

@@ -1,0 +1,4 @@
+pub mod Follows
+pub mod Fuel
+pub mod Kept
+pub mod Table

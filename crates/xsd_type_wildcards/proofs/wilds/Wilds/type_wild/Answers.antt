@@ -1,0 +1,11 @@
+use Rattle.std.proofs.Common.{List, ap, ◌∙◌}
+use Rattle.xsd_tree.specs.declared.node.Node.{Node}
+use Rattle.xsd_components.specs.declared.type_at.TypeAt.TheVariants as type_at
+use Rattle.xsd_type_wildcards.specs.TypeWildcards.{has_all_groups}
+use Rattle.xsd_type_wildcards.proofs.wilds.Wilds.type_wild.Goals as goal
+
+pub source-source-requires-clause-groups : goal.source-source-requires-clause-groups
+source-source-requires-clause-groups c = ap (λ (ns : List Node). has_all_groups ns (type_at.Node c.args.place)) c.self.view_is ∙ c.requires.groups
+
+pub type_wild-requires-clause-groups : goal.type_wild-requires-clause-groups
+type_wild-requires-clause-groups c = ap (λ (ns : List Node). has_all_groups ns (type_at.Node c.args.place)) (c.paths.ensures ∙ c.self.view_is) ∙ c.requires.groups

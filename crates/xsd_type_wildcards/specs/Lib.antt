@@ -1,0 +1,4 @@
+pub mod TypeWildcards
+pub mod Sources
+pub mod Told
+pub mod Wilds

@@ -1,0 +1,3 @@
+pub mod Restricted
+pub mod Mixed
+pub mod Told
