@@ -15,17 +15,20 @@ use Rattle.exi_run.specs.declared.ending.Ending.TheVariants as ending
 use Rattle.exi_run.specs.declared.form.Form.{Form}
 use Rattle.exi_run.specs.declared.status.Status.{Status}
 use Rattle.exi_run.specs.declared.status.Status.TheVariants as status
-use Rattle.exi_run.specs.Answers.{Answered, AnsweredBy, AreWithin, Ends, GrowsByLines, HasLong, HasRole, IsAnswered, IsLater, IsLong, IsWithin, IsWriting, MayRefuse, OfStream, OfWriting, RefusalPut, Served, Starves, StarvesOnly, Tells, Writes, WritesNone, no_memory}
-use Rattle.exi_run.specs.Dues.{Due, all_pieces, Files, found, long, failed, Owed, OwedBy, OwedFrom, OwedOf, most_bytes, refusal_due, text_due, text_of}
+use Rattle.exi_run.specs.Answers.{Answered, AnsweredBy, AreWithin, Counts, Ends, GrowsByLines, HasLong, HasRole, IsAnswered, IsCounting, IsLater, IsLong, IsWithin, IsWriting, MayRefuse, OfDocument, OfStream, OfWriting, RefusalPut, RefusesDocument, Served, Starves, StarvesOnly, Tells, Writes, WritesNone, no_memory}
+use Rattle.exi_run.specs.Dues.{Due, all_pieces, count_lines, document_due, Files, found, long, failed, Owed, OwedBy, OwedFrom, OwedOf, OwedOfDocument, most_bytes, refusal_due, text_due, text_of}
 use Rattle.exi_run.specs.Endings.{status_of}
 use Rattle.exi_run.specs.Printing.{grows_more, grows_none}
-use Rattle.exi_run.specs.Refusals.{refusal_line, refusal_status, unwritten_line}
+use Rattle.exi_run.specs.Refusals.{refusal_line, refusal_status, schema_line, unwritten_line}
 use Rattle.exi_run.specs.Wholes.{IsWhole}
 use Rattle.exi_run.specs.Statuses.{Sort, told, refuses, breaks, starved, sort_of, IsOr, IsTold}
-use Rattle.exi_run.specs.Tasks.{Task, stream, writing, Need, needs, needs_of}
+use Rattle.exi_run.specs.Tasks.{Task, stream, writing, counting, Need, needs, needs_of}
 use Rattle.exi_run.specs.Wishes.{Wish, stream_of, written_for}
 use Rattle.exi_run.specs.declared.unwritten.Unwritten.{Unwritten}
 use Rattle.exi_writing.specs.Runs.{Run}
+use Rattle.xsd_file.specs.Documents.{IsDocument}
+use Rattle.xsd_file.specs.declared.refusal.SchemaRefusal.{SchemaRefusal}
+use Rattle.xsd_parts.specs.Documents.{Declared}
 use Rattle.exi_run.proofs.Owing.{text-whole, told-said}
 
 -- ---- what may be owed: a refusal's line, or what a command owes whose files were found
@@ -44,12 +47,21 @@ abbrev TextCause : Option Task → Option Files → Unwritten → Type 0
 TextCause None files why = ⊥
 TextCause (Some (stream f file o)) files why = ⊥
 TextCause (Some (writing file w)) files why = (text : List ℕ) × Fetched files file most_bytes (fetch.Bytes text) × (written_for w text ≡ Err why)
+TextCause (Some (counting file)) files why = ⊥
+
+-- a schema document that was found, and is refused
+abbrev DocumentCause : Option Task → Option Files → SchemaRefusal → Type 0
+DocumentCause None files why = ⊥
+DocumentCause (Some (stream f file o)) files why = ⊥
+DocumentCause (Some (writing file w)) files why = ⊥
+DocumentCause (Some (counting file)) files why = (bytes : List ℕ) × Fetched files file most_bytes (fetch.Bytes bytes) × IsDocument bytes (Err why)
 
 abbrev Causes : Option Task → Option Files → Refusal → Type 0
 Causes t files refusal.Usage = t ≡ None
 Causes t files refusal.ReadFailed = t ≢ None
 Causes t files (refusal.TooLong role) = OneLong files (needs_of t) role
 Causes t files (refusal.Events why) = TextCause t files why
+Causes t files (refusal.Schema why) = DocumentCause t files why
 
 -- of the files
 abbrev FileCauses : Option Files → List Need → Refusal → Type 0
@@ -57,6 +69,7 @@ FileCauses files ns refusal.Usage = ⊥
 FileCauses files ns refusal.ReadFailed = Unit {0}
 FileCauses files ns (refusal.TooLong role) = OneLong files ns role
 FileCauses files ns (refusal.Events why) = ⊥
+FileCauses files ns (refusal.Schema why) = ⊥
 
 abbrev IsRefused : Option Files → List Need → Due → Type 0
 IsRefused files ns due = (r : Refusal) × (due ≡ refusal_due r) × FileCauses files ns r
@@ -69,6 +82,7 @@ cause_more files n ns refusal.Usage c = absurd c
 cause_more files n ns refusal.ReadFailed c = tt
 cause_more files n ns (refusal.TooLong role) c = inr c
 cause_more files n ns (refusal.Events why) c = absurd c
+cause_more files n ns (refusal.Schema why) c = absurd c
 
 one_more : (files : Option Files) (n : Need) (ns : List Need) (rest : List (List ℕ) → Type 0) (due : Due) (b : List ℕ) → Fetched files n.name most_bytes (fetch.Bytes b) → AreDone files ns (λ bs. rest (b ∷ bs)) ⊎ IsRefused files ns due → AreDone files (n ∷ ns) rest ⊎ IsRefused files (n ∷ ns) due
 one_more files n ns rest due b had (inl done) = inl (b ∷ done.0, (had, done.1), done.2)
@@ -113,45 +127,54 @@ told_end : (e : Ending) → IsTold (status_of e)
 told_end (ending.Done bit) = refl
 told_end (ending.Fault f) = refl
 
--- why the command's event text is not written
-abbrev WhyOf : Task → List (List ℕ) → Unwritten → Type 0
-WhyOf (stream f file o) bs why = ⊥
-WhyOf (writing file w) [] why = ⊥
-WhyOf (writing file w) (text ∷ bs) why = written_for w text ≡ Err why
+-- why the command is refused by what its files say
+abbrev WhyOf : Task → List (List ℕ) → Refusal → Type 0
+WhyOf t [] why = ⊥
+WhyOf (stream f file o) (b ∷ bs) why = ⊥
+WhyOf (writing file w) (text ∷ bs) why = (none : Unwritten) × (why ≡ refusal.Events none) × (written_for w text ≡ Err none)
+WhyOf (counting file) (bytes ∷ bs) why = (none : SchemaRefusal) × (why ≡ refusal.Schema none) × IsDocument bytes (Err none)
 
-abbrev WasUnwritten : Task → Due → List (List ℕ) → Type 0
-WasUnwritten t due bs = (why : Unwritten) × (due ≡ refusal_due (refusal.Events why)) × WhyOf t bs why
+abbrev WasRefused : Task → Due → List (List ℕ) → Type 0
+WasRefused t due bs = (why : Refusal) × (due ≡ refusal_due why) × WhyOf t bs why
 
-text_told : (file : List ℕ) (w : Wish) (text : List ℕ) (others : List (List ℕ)) (due : Due) (o : Result Run Unwritten) → written_for w text ≡ o → due ≡ text_due w o → IsTold due.status ⊎ WasUnwritten (writing file w) due (text ∷ others)
+text_told : (file : List ℕ) (w : Wish) (text : List ℕ) (others : List (List ℕ)) (due : Due) (o : Result Run Unwritten) → written_for w text ≡ o → due ≡ text_due w o → IsTold due.status ⊎ WasRefused (writing file w) due (text ∷ others)
 text_told file w text others due (Ok r) is d = inl (subst (λ (x : Due). IsTold x.status) (sym d) refl)
-text_told file w text others due (Err why) is d = inr (why, d, is)
+text_told file w text others due (Err why) is d = inr (refusal.Events why, d, (why, refl, is))
 
-done_told : (t : Task) (due : Due) (bs : List (List ℕ)) → OwedBy t due bs → IsTold due.status ⊎ WasUnwritten t due bs
+document_told : (file bytes : List ℕ) (others : List (List ℕ)) (due : Due) (o : Result Declared SchemaRefusal) → IsDocument bytes o → due ≡ document_due o → IsTold due.status ⊎ WasRefused (counting file) due (bytes ∷ others)
+document_told file bytes others due (Ok d) is e = inl (subst (λ (x : Due). IsTold x.status) (sym e) refl)
+document_told file bytes others due (Err why) is e = inr (refusal.Schema why, e, (why, refl, is))
+
+done_told : (t : Task) (due : Due) (bs : List (List ℕ)) → OwedBy t due bs → IsTold due.status ⊎ WasRefused t due bs
 done_told (stream f file o) due [] owed = absurd owed
 done_told (stream f file o) due (b ∷ bs) (es, e, w, is) = inl (subst (λ (d : Due). IsTold d.status) (sym is) (told_end e))
 done_told (writing file w) due [] owed = absurd owed
 done_told (writing file w) due (text ∷ bs) owed = text_told file w text bs due (written_for w text) refl owed
+done_told (counting file) due [] owed = absurd owed
+done_told (counting file) due (bytes ∷ bs) (answer, is, e) = document_told file bytes bs due answer is e
 
 refused_put : (s : Status) (old new : Option (List ℕ)) (due : Due) (r : Refusal) → due ≡ refusal_due r → IsPut s due old new → (s ≡ refusal_status r) × Grows old (refusal_line r) new
 refused_put s old new due r is p =
     (sym p.0 ∙ ap (λ (d : Due). d.status) is, subst (λ (t : List ℕ). Grows old t new) (ap (λ (d : Due). text_of (all_pieces d)) is ∙ append-nil (refusal_line r)) p.1)
 
-text_cause : (t : Task) (files : Option Files) (bs : List (List ℕ)) (why : Unwritten) → AreFound files (needs t) bs → WhyOf t bs why → TextCause (Some t) files why
-text_cause (stream f file o) files bs why are w = absurd w
-text_cause (writing file w) files [] why are h = absurd h
-text_cause (writing file w) files (text ∷ bs) why are h = (text, are.0, h)
+cause_of : (t : Task) (files : Option Files) (bs : List (List ℕ)) (why : Refusal) → AreFound files (needs t) bs → WhyOf t bs why → Causes (Some t) files why
+cause_of t files [] why are w = absurd w
+cause_of (stream f file o) files (b ∷ bs) why are w = absurd w
+cause_of (writing file w) files (text ∷ bs) why are (none, is, e) = subst (λ (r : Refusal). Causes (Some (writing file w)) files r) (sym is) (text, are.0, e)
+cause_of (counting file) files (bytes ∷ bs) why are (none, is, e) = subst (λ (r : Refusal). Causes (Some (counting file)) files r) (sym is) (bytes, are.0, e)
 
-came_done : (t : Task) (files : Option Files) (s : Status) (old new : Option (List ℕ)) (due : Due) → (done : AreDone files (needs t) (OwedBy t due)) → IsPut s due old new → IsTold due.status ⊎ WasUnwritten t due done.0 → Came (Some t) files s old new
+came_done : (t : Task) (files : Option Files) (s : Status) (old new : Option (List ℕ)) (due : Due) → (done : AreDone files (needs t) (OwedBy t due)) → IsPut s due old new → IsTold due.status ⊎ WasRefused t due done.0 → Came (Some t) files s old new
 came_done t files s old new due done p (inl h) = inl (due, done, p, subst IsTold p.0 h)
 came_done t files s old new due done p (inr (why, d, is)) =
-    let put = refused_put s old new due (refusal.Events why) d p in
-    inr (inl (refusal.Events why, text_cause t files done.0 why done.1 is, put.0, put.1))
+    let put = refused_put s old new due why d p in
+    inr (inl (why, cause_of t files done.0 why done.1 is, put.0, put.1))
 
 of_file_cause : (t : Task) (files : Option Files) (r : Refusal) → FileCauses files (needs t) r → Causes (Some t) files r
 of_file_cause t files refusal.Usage c = absurd c
 of_file_cause t files refusal.ReadFailed c = λ h. cc
 of_file_cause t files (refusal.TooLong role) c = c
 of_file_cause t files (refusal.Events why) c = absurd c
+of_file_cause t files (refusal.Schema why) c = absurd c
 
 came_by : (t : Task) (files : Option Files) (s : Status) (old new : Option (List ℕ)) (due : Due) → (AreDone files (needs t) (OwedBy t due) ⊎ IsRefused files (needs t) due) → (IsPut s due old new ⊎ ((s ≡ status.WriteFault) ⊎ (s ≡ status.NoMemory))) → Came (Some t) files s old new
 came_by t files s old new due o (inr early) = inr (inr early)
@@ -183,6 +206,7 @@ refusal_untold refusal.Usage s is h = let x : refuses ≡ told = ap sort_of (sym
 refusal_untold refusal.ReadFailed s is h = let x : refuses ≡ told = ap sort_of (sym is) ∙ h in absurd cc
 refusal_untold (refusal.TooLong role) s is h = let x : refuses ≡ told = ap sort_of (sym is) ∙ h in absurd cc
 refusal_untold (refusal.Events why) s is h = let x : refuses ≡ told = ap sort_of (sym is) ∙ h in absurd cc
+refusal_untold (refusal.Schema why) s is h = let x : refuses ≡ told = ap sort_of (sym is) ∙ h in absurd cc
 
 early_untold : (s : Status) → ((s ≡ status.WriteFault) ⊎ (s ≡ status.NoMemory)) → IsTold s → ⊥
 early_untold s (inl is) h = let x : breaks ≡ told = ap sort_of (sym is) ∙ h in absurd cc
@@ -200,6 +224,7 @@ TellsStream f t files s old new = OfStream f t files (λ words bytes. IsTold s �
 pub tells : (f : Form) (t : Option Task) (files : Option Files) (rose : Type 0) (s : Status) (old new : Option (List ℕ)) → IsAnswered t files rose s old new → TellsStream f t files s old new
 tells f None files rose s old new a = tt
 tells f (Some (writing name w)) files rose s old new a = tt
+tells f (Some (counting name)) files rose s old new a = tt
 tells f (Some (stream g name words)) None rose s old new a = λ is. tt
 tells f (Some (stream g name words)) (Some held) rose s old new a =
     λ is. subst (λ (h : Form). IfSome (file_at held name) (λ bytes. IsTold s → Tells h words s old new bytes)) (sym is) (tells_by g words name held s old new (came (Some (stream g name words)) (Some held) rose s old new a))
@@ -211,6 +236,7 @@ refused_by files s old new (inr (inl (refusal.Usage, c, is, g))) = inl is
 refused_by files s old new (inr (inl (refusal.ReadFailed, c, is, g))) = absurd (c refl)
 refused_by files s old new (inr (inl (refusal.TooLong role, c, is, g))) = absurd c
 refused_by files s old new (inr (inl (refusal.Events why, c, is, g))) = absurd c
+refused_by files s old new (inr (inl (refusal.Schema why, c, is, g))) = absurd c
 refused_by files s old new (inr (inr early)) = inr early
 
 pub refused : (t : Option Task) (files : Option Files) (rose : Type 0) (s : Status) (old new : Option (List ℕ)) → IsAnswered t files rose s old new → t ≡ None → IsOr status.Usage s
@@ -230,6 +256,7 @@ usage_by t files s old new (refusal.Usage, c, is, g) st = c
 usage_by t files s old new (refusal.ReadFailed, c, is, g) st = let x : status.ReadFault ≡ status.Usage = sym is ∙ st in absurd cc
 usage_by t files s old new (refusal.TooLong role, c, is, g) st = let x : status.TooLong ≡ status.Usage = sym is ∙ st in absurd cc
 usage_by t files s old new (refusal.Events why, c, is, g) st = let x : status.Events ≡ status.Usage = sym is ∙ st in absurd cc
+usage_by t files s old new (refusal.Schema why, c, is, g) st = let x : status.Schema ≡ status.Usage = sym is ∙ st in absurd cc
 
 pub usage_is : (t : Option Task) (files : Option Files) (rose : Type 0) (s : Status) (old new : Option (List ℕ)) → IsAnswered t files rose s old new → s ≡ status.Usage → t ≡ None
 usage_is t files rose s old new a st = usage_by t files s old new (refusal_of t files s old new (came t files rose s old new a) (ap sort_of st)) st
@@ -249,6 +276,7 @@ long_by t held s old new (refusal.Usage, c, is, g) st = let x : status.Usage ≡
 long_by t held s old new (refusal.ReadFailed, c, is, g) st = let x : status.ReadFault ≡ status.TooLong = sym is ∙ st in absurd cc
 long_by t held s old new (refusal.TooLong role, c, is, g) st = has_long held (needs_of t) role c
 long_by t held s old new (refusal.Events why, c, is, g) st = let x : status.Events ≡ status.TooLong = sym is ∙ st in absurd cc
+long_by t held s old new (refusal.Schema why, c, is, g) st = let x : status.Schema ≡ status.TooLong = sym is ∙ st in absurd cc
 
 pub too_long_is : (t : Option Task) (files : Option Files) (rose : Type 0) (s : Status) (old new : Option (List ℕ)) → IsAnswered t files rose s old new → IfSome files (λ held. s ≡ status.TooLong → HasLong held (needs_of t))
 too_long_is t None rose s old new a = tt
@@ -273,6 +301,14 @@ text_short None held why c l = c
 text_short (Some (stream f file o)) held why c l = c
 text_short (Some (writing file w)) held why (text, had, is) (inl l) = found_short text (file_at held file) had l
 text_short (Some (writing file w)) held why (text, had, is) (inr l) = l
+text_short (Some (counting file)) held why c l = c
+
+document_short : (t : Option Task) (held : Files) (why : SchemaRefusal) → DocumentCause t (Some held) why → HasLong held (needs_of t) → ⊥
+document_short None held why c l = c
+document_short (Some (stream f file o)) held why c l = c
+document_short (Some (writing file w)) held why c l = c
+document_short (Some (counting file)) held why (bytes, had, is) (inl l) = found_short bytes (file_at held file) had l
+document_short (Some (counting file)) held why (bytes, had, is) (inr l) = l
 
 some_long : (t : Option Task) (held : Files) → HasLong held (needs_of t) → t ≡ None → ⊥
 some_long None held l is = l
@@ -284,6 +320,7 @@ long_or t held rose s old new (inr (inl (refusal.Usage, c, is, g))) fell l still
 long_or t held rose s old new (inr (inl (refusal.ReadFailed, c, is, g))) fell l still = absurd (still (fell is))
 long_or t held rose s old new (inr (inl (refusal.TooLong role, c, is, g))) fell l still = inl is
 long_or t held rose s old new (inr (inl (refusal.Events why, c, is, g))) fell l still = absurd (text_short t held why c l)
+long_or t held rose s old new (inr (inl (refusal.Schema why, c, is, g))) fell l still = absurd (document_short t held why c l)
 long_or t held rose s old new (inr (inr early)) fell l still = inr early
 
 pub long_is : (t : Option Task) (files : Option Files) (rose : Type 0) (s : Status) (old new : Option (List ℕ)) → IsAnswered t files rose s old new → (s ≡ status.ReadFault → rose) → IfSome files (λ held. HasLong held (needs_of t) → (rose → ⊥) → IsOr status.TooLong s)
@@ -300,12 +337,20 @@ is_writing : (t : Option Task) (files : Option Files) (why : Unwritten) → Text
 is_writing None files why c = c
 is_writing (Some (stream f file o)) files why c = c
 is_writing (Some (writing file w)) files why c = tt
+is_writing (Some (counting file)) files why c = c
+
+is_counting : (t : Option Task) (files : Option Files) (why : SchemaRefusal) → DocumentCause t files why → IsCounting t
+is_counting None files why c = c
+is_counting (Some (stream f file o)) files why c = c
+is_counting (Some (writing file w)) files why c = c
+is_counting (Some (counting file)) files why c = tt
 
 may_refuse : (t : Option Task) (files : Option Files) (r : Refusal) → Causes t files r → MayRefuse t r
 may_refuse t files refusal.Usage c = c
 may_refuse t files refusal.ReadFailed c = c
 may_refuse t files (refusal.TooLong role) c = role_there files (needs_of t) role c
 may_refuse t files (refusal.Events why) c = is_writing t files why c
+may_refuse t files (refusal.Schema why) c = is_counting t files why c
 
 pub refusal_is : (t : Option Task) (files : Option Files) (rose : Type 0) (s : Status) (old new : Option (List ℕ)) → IsAnswered t files rose s old new → RefusalPut t s old new
 refusal_is t files rose s old new a =
@@ -313,22 +358,15 @@ refusal_is t files rose s old new a =
     (lost.0, may_refuse t files lost.0 lost.1, lost.2, lost.3)
 
 refusal_now : (r : Refusal) (s : Status) → s ≡ refusal_status r → IsLater s → ⊥
-refusal_now refusal.Usage s is (inl l) = let x : status.Usage ≡ status.Schema = sym is ∙ l in cc
-refusal_now refusal.Usage s is (inr l) = let x : status.Usage ≡ status.Hints = sym is ∙ l in cc
-refusal_now refusal.ReadFailed s is (inl l) = let x : status.ReadFault ≡ status.Schema = sym is ∙ l in cc
-refusal_now refusal.ReadFailed s is (inr l) = let x : status.ReadFault ≡ status.Hints = sym is ∙ l in cc
-refusal_now (refusal.TooLong role) s is (inl l) = let x : status.TooLong ≡ status.Schema = sym is ∙ l in cc
-refusal_now (refusal.TooLong role) s is (inr l) = let x : status.TooLong ≡ status.Hints = sym is ∙ l in cc
-refusal_now (refusal.Events why) s is (inl l) = let x : status.Events ≡ status.Schema = sym is ∙ l in cc
-refusal_now (refusal.Events why) s is (inr l) = let x : status.Events ≡ status.Hints = sym is ∙ l in cc
-
-later_refuses : (s : Status) → IsLater s → sort_of s ≡ refuses
-later_refuses s (inl l) = ap sort_of l
-later_refuses s (inr l) = ap sort_of l
+refusal_now refusal.Usage s is l = let x : status.Usage ≡ status.Hints = sym is ∙ l in cc
+refusal_now refusal.ReadFailed s is l = let x : status.ReadFault ≡ status.Hints = sym is ∙ l in cc
+refusal_now (refusal.TooLong role) s is l = let x : status.TooLong ≡ status.Hints = sym is ∙ l in cc
+refusal_now (refusal.Events why) s is l = let x : status.Events ≡ status.Hints = sym is ∙ l in cc
+refusal_now (refusal.Schema why) s is l = let x : status.Schema ≡ status.Hints = sym is ∙ l in cc
 
 pub not_later : (t : Option Task) (files : Option Files) (rose : Type 0) (s : Status) (old new : Option (List ℕ)) → IsAnswered t files rose s old new → IsLater s → ⊥
 not_later t files rose s old new a later =
-    let lost = refusal_of t files s old new (came t files rose s old new a) (later_refuses s later) in
+    let lost = refusal_of t files s old new (came t files rose s old new a) (ap sort_of later) in
     refusal_now lost.0 s lost.2 later
 
 -- ---- completeness
@@ -346,16 +384,29 @@ ends_text : (w : Wish) (due : Due) (s : Status) (o : Result Run Unwritten) → d
 ends_text w due s (Ok r) d is = inl (sym is ∙ ap (λ (x : Due). x.status) d)
 ends_text w due s (Err why) d is = inr (sym is ∙ ap (λ (x : Due). x.status) d)
 
+ends_document : (due : Due) (s : Status) (o : Result Declared SchemaRefusal) → due ≡ document_due o → due.status ≡ s → (s ≡ status.Ok) ⊎ (s ≡ status.Schema)
+ends_document due s (Ok r) d is = inl (sym is ∙ ap (λ (x : Due). x.status) d)
+ends_document due s (Err why) d is = inr (sym is ∙ ap (λ (x : Due). x.status) d)
+
 ends_done : (t : Option Task) (files : Option Files) (due : Due) (s : Status) (old new : Option (List ℕ)) → IsDone t files due → IsPut s due old new → IsTold s → Ends t s
 ends_done None files due s old new done p h = done
 ends_done (Some (stream f file o)) files due s old new done p h = h
 ends_done (Some (writing file w)) files due s old new ([], are, owed) p h = absurd are
 ends_done (Some (writing file w)) files due s old new (text ∷ bs, are, owed) p h = ends_text w due s (written_for w text) owed p.0
+ends_done (Some (counting file)) files due s old new ([], are, owed) p h = absurd are
+ends_done (Some (counting file)) files due s old new (bytes ∷ bs, are, (answer, is, d)) p h = ends_document due s answer d p.0
 
 ends_refused : (t : Option Task) (files : Option Files) (why : Unwritten) (s : Status) → TextCause t files why → s ≡ status.Events → Ends t s
 ends_refused None files why s c is = c
 ends_refused (Some (stream f file o)) files why s c is = absurd c
 ends_refused (Some (writing file w)) files why s c is = inr is
+ends_refused (Some (counting file)) files why s c is = absurd c
+
+ends_unread : (t : Option Task) (files : Option Files) (why : SchemaRefusal) (s : Status) → DocumentCause t files why → s ≡ status.Schema → Ends t s
+ends_unread None files why s c is = c
+ends_unread (Some (stream f file o)) files why s c is = absurd c
+ends_unread (Some (writing file w)) files why s c is = absurd c
+ends_unread (Some (counting file)) files why s c is = inr is
 
 complete_by : (t : Option Task) (held : Files) (rose out : Type 0) (s : Status) (old new : Option (List ℕ)) → Came t (Some held) s old new → (s ≡ status.ReadFault → rose) → (s ≡ status.WriteFault → out) → t ≢ None → AreWithin held (needs_of t) → (rose → ⊥) → (out → ⊥) → Ends t s ⊎ (s ≡ status.NoMemory)
 complete_by t held rose out s old new (inl (due, done, p, h)) fell write some w still calm = inl (ends_done t (Some held) due s old new done p h)
@@ -363,6 +414,7 @@ complete_by t held rose out s old new (inr (inl (refusal.Usage, c, is, g))) fell
 complete_by t held rose out s old new (inr (inl (refusal.ReadFailed, c, is, g))) fell write some w still calm = absurd (still (fell is))
 complete_by t held rose out s old new (inr (inl (refusal.TooLong role, c, is, g))) fell write some w still calm = absurd (within_all held (needs_of t) role w c)
 complete_by t held rose out s old new (inr (inl (refusal.Events why, c, is, g))) fell write some w still calm = inl (ends_refused t (Some held) why s c is)
+complete_by t held rose out s old new (inr (inl (refusal.Schema why, c, is, g))) fell write some w still calm = inl (ends_unread t (Some held) why s c is)
 complete_by t held rose out s old new (inr (inr (inl b))) fell write some w still calm = absurd (calm (write b))
 complete_by t held rose out s old new (inr (inr (inr m))) fell write some w still calm = inr m
 
@@ -396,6 +448,7 @@ writes_by w name held s old new (inr (inr early)) = not_ok w s (file_at held nam
 pub writes : (t : Option Task) (files : Option Files) (rose : Type 0) (s : Status) (old new : Option (List ℕ)) → IsAnswered t files rose s old new → OfWriting t files (λ w text. s ≡ status.Ok → Writes w old new text)
 writes None files rose s old new a = tt
 writes (Some (stream f name o)) files rose s old new a = tt
+writes (Some (counting name)) files rose s old new a = tt
 writes (Some (writing name w)) None rose s old new a = tt
 writes (Some (writing name w)) (Some held) rose s old new a = writes_by w name held s old new (came (Some (writing name w)) (Some held) rose s old new a)
 
@@ -424,12 +477,14 @@ none_by w name held s old new (inr (inl (refusal.Usage, c, is, g))) = not_events
 none_by w name held s old new (inr (inl (refusal.ReadFailed, c, is, g))) = not_events w s (file_at held name) old new (λ e. let x : status.ReadFault ≡ status.Events = sym is ∙ e in cc)
 none_by w name held s old new (inr (inl (refusal.TooLong role, c, is, g))) = not_events w s (file_at held name) old new (λ e. let x : status.TooLong ≡ status.Events = sym is ∙ e in cc)
 none_by w name held s old new (inr (inl (refusal.Events why, (b, had, e), is, g))) = after_events w s (file_at held name) old new (none_file w name held old new b why (file_at held name) refl had.0 e g)
+none_by w name held s old new (inr (inl (refusal.Schema why, c, is, g))) = absurd c
 none_by w name held s old new (inr (inr (inl b))) = not_events w s (file_at held name) old new (λ e. let x : status.WriteFault ≡ status.Events = sym b ∙ e in cc)
 none_by w name held s old new (inr (inr (inr m))) = not_events w s (file_at held name) old new (λ e. let x : status.NoMemory ≡ status.Events = sym m ∙ e in cc)
 
 pub writes_none : (t : Option Task) (files : Option Files) (rose : Type 0) (s : Status) (old new : Option (List ℕ)) → IsAnswered t files rose s old new → OfWriting t files (λ w text. s ≡ status.Events → WritesNone w old new text)
 writes_none None files rose s old new a = tt
 writes_none (Some (stream f name o)) files rose s old new a = tt
+writes_none (Some (counting name)) files rose s old new a = tt
 writes_none (Some (writing name w)) None rose s old new a = tt
 writes_none (Some (writing name w)) (Some held) rose s old new a = none_by w name held s old new (came (Some (writing name w)) (Some held) rose s old new a)
 
@@ -438,9 +493,81 @@ events_by t files s old new (refusal.Usage, c, is, g) e = let x : status.Usage �
 events_by t files s old new (refusal.ReadFailed, c, is, g) e = let x : status.ReadFault ≡ status.Events = sym is ∙ e in absurd cc
 events_by t files s old new (refusal.TooLong role, c, is, g) e = let x : status.TooLong ≡ status.Events = sym is ∙ e in absurd cc
 events_by t files s old new (refusal.Events why, c, is, g) e = is_writing t files why c
+events_by t files s old new (refusal.Schema why, c, is, g) e = let x : status.Schema ≡ status.Events = sym is ∙ e in absurd cc
 
 pub events_is : (t : Option Task) (files : Option Files) (rose : Type 0) (s : Status) (old new : Option (List ℕ)) → IsAnswered t files rose s old new → s ≡ status.Events → IsWriting t
 events_is t files rose s old new a e = events_by t files s old new (refusal_of t files s old new (came t files rose s old new a) (ap sort_of e)) e
+
+-- ---- what a schema document declares is counted
+counted_bytes : (bytes : List ℕ) (due : Due) (s : Status) (old new : Option (List ℕ)) (o : Result Declared SchemaRefusal) → IsDocument bytes o → due ≡ document_due o → IsPut s due old new → s ≡ status.Ok → Counts old new bytes
+counted_bytes bytes due s old new (Ok d) is e p ok = (d, is, subst (λ (t : List ℕ). Grows old t new) (ap (λ (x : Due). text_of (all_pieces x)) e ∙ ap text_of (append-nil (count_lines d))) p.1)
+counted_bytes bytes due s old new (Err why) is e p ok = let x : status.Schema ≡ status.Ok = sym (ap (λ (x : Due). x.status) e) ∙ p.0 ∙ ok in absurd cc
+
+counts_file : (name : List ℕ) (held : Files) (s : Status) (old new : Option (List ℕ)) (b : List ℕ) (due : Due) (file : Option (List ℕ)) → file_at held name ≡ file → file_at held name ≡ Some b → OwedOfDocument b due → IsPut s due old new → IfSome file (λ bytes. s ≡ status.Ok → Counts old new bytes)
+counts_file name held s old new b due None is at d p = tt
+counts_file name held s old new b due (Some bytes) is at (answer, document, d) p =
+    let same : Some b ≡ Some bytes = sym at ∙ is in
+    let b_is : b ≡ bytes = cc in
+    λ ok. subst (λ (x : List ℕ). Counts old new x) b_is (counted_bytes b due s old new answer document d p ok)
+
+not_counted : (s : Status) (file : Option (List ℕ)) (old new : Option (List ℕ)) → (IsTold s → ⊥) → IfSome file (λ bytes. s ≡ status.Ok → Counts old new bytes)
+not_counted s None old new never = tt
+not_counted s (Some bytes) old new never = λ ok. absurd (never (ap sort_of ok))
+
+counts_by : (name : List ℕ) (held : Files) (s : Status) (old new : Option (List ℕ)) → Came (Some (counting name)) (Some held) s old new → IfSome (file_at held name) (λ bytes. s ≡ status.Ok → Counts old new bytes)
+counts_by name held s old new (inl (due, ([], are, o), p, h)) = absurd are
+counts_by name held s old new (inl (due, (b ∷ bs, are, o), p, h)) = counts_file name held s old new b due (file_at held name) refl are.0.0 o p
+counts_by name held s old new (inr (inl lost)) = not_counted s (file_at held name) old new (refusal_untold lost.0 s lost.2)
+counts_by name held s old new (inr (inr early)) = not_counted s (file_at held name) old new (early_untold s early)
+
+pub counts : (t : Option Task) (files : Option Files) (rose : Type 0) (s : Status) (old new : Option (List ℕ)) → IsAnswered t files rose s old new → OfDocument t files (λ bytes. s ≡ status.Ok → Counts old new bytes)
+counts None files rose s old new a = tt
+counts (Some (stream f name o)) files rose s old new a = tt
+counts (Some (writing name w)) files rose s old new a = tt
+counts (Some (counting name)) None rose s old new a = tt
+counts (Some (counting name)) (Some held) rose s old new a = counts_by name held s old new (came (Some (counting name)) (Some held) rose s old new a)
+
+-- ---- a schema document that is refused
+unread_file : (name : List ℕ) (held : Files) (s : Status) (old new : Option (List ℕ)) (b : List ℕ) (why : SchemaRefusal) (file : Option (List ℕ)) → file_at held name ≡ file → file_at held name ≡ Some b → IsDocument b (Err why) → Grows old (schema_line why) new → IfSome file (λ bytes. s ≡ status.Schema → RefusesDocument old new bytes)
+unread_file name held s old new b why None is at e g = tt
+unread_file name held s old new b why (Some bytes) is at e g =
+    let same : Some b ≡ Some bytes = sym at ∙ is in
+    let b_is : b ≡ bytes = cc in
+    λ h. subst (λ (x : List ℕ). RefusesDocument old new x) b_is (why, e, g)
+
+not_unread : (s : Status) (file : Option (List ℕ)) (old new : Option (List ℕ)) → (s ≡ status.Schema → ⊥) → IfSome file (λ bytes. s ≡ status.Schema → RefusesDocument old new bytes)
+not_unread s None old new never = tt
+not_unread s (Some bytes) old new never = λ is. absurd (never is)
+
+told_no_schema : (s : Status) → IsTold s → s ≡ status.Schema → ⊥
+told_no_schema s h is = let x : refuses ≡ told = ap sort_of (sym is) ∙ h in cc
+
+unread_by : (name : List ℕ) (held : Files) (s : Status) (old new : Option (List ℕ)) → Came (Some (counting name)) (Some held) s old new → IfSome (file_at held name) (λ bytes. s ≡ status.Schema → RefusesDocument old new bytes)
+unread_by name held s old new (inl (due, done, p, h)) = not_unread s (file_at held name) old new (told_no_schema s h)
+unread_by name held s old new (inr (inl (refusal.Usage, c, is, g))) = not_unread s (file_at held name) old new (λ e. let x : status.Usage ≡ status.Schema = sym is ∙ e in cc)
+unread_by name held s old new (inr (inl (refusal.ReadFailed, c, is, g))) = not_unread s (file_at held name) old new (λ e. let x : status.ReadFault ≡ status.Schema = sym is ∙ e in cc)
+unread_by name held s old new (inr (inl (refusal.TooLong role, c, is, g))) = not_unread s (file_at held name) old new (λ e. let x : status.TooLong ≡ status.Schema = sym is ∙ e in cc)
+unread_by name held s old new (inr (inl (refusal.Events why, c, is, g))) = absurd c
+unread_by name held s old new (inr (inl (refusal.Schema why, (b, had, e), is, g))) = unread_file name held s old new b why (file_at held name) refl had.0 e g
+unread_by name held s old new (inr (inr (inl b))) = not_unread s (file_at held name) old new (λ e. let x : status.WriteFault ≡ status.Schema = sym b ∙ e in cc)
+unread_by name held s old new (inr (inr (inr m))) = not_unread s (file_at held name) old new (λ e. let x : status.NoMemory ≡ status.Schema = sym m ∙ e in cc)
+
+pub refuses_document : (t : Option Task) (files : Option Files) (rose : Type 0) (s : Status) (old new : Option (List ℕ)) → IsAnswered t files rose s old new → OfDocument t files (λ bytes. s ≡ status.Schema → RefusesDocument old new bytes)
+refuses_document None files rose s old new a = tt
+refuses_document (Some (stream f name o)) files rose s old new a = tt
+refuses_document (Some (writing name w)) files rose s old new a = tt
+refuses_document (Some (counting name)) None rose s old new a = tt
+refuses_document (Some (counting name)) (Some held) rose s old new a = unread_by name held s old new (came (Some (counting name)) (Some held) rose s old new a)
+
+schema_by : (t : Option Task) (files : Option Files) (s : Status) (old new : Option (List ℕ)) → CameRefused t files s old new → s ≡ status.Schema → IsCounting t
+schema_by t files s old new (refusal.Usage, c, is, g) e = let x : status.Usage ≡ status.Schema = sym is ∙ e in absurd cc
+schema_by t files s old new (refusal.ReadFailed, c, is, g) e = let x : status.ReadFault ≡ status.Schema = sym is ∙ e in absurd cc
+schema_by t files s old new (refusal.TooLong role, c, is, g) e = let x : status.TooLong ≡ status.Schema = sym is ∙ e in absurd cc
+schema_by t files s old new (refusal.Events why, c, is, g) e = let x : status.Events ≡ status.Schema = sym is ∙ e in absurd cc
+schema_by t files s old new (refusal.Schema why, c, is, g) e = is_counting t files why c
+
+pub schema_is : (t : Option Task) (files : Option Files) (rose : Type 0) (s : Status) (old new : Option (List ℕ)) → IsAnswered t files rose s old new → s ≡ status.Schema → IsCounting t
+schema_is t files rose s old new a e = schema_by t files s old new (refusal_of t files s old new (came t files rose s old new a) (ap sort_of e)) e
 
 -- ---- no memory
 no_lines : (w : Wish) (o : Result Run Unwritten) → (text_due w o).lines ≡ []
@@ -470,6 +597,7 @@ starves_now due s old new none a = λ is. starves_at due old new none (subst (λ
 pub starves_is : (t : Option Task) (files : Option Files) (rose : Type 0) (s : Status) (old new : Option (List ℕ)) → IsAnswered t files rose s old new → IsWriting t → StarvesOnly s old new
 starves_is None files rose s old new a w = absurd w
 starves_is (Some (stream f name o)) files rose s old new a w = absurd w
+starves_is (Some (counting name)) files rose s old new a w = absurd w
 starves_is (Some (writing name x)) files rose s old new (due, owed, a) w = starves_now due s old new (owed_lines x name files rose due owed) a
 
 -- ---- from what was done to the answer
@@ -505,6 +633,7 @@ refused_all refusal.Usage old new g = (refl, subst (λ (t : List ℕ). Grows old
 refused_all refusal.ReadFailed old new g = (refl, subst (λ (t : List ℕ). Grows old t new) (sym (append-nil (refusal_line refusal.ReadFailed))) g)
 refused_all (refusal.TooLong role) old new g = (refl, subst (λ (t : List ℕ). Grows old t new) (sym (append-nil (refusal_line (refusal.TooLong role)))) g)
 refused_all (refusal.Events why) old new g = (refl, subst (λ (t : List ℕ). Grows old t new) (sym (append-nil (refusal_line (refusal.Events why)))) g)
+refused_all (refusal.Schema why) old new g = (refl, subst (λ (t : List ℕ). Grows old t new) (sym (append-nil (refusal_line (refusal.Schema why)))) g)
 
 pub refused_part : (r : Refusal) (old new : Option (List ℕ)) → GrowsInPart old (refusal_line r) new → Answered (refusal_due r) status.WriteFault old new
 refused_part r old new p =

@@ -22,13 +22,14 @@ use Rattle.exi_reader.specs.Spelled.{IsIn}
 use Rattle.exi_reader.specs.declared.start.Start.TheVariants as start
 use Rattle.exi_run.specs.Backs.{ReadsBack, WrittenIsRead, written_end, written_job}
 use Rattle.exi_run.specs.declared.ending.Ending.TheVariants as ending
-use Rattle.exi_run.specs.Header.{accepted, header_for}
+use Rattle.exi_opening.specs.Header.{accepted, header_for}
 use Rattle.exi_ports.specs.Ports.{file_at}
 use Rattle.exi_run.specs.declared.command.Command.{Command}
 use Rattle.exi_run.specs.Answers.{OfWriting}
 use Rattle.exi_run.specs.Dues.{Files}
-use Rattle.exi_run.specs.Tasks.{IsReady, IsReadyIf, Task, stream, task, tasked, writing}
-use Rattle.exi_run.specs.Wholes.{IsBody, IsWhole, IsWholeFrom, job_of, setting_of}
+use Rattle.exi_run.specs.Tasks.{IsReady, IsReadyIf, Task, counting, stream, task, tasked, writing}
+use Rattle.exi_opening.specs.Openings.{job_of, setting_of}
+use Rattle.exi_run.specs.Wholes.{IsBody, IsWhole, IsWholeFrom}
 use Rattle.exi_run.specs.Wishes.{Wish, body_by, body_for, head_bits, head_options, run_or_why, stream_bytes, stream_of, written_for}
 use Rattle.exi_run.proofs.Places.{body_place}
 use Rattle.exi_run.proofs.Writes.{head_whole}
@@ -161,6 +162,7 @@ file_back law w name (Some text) ready = law w name text ready
 pub reads_back : WrittenIsRead → (t : Option Task) (files : Option Files) → IsReadyIf t → OfWriting t files (λ w text. ReadsBack w text)
 reads_back law None files ready = tt
 reads_back law (Some (stream f name o)) files ready = tt
+reads_back law (Some (counting name)) files ready = tt
 reads_back law (Some (writing name w)) None ready = tt
 reads_back law (Some (writing name w)) (Some held) ready = file_back law w name (file_at held name) ready
 

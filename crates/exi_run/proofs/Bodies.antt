@@ -22,10 +22,11 @@ use Rattle.exi_run.specs.declared.halt.Halt.TheVariants as halt
 use Rattle.exi_run.specs.Answers.{DidEvents, GrowsByFront}
 use Rattle.exi_run.specs.Endings.{ending_of}
 use Rattle.exi_run.specs.Forms.{all_said, said}
-use Rattle.exi_run.specs.Header.{header_for}
+use Rattle.exi_opening.specs.Header.{header_for}
 use Rattle.exi_run.specs.Printing.{BreaksOff, Prints, PrintsBody, grows_none}
 use Rattle.exi_run.specs.Stops.{halt_by}
-use Rattle.exi_run.specs.Wholes.{IsBody, IsFront, IsWhole, IsWholeFrom, job_of}
+use Rattle.exi_opening.specs.Openings.{job_of}
+use Rattle.exi_run.specs.Wholes.{IsBody, IsFront, IsWhole, IsWholeFrom}
 use Rattle.exi_run.proofs.Owing.{in_part}
 
 -- within the limits of a stream

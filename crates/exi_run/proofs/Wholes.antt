@@ -11,8 +11,9 @@ use Rattle.exi_reader.specs.Laws.{ASequenceIsThere, OneSequence}
 use Rattle.exi_run.specs.declared.ending.Ending.{Ending}
 use Rattle.exi_run.specs.declared.ending.Ending.TheVariants as ending
 use Rattle.exi_run.specs.Endings.{ending_of}
-use Rattle.exi_run.specs.Header.{header_for}
-use Rattle.exi_run.specs.Wholes.{IsBody, IsFront, IsWhole, IsWholeFrom, job_of}
+use Rattle.exi_opening.specs.Header.{header_for}
+use Rattle.exi_opening.specs.Openings.{job_of}
+use Rattle.exi_run.specs.Wholes.{IsBody, IsFront, IsWhole, IsWholeFrom}
 
 body_there : ASequenceIsThere → (j : Job) → (es : List Happening) × (e : Ending) × IsBody j es e
 body_there there j =

@@ -23,7 +23,7 @@ use Rattle.exi_run.specs.Answers.{Composes, DidLast, DidWrite, GrowsByFront, Lis
 use Rattle.exi_run.specs.Dues.{Due, all_pieces, refusal_due, stream_due, text_due, text_of}
 use Rattle.exi_run.specs.Printing.{grows_none}
 use Rattle.exi_run.specs.Stops.{halt_for}
-use Rattle.exi_run.specs.Wholes.{setting_of}
+use Rattle.exi_opening.specs.Openings.{setting_of}
 use Rattle.exi_run.specs.Wishes.{Wish, body_by, head_bits, head_options, run_or_why, stream_bytes, written_for}
 use Rattle.exi_writer.specs.Writing.{Bodies}
 use Rattle.exi_writer.specs.declared.fault.WriteFault.{WriteFault}

@@ -16,15 +16,18 @@ use Rattle.exi_run.specs.declared.status.Status.{Status}
 use Rattle.exi_run.specs.declared.status.Status.TheVariants as status
 use Rattle.exi_run.specs.declared.unwritten.Unwritten.{Unwritten}
 use Rattle.exi_run.specs.declared.unwritten.Unwritten.TheVariants as unwritten
-use Rattle.exi_run.specs.Dues.{Due, all_pieces, text_of, refusal_due, text_due, Files, most_bytes, found, long, failed, IsHad, Owed}
-use Rattle.exi_run.specs.Refusals.{refusal_line, refusal_status, unwritten_line}
+use Rattle.exi_run.specs.Dues.{Due, all_pieces, count_lines, text_of, refusal_due, text_due, Files, most_bytes, found, long, failed, IsHad, Owed}
+use Rattle.exi_run.specs.Refusals.{refusal_line, refusal_status, schema_line, unwritten_line}
 use Rattle.exi_run.specs.Wholes.{IsWhole, IsFront}
 use Rattle.exi_run.specs.Statuses.{IsTold, Sort, told, refuses, breaks, starved, sort_of}
-use Rattle.exi_run.specs.Tasks.{Task, stream, writing, Need, needs_of}
+use Rattle.exi_run.specs.Tasks.{Task, stream, writing, counting, Need, needs_of}
 use Rattle.exi_run.specs.Wishes.{Wish, head_bits, stream_of, written_for}
 use Rattle.exi_run.specs.Endings.{status_of}
 use Rattle.exi_run.specs.Forms.{all_said, told_as}
 use Rattle.exi_writing.specs.Runs.{Run}
+use Rattle.xsd_file.specs.Documents.{IsDocument}
+use Rattle.xsd_file.specs.declared.refusal.SchemaRefusal.{SchemaRefusal}
+use Rattle.xsd_parts.specs.Documents.{Declared}
 
 -- ---- what was done
 abbrev pub no_memory : List ℕ
@@ -76,6 +79,7 @@ Fetches files rose name role (Err (halt.Refused refusal.Usage)) = ⊥
 Fetches files rose name role (Err (halt.Refused refusal.ReadFailed)) = IsHad files rose name failed
 Fetches files rose name role (Err (halt.Refused (refusal.TooLong r))) = (r ≡ role) × IsHad files rose name long
 Fetches files rose name role (Err (halt.Refused (refusal.Events why))) = ⊥
+Fetches files rose name role (Err (halt.Refused (refusal.Schema why))) = ⊥
 Fetches files rose name role (Err halt.Write) = ⊥
 Fetches files rose name role (Err halt.Memory) = Unit {0}
 
@@ -112,6 +116,14 @@ Composes w text (Err halt.Memory) = Unit {0}
 abbrev pub DidWrite : Wish → List ℕ → Result Status Halt → Option (List ℕ) → Option (List ℕ) → Type 0
 DidWrite w text r old new = Did (text_due w (written_for w text)) r old new
 
+-- ---- of a schema document
+-- lines one after another: all of them, a front of their text, or first lines
+abbrev pub DidLines : List (List ℕ) → Result (Unit {0}) Halt → Option (List ℕ) → Option (List ℕ) → Type 0
+DidLines lines (Ok done) old new = Grows old (text_of lines) new
+DidLines lines (Err (halt.Refused r)) old new = ⊥
+DidLines lines (Err halt.Write) old new = GrowsByFront old (text_of lines) new
+DidLines lines (Err halt.Memory) old new = GrowsByLines old lines [] new
+
 -- ---- what a status says, in parts
 -- a fact of the bytes of a file, where the shelf tells them
 abbrev pub OfFile : Option (List ℕ) → Option Files → (List ℕ → Type 0) → Type 0
@@ -122,12 +134,21 @@ abbrev pub OfStream : Form → Option Task → Option Files → (Options → Lis
 OfStream f None files P = Unit {0}
 OfStream f (Some (stream g file o)) files P = f ≡ g → OfFile (Some file) files (P o)
 OfStream f (Some (writing file w)) files P = Unit {0}
+OfStream f (Some (counting file)) files P = Unit {0}
 
 -- a fact of a stream that is written: of what is asked for, and the bytes of its event text
 abbrev pub OfWriting : Option Task → Option Files → (Wish → List ℕ → Type 0) → Type 0
 OfWriting None files P = Unit {0}
 OfWriting (Some (stream f file o)) files P = Unit {0}
 OfWriting (Some (writing file w)) files P = OfFile (Some file) files (P w)
+OfWriting (Some (counting file)) files P = Unit {0}
+
+-- a fact of a schema document: of its bytes
+abbrev pub OfDocument : Option Task → Option Files → (List ℕ → Type 0) → Type 0
+OfDocument None files P = Unit {0}
+OfDocument (Some (stream f file o)) files P = Unit {0}
+OfDocument (Some (writing file w)) files P = Unit {0}
+OfDocument (Some (counting file)) files P = OfFile (Some file) files P
 
 -- the sink took the whole of what the form tells of these bytes, and the status is that of their end
 abbrev pub Tells : Form → Options → Status → Option (List ℕ) → Option (List ℕ) → List ℕ → Type 0
@@ -141,10 +162,25 @@ Writes w old new text = (r : Run) × (written_for w text ≡ Ok r) × Grows old 
 abbrev pub WritesNone : Wish → Option (List ℕ) → Option (List ℕ) → List ℕ → Type 0
 WritesNone w old new text = (why : Unwritten) × (written_for w text ≡ Err why) × Grows old (unwritten_line why) new
 
+-- the sink took how many components the document declares that the whole schema knows by name
+abbrev pub Counts : Option (List ℕ) → Option (List ℕ) → List ℕ → Type 0
+Counts old new bytes = (d : Declared) × IsDocument bytes (Ok d) × Grows old (text_of (count_lines d)) new
+
+-- the document is refused, and the sink took the line that says why
+abbrev pub RefusesDocument : Option (List ℕ) → Option (List ℕ) → List ℕ → Type 0
+RefusesDocument old new bytes = (why : SchemaRefusal) × IsDocument bytes (Err why) × Grows old (schema_line why) new
+
 abbrev pub IsWriting : Option Task → Type 0
 IsWriting None = ⊥
 IsWriting (Some (stream f file o)) = ⊥
 IsWriting (Some (writing file w)) = Unit {0}
+IsWriting (Some (counting file)) = ⊥
+
+abbrev pub IsCounting : Option Task → Type 0
+IsCounting None = ⊥
+IsCounting (Some (stream f file o)) = ⊥
+IsCounting (Some (writing file w)) = ⊥
+IsCounting (Some (counting file)) = Unit {0}
 
 -- no memory was found: the line that says so, or nothing, was put
 abbrev pub StarvesOnly : Status → Option (List ℕ) → Option (List ℕ) → Type 0
@@ -155,6 +191,7 @@ abbrev pub Ends : Option Task → Status → Type 0
 Ends None s = ⊥
 Ends (Some (stream f file o)) s = IsTold s
 Ends (Some (writing file w)) s = (s ≡ status.Ok) ⊎ (s ≡ status.Events)
+Ends (Some (counting file)) s = (s ≡ status.Ok) ⊎ (s ≡ status.Schema)
 
 -- a file that is told is longer than the limit
 abbrev pub IsLong : Option (List ℕ) → Type 0
@@ -174,7 +211,8 @@ abbrev pub AreWithin : Files → List Need → Type 0
 AreWithin held [] = Unit {0}
 AreWithin held (n ∷ ns) = IsWithin (file_at held n.name) × AreWithin held ns
 
--- what may refuse: that the words are no command; a file of one that could not be read or is too long; an event text that is not written
+-- what may refuse: that the words are no command; a file of one that could not be read or is too long; an event text that is not written; a schema document that
+-- is refused
 abbrev pub HasRole : List Need → Role → Type 0
 HasRole [] role = ⊥
 HasRole (n ∷ ns) role = (role ≡ n.role) ⊎ HasRole ns role
@@ -184,6 +222,7 @@ MayRefuse t refusal.Usage = t ≡ None
 MayRefuse t refusal.ReadFailed = t ≢ None
 MayRefuse t (refusal.TooLong role) = HasRole (needs_of t) role
 MayRefuse t (refusal.Events why) = IsWriting t
+MayRefuse t (refusal.Schema why) = IsCounting t
 
 -- a status that refuses: the line of its refusal, and nothing else, was put
 abbrev pub RefusalPut : Option Task → Status → Option (List ℕ) → Option (List ℕ) → Type 0
@@ -191,4 +230,4 @@ RefusalPut t s old new = sort_of s ≡ refuses → (r : Refusal) × MayRefuse t 
 
 -- statuses of commands that are not there yet
 abbrev pub IsLater : Status → Type 0
-IsLater s = (s ≡ status.Schema) ⊎ (s ≡ status.Hints)
+IsLater s = s ≡ status.Hints

@@ -7,7 +7,8 @@ use Rattle.exi_reader.specs.Runs.{Job, events_of}
 use Rattle.exi_run.specs.declared.ending.Ending.{Ending}
 use Rattle.exi_run.specs.declared.ending.Ending.TheVariants as ending
 use Rattle.exi_run.specs.Tasks.{IsReady, writing}
-use Rattle.exi_run.specs.Wholes.{IsBody, IsWhole, setting_of}
+use Rattle.exi_opening.specs.Openings.{setting_of}
+use Rattle.exi_run.specs.Wholes.{IsBody, IsWhole}
 use Rattle.exi_run.specs.Wishes.{Wish, head_bits, stream_of, written_for}
 use Rattle.exi_writer.specs.Same.{AreSame, pruned_list}
 use Rattle.exi_writing.specs.Runs.{Run}

@@ -1,5 +1,5 @@
 -- What the program owes for its words, its files and its stream.
-use Rattle.std.specs.Prelude.{◌≡◌, ◌⊎◌, ℕ, List, [], ◌∷◌, ◌++◌, Option, Some, None, Result, Ok, Err}
+use Rattle.std.specs.Prelude.{◌≡◌, ◌⊎◌, ℕ, List, [], ◌∷◌, ◌++◌, Option, Some, None, Result, Ok, Err, codes, decimal}
 use Rattle.std.specs.List.{flat_map}
 use Rattle.exi_gram.specs.declared.options.Options.{Options}
 use Rattle.exi_names.specs.Events.{Happening}
@@ -17,9 +17,13 @@ use Rattle.exi_run.specs.declared.unwritten.Unwritten.{Unwritten}
 use Rattle.exi_run.specs.Refusals.{refusal_line, refusal_status}
 use Rattle.exi_run.specs.Wholes.{IsWhole}
 use Rattle.exi_run.specs.Wishes.{Wish, stream_of, written_for}
-use Rattle.exi_run.specs.Tasks.{Task, stream, writing, Need, needs}
+use Rattle.exi_run.specs.Tasks.{Task, stream, writing, counting, Need, needs}
 use Rattle.exi_run.specs.Endings.{status_of}
 use Rattle.exi_writing.specs.Runs.{Run}
+use Rattle.xsd_file.specs.Counts.{attributes_counted, elements_counted, types_counted}
+use Rattle.xsd_file.specs.Documents.{IsDocument}
+use Rattle.xsd_file.specs.declared.refusal.SchemaRefusal.{SchemaRefusal}
+use Rattle.xsd_parts.specs.Documents.{Declared}
 use Rattle.exi_run.specs.Forms.{pieces, last_pieces}
 
 -- the pieces that are owed, each in one put: lines, and then a last one or none; and the status behind them
@@ -92,12 +96,35 @@ abbrev pub text_due : Wish → Result Run Unwritten → Due
 text_due w (Ok r) = stream_due (stream_of w r)
 text_due w (Err why) = refusal_due (refusal.Events why)
 
+-- of a schema document: a line for each kind of component, with how many of them the whole schema knows by name
+abbrev pub count_line : List ℕ → ℕ → List ℕ
+count_line word count = word ++ decimal count ++ 10 ∷ []
+
+abbrev pub count_lines : Declared → List (List ℕ)
+count_lines d =
+    count_line (codes "elements ") (elements_counted d)
+    ∷ count_line (codes "attributes ") (attributes_counted d)
+    ∷ count_line (codes "types ") (types_counted d)
+    ∷ []
+
+abbrev pub counts_due : Declared → Due
+counts_due d = record { lines = count_lines d; last = []; status = status.Ok }
+
+abbrev pub document_due : Result Declared SchemaRefusal → Due
+document_due (Ok d) = counts_due d
+document_due (Err why) = refusal_due (refusal.Schema why)
+
+abbrev pub OwedOfDocument : List ℕ → Due → Type 0
+OwedOfDocument bytes due = (found : Result Declared SchemaRefusal) × IsDocument bytes found × (due ≡ document_due found)
+
 -- of a command whose files were found, by their bytes in their order
 abbrev pub OwedBy : Task → Due → List (List ℕ) → Type 0
 OwedBy (stream f file o) due [] = ⊥
 OwedBy (stream f file o) due (input ∷ others) = OwedOf f o input due
 OwedBy (writing file w) due [] = ⊥
 OwedBy (writing file w) due (input ∷ others) = due ≡ text_due w (written_for w input)
+OwedBy (counting file) due [] = ⊥
+OwedBy (counting file) due (input ∷ others) = OwedOfDocument input due
 
 -- of the words
 abbrev pub Owed : Option Task → Option Files → Type 0 → Due → Type 0

@@ -3,7 +3,6 @@ pub mod Endings
 pub mod Refusals
 pub mod Stops
 pub mod Words
-pub mod Header
 pub mod Wholes
 pub mod Wishes
 pub mod Tasks

@@ -1,5 +1,5 @@
 -- What the words ask for, and the files that it needs.
-use Rattle.std.specs.Prelude.{◌≡◌, ◌||◌, ℕ, false, List, [], ◌∷◌, map, Option, Some, None, option_copied, codes, if◌then◌else◌}
+use Rattle.std.specs.Prelude.{◌≡◌, ◌==◌, ◌||◌, ◌&&◌, ℕ, Bool, false, not, is_some, List, [], ◌∷◌, map, Option, Some, None, option_copied, codes, if◌then◌else◌}
 use Rattle.std.specs.Str.{bytes_eq}
 use Rattle.exi_gram.specs.declared.options.Options.{Options}
 use Rattle.exi_gram.specs.declared.options.SchemaWord.TheVariants as schema
@@ -21,10 +21,11 @@ use Rattle.exi_run.specs.Wishes.{Wish, head_options, options_of, wish_of}
 use Rattle.exi_run.specs.Words.{Given, given_by, text}
 
 -- a command with what its words give: a stream is told in a form, by the name of its file and the options that its header may
--- leave to the words; or one is written of the event text in a file
+-- leave to the words; or one is written of the event text in a file; or the components of a schema document in a file are counted
 pub data Task : Type 0 where
   stream : Form → List ℕ → Options → Task
   writing : List ℕ → Wish → Task
+  counting : List ℕ → Task
 
 -- ---- what the code makes of the words
 abbrev pub gathered : Gathered → Given
@@ -42,24 +43,32 @@ writing_task w = writing w.file.now (wish_of (gathered w.given))
 abbrev pub task : Command → Task
 task (command.Tell t) = telling_task t
 task (command.Write w) = writing_task w
+task (command.Count file) = counting file.now
 
 abbrev pub tasked : Option Command → Option Task
 tasked None = None
 tasked (Some c) = Some (task c)
 
 -- ---- what the words ask for
--- `read` tells a stream as text, `index` where its self-contained elements begin, `write` writes one
+-- `read` tells a stream as text, `index` where its self-contained elements begin, `write` writes one, and `schema` counts what a
+-- schema document declares
 abbrev pub verb_of : List ℕ → Option Verb
 verb_of t =
     if bytes_eq t (codes "read") then Some (verb.Tell form.Text)
     else if bytes_eq t (codes "index") then Some (verb.Tell form.Starts)
     else if bytes_eq t (codes "write") then Some verb.Write
+    else if bytes_eq t (codes "schema") then Some verb.Count
     else None
 
--- what a written header has is said for writing alone
+-- FILE alone
+abbrev pub is_bare : Given → Bool
+is_bare g = g.flags.0 == 0 && not (is_some g.most) && not (is_some g.capacity) && not (is_some g.schema) && not g.told && not g.cookie
+
+-- what a written header has is said for writing alone, and nothing beside FILE for a schema document
 abbrev pub task_as : Verb → List ℕ → Given → Option Task
 task_as (verb.Tell f) file g = if g.told || g.cookie then None else Some (stream f file (options_of g))
 task_as verb.Write file g = Some (writing file (wish_of g))
+task_as verb.Count file g = if is_bare g then Some (counting file) else None
 
 -- no options that exclude each other
 abbrev pub task_on : Verb → List ℕ → Given → Option Task
@@ -83,6 +92,7 @@ task_of (word ∷ words) = task_by (verb_of (text word)) (given_by words)
 -- its options exclude nothing, and can be told; those of a body tell no schema
 abbrev pub IsReady : Task → Type 0
 IsReady (stream f file o) = conflicts o ≡ false
+IsReady (counting file) = Unit {0}
 IsReady (writing file w) = (conflicts w.options ≡ false) × IsTellable (head_options w) × (w.options.schema ≡ schema.Absent)
 
 abbrev pub IsReadyIf : Option Task → Type 0
@@ -99,6 +109,7 @@ pub record Need : Type 0 where
 abbrev pub needs : Task → List Need
 needs (stream f file o) = record { name = file; role = role.Input } ∷ []
 needs (writing file w) = record { name = file; role = role.Input } ∷ []
+needs (counting file) = record { name = file; role = role.Schema } ∷ []
 
 abbrev pub needs_of : Option Task → List Need
 needs_of None = []

@@ -1,29 +1,18 @@
 -- What reading a stream is: the header, and sequential processing of the body (EXI 1.0, sections 5 and 6).
-use Rattle.std.specs.Prelude.{◌≡◌, ℕ, List, [], ◌∷◌, ◌++◌, map, Result, Ok, Err}
+use Rattle.std.specs.Prelude.{◌≡◌, ℕ, List, [], ◌++◌, Result, Ok, Err}
 use Rattle.exi_bits.specs.declared.fault.Fault.{Fault}
 use Rattle.exi_gram.specs.declared.options.Options.{Options}
-use Rattle.exi_gram.specs.Books.{state_of}
-use Rattle.exi_gram.specs.Wholes.{document, without_schema}
 use Rattle.exi_header.specs.declared.header.Header.{Header}
 use Rattle.exi_meter.specs.Metering.{stream_bounds}
 use Rattle.exi_names.specs.Events.{Happening}
-use Rattle.exi_names.specs.StartTables.{first_names}
-use Rattle.exi_reader.specs.Configurations.{Setting}
+use Rattle.exi_opening.specs.Header.{header_for}
+use Rattle.exi_opening.specs.Openings.{job_of}
 use Rattle.exi_reader.specs.Runs.{IsSequence, Job}
 use Rattle.exi_reader.specs.declared.end.End.{End}
 use Rattle.exi_reader.specs.declared.start.Start.TheVariants as start
 use Rattle.exi_run.specs.declared.ending.Ending.{Ending}
 use Rattle.exi_run.specs.declared.ending.Ending.TheVariants as ending
 use Rattle.exi_run.specs.Endings.{ending_of}
-use Rattle.exi_run.specs.Header.{header_for}
-
--- no schema, under options (section 5.4)
-abbrev pub setting_of : Options → Setting
-setting_of o = record { options = o; schema = without_schema; states = map (state_of o first_names) (document []) ∷ [] }
-
--- the body begins behind the header
-abbrev pub job_of : List ℕ → Header → Job
-job_of bytes h = record { setting = setting_of h.options; bytes = bytes; body = h.body }
 
 -- sequential processing of a body within the limits of a stream, and what is told of its end
 abbrev pub IsBody : Job → List Happening → Ending → Type 0

@@ -11,7 +11,7 @@ use Rattle.exi_meter.specs.Metering.{stream_bounds}
 use Rattle.exi_names.specs.Events.{Happening}
 use Rattle.exi_run.specs.declared.unwritten.Unwritten.{Unwritten}
 use Rattle.exi_run.specs.declared.unwritten.Unwritten.TheVariants as unwritten
-use Rattle.exi_run.specs.Wholes.{setting_of}
+use Rattle.exi_opening.specs.Openings.{setting_of}
 use Rattle.exi_run.specs.Words.{Given}
 use Rattle.exi_writing.specs.OneEvent.{Refused, limit, not_derived}
 use Rattle.exi_writing.specs.Runs.{Refusal, Run, body}

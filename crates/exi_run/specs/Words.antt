@@ -4,14 +4,15 @@
 --     read FILE
 --     index FILE
 --     write FILE [--told] [--cookie]
+--     schema FILE
 --
 --     --strict --fragment --byte-aligned --self-contained --comments --pis --dtd --prefixes
 --     --value-max-length N   --value-partition-capacity N   --schema-id TEXT
 --
--- A value is the next word, or stands in the same word behind `=`. A word that begins with a hyphen and has more behind it names an
--- option; so neither a value that is a word nor FILE is of that form, but behind the word `--`, which may stand once before FILE,
--- each word is FILE. N is 1 to 10 decimal digits; TEXT has at most 65,536 characters, each of XML. A word is compared by its
--- bytes in UTF-8.
+-- `schema` takes FILE alone. A value is the next word, or stands in the same word behind `=`. A word that begins with a hyphen and
+-- has more behind it names an option; so neither a value that is a word nor FILE is of that form, but behind the word `--`, which
+-- may stand once before FILE, each word is FILE. N is 1 to 10 decimal digits; TEXT has at most 65,536 characters, each of XML. A
+-- word is compared by its bytes in UTF-8.
 use Rattle.std.specs.Prelude.{◌≡◌, ◌<◌, ◌^◌, IfSome, ℕ, zero, suc, ◌==◌, ◌&&◌, Bool, true, false, List, [], ◌∷◌, length, nat_le, nat_lt, Option, Some, None, is_some, option_map, chars, codes, encode_utf8_all, if◌then◌else◌}
 use Rattle.std.specs.Int.RustNames.{bit_and, bit_or}
 use Rattle.std.specs.List.{before_first, after_first, position_or_len}

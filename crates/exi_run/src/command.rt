@@ -19,6 +19,8 @@ pub(crate) enum Verb {
     Tell(Form),
     /// It writes a stream.
     Write,
+    /// It counts what a schema document declares.
+    Count,
 }
 
 /// A stream is told.
@@ -48,6 +50,8 @@ pub(crate) enum Command<'a> {
     Tell(Telling<'a>),
     /// A stream is written.
     Write(Writing<'a>),
+    /// What the schema document in the file of this name declares is counted.
+    Count(&'a Txt),
 }
 
 /// What the command of this name does.
@@ -60,6 +64,8 @@ fn verb_of(name: &str) -> Option<Verb>
         Some(Verb::Tell(Form::Starts))
     } else if name == "write" {
         Some(Verb::Write)
+    } else if name == "schema" {
+        Some(Verb::Count)
     } else {
         None
     }
@@ -80,6 +86,8 @@ fn command_of<'a>(verb: Verb, file: &'a Txt, given: Given<'a>) -> Option<Command
             options: given.options(),
         })),
         Verb::Write => Some(Command::Write(Writing { file, given })),
+        Verb::Count if given.is_bare() => Some(Command::Count(file)),
+        Verb::Count => None,
     }
 }
 

@@ -1,7 +1,7 @@
 //! What the words behind a command give, one at a time.
 
 ghost use Rattle.std.specs.Prelude.{◌≡◌, chars, option_map};
-ghost use Rattle.exi_run.specs.Tasks.{gathered};
+ghost use Rattle.exi_run.specs.Tasks.{gathered, is_bare};
 ghost use Rattle.exi_run.specs.Wishes.{options_of};
 ghost use Rattle.exi_run.specs.Words.{is_schema_name, nothing, number_told, with_file, with_mark, with_switch, with_value};
 
@@ -170,6 +170,18 @@ impl<'a> Given<'a> {
             Valued::Capacity => self.with_capacity(text),
             Valued::SchemaId => self.with_schema(text),
         }
+    }
+
+    /// Whether nothing stands beside FILE.
+    pub(crate) fn is_bare(&self) -> bool
+        ensures { result ≡ is_bare (gathered self.now) }
+    {
+        self.flags.is_empty()
+            && self.most.is_none()
+            && self.capacity.is_none()
+            && self.schema.is_none()
+            && !self.told
+            && !self.cookie
     }
 
     /// The options of a stream whose header tells none.

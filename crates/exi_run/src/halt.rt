@@ -8,6 +8,7 @@ use crate::unwritten::Unwritten;
 use exi_ports::SinkStop;
 use exi_reader::ReadStop;
 use std::alloc::AllocError;
+use xsd_file::SchemaRefusal;
 
 /// What a file is for.
 #[derive(Clone, Copy, Debug, PartialEq, Eq)]
@@ -44,6 +45,8 @@ pub enum Refusal {
     TooLong(Role),
     /// The event text is not written.
     Events(Unwritten),
+    /// The schema document is refused.
+    Schema(SchemaRefusal),
 }
 
 impl Refusal {
@@ -56,6 +59,7 @@ impl Refusal {
             Refusal::ReadFailed => Status::ReadFault,
             Refusal::TooLong(_) => Status::TooLong,
             Refusal::Events(_) => Status::Events,
+            Refusal::Schema(_) => Status::Schema,
         }
     }
 }

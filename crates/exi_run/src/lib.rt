@@ -15,12 +15,12 @@
 
 mod command;
 mod compose;
+mod count;
 mod ending;
 mod files;
 mod form;
 mod given;
 mod halt;
-mod header;
 mod laws;
 mod names;
 mod printer;

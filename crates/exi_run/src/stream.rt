@@ -11,7 +11,6 @@ ghost use Rattle.exi_run.specs.Forms.{last_pieces};
 ghost use Rattle.exi_run.specs.Printing.{PrintsBody};
 ghost use Rattle.exi_run.specs.Statuses.{IsTold};
 ghost use Rattle.exi_run.specs.Tasks.{telling_task};
-ghost use Rattle.exi_run.specs.Wholes.{setting_of};
 ghost use Rattle.exi_run.specs.declared.form.Form.TheVariants as form;
 
 use crate::command::Telling;
@@ -19,32 +18,22 @@ use crate::ending::Ending;
 use crate::files::fetch_file;
 use crate::form::Form;
 use crate::halt::{Halt, Refusal, Role};
-use crate::header::accepted_header;
 use crate::laws::one_whole;
 use crate::printer::TextPrinter;
 use crate::starts::StartPrinter;
 use crate::status::Status;
 use exi_bits::Stop;
-use exi_codes::book;
-use exi_gram::{Book, Options};
+use exi_gram::Options;
 use exi_meter::Limits;
 use exi_names::EventOut;
+use exi_opening::{accepted_header, book_of};
 use exi_ports::{Shelf, Sink};
 use exi_reader::{End, Job, ReadStop, Start, read_from};
-use exi_schema::no_schema;
 use exi_steps::Steps;
 use exi_tables::PlaceTables;
-use std::alloc::{AllocError, Global};
+use std::alloc::Global;
 use std::marker::Brand;
 use std::sync::ledger::{Blank, Ledger};
-
-/// What streams without a schema and with these options are read by.
-pub(crate) fn book_of(alloc: Global, options: Options) -> Result<Book, AllocError>
-    requires free { conflicts options ≡ false }
-    ensures { IfOk result (λ b. b ≡ setting_of options) }
-{
-    book(alloc, no_schema(alloc)?, options)
-}
 
 /// The events of a body, to what takes them. The steps that it counts are not looked at.
 fn read_on<L: Ledger, E: EventOut>(

@@ -1,6 +1,6 @@
 ghost use Rattle.std.specs.Prelude.{◌≡◌, ◌≤◌, ◌≢◌, ◌⊎◌, IfOk, IfSome, IsErrOf, None};
 ghost use Rattle.exi_names.specs.Events.{Rose};
-ghost use Rattle.exi_run.specs.Answers.{Answered, AreWithin, Ends, GrowsByFront, HasLong, IsAnswered, IsLater, IsWriting, OfStream, OfWriting, RefusalPut, Served, Starves, StarvesOnly, Tells, Writes, WritesNone};
+ghost use Rattle.exi_run.specs.Answers.{Answered, AreWithin, Counts, Ends, GrowsByFront, HasLong, IsAnswered, IsCounting, IsLater, IsWriting, OfDocument, OfStream, OfWriting, RefusalPut, RefusesDocument, Served, Starves, StarvesOnly, Tells, Writes, WritesNone};
 ghost use Rattle.exi_run.specs.Backs.{ReadsBack};
 ghost use Rattle.exi_run.specs.Dues.{refusal_due};
 ghost use Rattle.exi_run.specs.Statuses.{IsOr, IsTold};
@@ -9,6 +9,7 @@ ghost use Rattle.exi_run.specs.declared.form.Form.TheVariants as form;
 
 use crate::command::{Command, command_in};
 use crate::compose::write_stream;
+use crate::count::count_document;
 use crate::halt::{Halt, Refusal};
 use crate::laws::written_is_read;
 use crate::refuse::put_refusal;
@@ -38,6 +39,7 @@ fn serve<F: Shelf, O: Sink>(
     match command_in(words) {
         Some(Command::Tell(telling)) => tell_stream(alloc, &telling, shelf, out),
         Some(Command::Write(writing)) => write_stream(alloc, &writing, shelf, out),
+        Some(Command::Count(file)) => count_document(alloc, file, shelf, out),
         None => Err(Halt::Refused(Refusal::Usage)),
     }
 }
@@ -84,12 +86,14 @@ fn respond<F: Shelf, O: Sink>(alloc: Global, words: &[Txt], shelf: &mut F, out: 
 
 /// Does what the words ask for: `read FILE` reads an EXI stream and puts it as text, `index FILE` puts where its
 /// self-contained elements begin; options that the stream's header leaves to the words stand beside FILE. `write FILE`
-/// writes the stream of an event text, as `read` puts it without its last line, by the options of the words.
+/// writes the stream of an event text, as `read` puts it without its last line, by the options of the words. `schema FILE` reads a
+/// schema document, which is such a stream, and puts how many elements, attributes and types it declares for the whole schema.
 ///
 /// The file is fetched from `shelf` once, at most 64 MiB of it. Of `read`, `out` takes one line for each event and
 /// then one for the end, `done BIT` or `fault KIND BIT`; of `index`, one line for each self-contained element, the byte
 /// at which it begins, and then that of a fault. Each line is one put, and nothing more is put after one that fails.
-/// Of `write`, `out` takes the whole stream in one put, or one line that says why there is none.
+/// Of `write`, `out` takes the whole stream in one put, or one line that says why there is none. Of `schema`, `out` takes three
+/// lines, `elements N`, `attributes N` and `types N`, or one line that says why the document is refused.
 /// `rt` and `gate` are for workers, of which these commands have none yet.
 pub fn run<R: Threads + Wait + Sync, F: Shelf, O: Sink, G: Gate>(
     _rt: &R,
@@ -121,6 +125,14 @@ pub fn run<R: Threads + Wait + Sync, F: Shelf, O: Sink, G: Gate>(
 
     // Where memory runs out, nothing of a stream was put. So it is with a refusal, by the clause below.
     ensures starved { IsWriting (task_of words.now) → StarvesOnly result (O.taken out.old) (O.taken out.new) }
+
+    // With status Ok of `schema` the sink took how many elements, attributes and types the document declares that the whole
+    // schema knows by name: three lines, and nothing else.
+    ensures schema { OfDocument (task_of words.now) (F.files shelf.old) (λ bytes. result ≡ Status.Ok → Counts (O.taken out.old) (O.taken out.new) bytes) }
+
+    // With status Schema it is refused, and the sink took one line: the fault of its stream, or else the document's first fault.
+    ensures schema_refused { OfDocument (task_of words.now) (F.files shelf.old) (λ bytes. result ≡ Status.Schema → RefusesDocument (O.taken out.old) (O.taken out.new) bytes) }
+    ensures schema_only { result ≡ Status.Schema → IsCounting (task_of words.now) }
 
     // With every status: what is owed for the words, the files and the stream was put, all of it, or for
     // WriteFault a front of it, or for NoMemory first pieces of it and a word on the want of memory.

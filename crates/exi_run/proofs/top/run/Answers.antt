@@ -1,7 +1,7 @@
 use Rattle.exi_names.specs.Events.{Rose}
 use Rattle.exi_run.specs.Tasks.{task_of}
 use Rattle.exi_run.specs.declared.form.Form.TheVariants as form
-use Rattle.exi_run.proofs.Answering.{tells, refused, usage_is, long_is, too_long_is, refusal_is, not_later, completes, writes, writes_none, events_is, starves_is}
+use Rattle.exi_run.proofs.Answering.{tells, refused, usage_is, long_is, too_long_is, refusal_is, not_later, completes, counts, refuses_document, schema_is, writes, writes_none, events_is, starves_is}
 use Rattle.exi_run.proofs.Backs.{reads_back}
 use Rattle.exi_run.proofs.top.run.Goals as goal
 
@@ -46,3 +46,12 @@ returns-clause-never g c = not_later (task_of c.args.words.now) (g.F.Shelf.files
 
 pub returns-clause-complete : goal.returns-clause-complete
 returns-clause-complete g c = completes (task_of c.args.words.now) (g.F.Shelf.files c.args.shelf.now) (Rose (g.F.Shelf.faults c.args.shelf.now) (g.F.Shelf.faults c.respond.new.shelf)) (Rose (g.O.Sink.faults c.args.out.now) (g.O.Sink.faults c.respond.new.out)) c.respond.result (g.O.Sink.taken c.args.out.now) (g.O.Sink.taken c.respond.new.out) c.respond.ensures.answered c.respond.ensures.read_fault c.respond.ensures.write_fault
+
+pub returns-clause-schema : goal.returns-clause-schema
+returns-clause-schema g c = counts (task_of c.args.words.now) (g.F.Shelf.files c.args.shelf.now) (Rose (g.F.Shelf.faults c.args.shelf.now) (g.F.Shelf.faults c.respond.new.shelf)) c.respond.result (g.O.Sink.taken c.args.out.now) (g.O.Sink.taken c.respond.new.out) c.respond.ensures.answered
+
+pub returns-clause-schema_refused : goal.returns-clause-schema_refused
+returns-clause-schema_refused g c = refuses_document (task_of c.args.words.now) (g.F.Shelf.files c.args.shelf.now) (Rose (g.F.Shelf.faults c.args.shelf.now) (g.F.Shelf.faults c.respond.new.shelf)) c.respond.result (g.O.Sink.taken c.args.out.now) (g.O.Sink.taken c.respond.new.out) c.respond.ensures.answered
+
+pub returns-clause-schema_only : goal.returns-clause-schema_only
+returns-clause-schema_only g c = schema_is (task_of c.args.words.now) (g.F.Shelf.files c.args.shelf.now) (Rose (g.F.Shelf.faults c.args.shelf.now) (g.F.Shelf.faults c.respond.new.shelf)) c.respond.result (g.O.Sink.taken c.args.out.now) (g.O.Sink.taken c.respond.new.out) c.respond.ensures.answered

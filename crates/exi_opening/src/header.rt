@@ -2,7 +2,7 @@ ghost use Rattle.std.specs.Prelude.{◌≡◌, ◌≤◌, ◌*◌, ◌^◌, IfOk
 ghost use Rattle.exi_bits.specs.Bits.{IsAligned};
 ghost use Rattle.exi_gram.specs.Switches.{align_of, conflicts};
 ghost use Rattle.exi_header.specs.Headers.{Tells};
-ghost use Rattle.exi_run.specs.Header.{header_for, name_bit};
+ghost use Rattle.exi_opening.specs.Header.{header_for, name_bit};
 
 use exi_bits::{Fault, Kind, Stop};
 use exi_gram::{Options, SchemaWord};
@@ -25,7 +25,7 @@ fn name_bit(header: &Header) -> Option<u64>
 ///
 /// Those of [`read_header`], and then `WrongSchema` where the stream names a schema, since there is none.
 #[tactic(auto, unfolding(crate::specs::Header::header_for))]
-pub(crate) fn accepted_header(alloc: Global, bytes: &[u8], words: &Options) -> Result<Header, Stop>
+pub fn accepted_header(alloc: Global, bytes: &[u8], words: &Options) -> Result<Header, Stop>
     requires few { length bytes.now ≤ 2 ^ 32 }
     requires free { conflicts words.now ≡ false }
     ensures read { Tells result (header_for words.now bytes.now) }

@@ -1,0 +1,14 @@
+//! What holds of reading a schema document. Each law is a function that does nothing: what it ensures is the law.
+
+ghost use Rattle.xsd_file.specs.Laws.{ADocumentIsThere, OneDocument};
+
+use exi_reader::laws::{a_sequence_is_there, one_sequence};
+
+/// Bytes declare exactly one list of components, or are refused for exactly one reason.
+pub fn one_document()
+    ensures there { ADocumentIsThere }
+    ensures one { OneDocument }
+{
+    a_sequence_is_there();
+    one_sequence();
+}
