@@ -2,7 +2,7 @@
 use Rattle.std.proofs.Common.{◌≡◌, ℕ, suc, Bool, true, false, List, [], ◌∷◌, ◌++◌, All, length, Option, Some, None, refl, ◌∙◌, subst}
 use Rattle.std.proofs.lemmas.List.Elements.{All-head, All-tail}
 use Rattle.exi_gram.proofs.CodeTells.{Each, EachOf}
-use Rattle.exi_gram.specs.Books.{IsBook}
+use Rattle.exi_gram.specs.Books.{IsPlainBook}
 use Rattle.exi_gram.specs.Codes.{Coded, Productions, Second, coded, coded_from, coded_second, coded_seconds, group, single}
 use Rattle.exi_names.specs.declared.names.NameId.{NameId}
 use Rattle.exi_names.specs.Events.{Happening}
@@ -125,7 +125,7 @@ names_fit p outer.AloneOver [] t to h = content_names p t to h
 names_fit p outer.Ended [] t to h = absurd h
 names_fit p o (e ∷ es) t to h = inside_names p t h
 
-pub rules_fit : (g : Setting) (c : Config) → IsBook g → IsSound c → Every (Fits c.tables c.outer c.elements) (coded (rules_of g c))
+pub rules_fit : (g : Setting) (c : Config) → IsPlainBook g → IsSound c → Every (Fits c.tables c.outer c.elements) (coded (rules_of g c))
 rules_fit g c b s = every_coded (Fits c.tables c.outer c.elements) (rules_of g c) (state_fits g c.tables c.learned b c.elements c.outer s.body)
 
 -- ---- the choice
@@ -144,7 +144,7 @@ kept_picked : (g : Setting) (c : Config) (e : Happening) (o : Option (Coded Rule
 kept_picked g c e None = refl
 kept_picked g c e (Some x) = refl
 
-pub chosen_picked : (g : Setting) (c : Config) (e : Happening) → IsBook g → IsSound c → chosen g c e ≡ picked g c e (first_for (wanted_of c.tables e) (rules_of g c))
+pub chosen_picked : (g : Setting) (c : Config) (e : Happening) → IsPlainBook g → IsSound c → chosen g c e ≡ picked g c e (first_for (wanted_of c.tables e) (rules_of g c))
 chosen_picked g c e b s =
     let xs = coded (rules_of g c) in
     let wanted = wanted_of c.tables e in

@@ -5,7 +5,7 @@ use Rattle.std.specs.Option.{option_map}
 use Rattle.exi_builtin.specs.declared.learnable.Learnable.{Learnable}
 use Rattle.exi_builtin.specs.declared.learnable.Learnable.TheVariants as learnable
 use Rattle.exi_builtin.specs.Learning.{same_name}
-use Rattle.exi_gram.specs.Books.{IsBook}
+use Rattle.exi_gram.specs.Books.{IsPlainBook}
 use Rattle.exi_gram.specs.Codes.{Coded, Productions, coded}
 use Rattle.exi_gram.specs.Naming.{Entry}
 use Rattle.exi_names.specs.declared.names.NameId.{NameId}
@@ -83,7 +83,7 @@ wanted_of p (event.er name) = content.Entity
 
 -- the law: the production that is chosen for an event is the first of those that are wanted for it, where it has a spelling of it
 abbrev pub ChosenIsWanted : Type 0
-ChosenIsWanted = (g : Setting) (c : Config) (e : Happening) → IsBook g → IsSound c → chosen g c e ≡ picked g c e (first_for (wanted_of c.tables e) (rules_of g c))
+ChosenIsWanted = (g : Setting) (c : Config) (e : Happening) → IsPlainBook g → IsSound c → chosen g c e ≡ picked g c e (first_for (wanted_of c.tables e) (rules_of g c))
 
 -- ---- in a built-in state: the production for the event alone, where it may have one, before the one for its kind
 abbrev pub named_one : Bool → Option NameId → Option Learnable

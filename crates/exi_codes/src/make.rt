@@ -1,24 +1,29 @@
-ghost use Rattle.std.specs.Prelude.{◌≡◌, ◌∷◌, [], false, IfOk, map};
-ghost use Rattle.exi_names.specs.StartTables.{first_names};
-ghost use Rattle.exi_gram.specs.Books.{state_of};
-ghost use Rattle.exi_gram.specs.Candidates.{FindInStates};
+ghost use Rattle.std.specs.Prelude.{◌≡◌, false, IfOk, map};
+ghost use Rattle.exi_gram.specs.Books.{book_states, tables_of};
+ghost use Rattle.exi_gram.specs.Candidates.{FindInAll, FindInStates};
 ghost use Rattle.exi_gram.specs.Laws.{codes};
 ghost use Rattle.exi_gram.specs.Switches.{conflicts};
-ghost use Rattle.exi_gram.specs.Wholes.{document};
 
-use exi_gram::{Book, CodeTable, CodedState, Index, Items, Options, Schema, document};
+use crate::maker::Maker;
+use crate::places::Places;
+use exi_gram::{Book, CodeTable, CodedState, Index, Items, Options, Schema};
 use std::alloc::{AllocError, Global};
 
-/// The states of the Document grammar without a schema (EXI 1.0, section 8.4.1), as the options leave them.
-fn document_left(alloc: Global, options: &Options) -> Result<Items<CodedState>, AllocError>
-    ensures { IfOk result (λ states. states ≡ map (state_of options.now first_names) (document [])) }
+/// The states of all grammars of a schema, as the options leave them.
+fn states_for(
+    alloc: Global,
+    schema: &Schema,
+    options: &Options,
+) -> Result<Items<Items<CodedState>>, AllocError>
+    ensures { IfOk result (λ states. states ≡ book_states options.now schema.now) }
 {
-    let whole = document(alloc)?;
-    let mut states = Items::new(alloc);
-    for state in whole.as_slice() {
-        states.push(state.left(alloc, options)?)?;
-    }
-    Ok(states)
+    let places = Places::of(alloc, schema.names())?;
+    let maker = Maker {
+        alloc,
+        options,
+        places: &places,
+    };
+    maker.all_states(schema)
 }
 
 /// The compiled table of each state.
@@ -28,6 +33,20 @@ fn tables_for(alloc: Global, states: &[CodedState]) -> Result<Items<CodeTable>, 
     let mut tables = Items::new(alloc);
     for state in states {
         tables.push(state.table(alloc)?)?;
+    }
+    Ok(tables)
+}
+
+/// The compiled tables of the states of each grammar.
+fn all_tables(
+    alloc: Global,
+    states: &[Items<CodedState>],
+) -> Result<Items<Items<CodeTable>>, AllocError>
+    ensures { IfOk result (λ tables. tables ≡ tables_of states.now) }
+{
+    let mut tables = Items::new(alloc);
+    for grammar in states {
+        tables.push(tables_for(alloc, grammar.as_slice())?)?;
     }
     Ok(tables)
 }
@@ -43,25 +62,35 @@ fn indexes_for(alloc: Global, states: &[CodedState]) -> Result<Items<Index>, All
     Ok(indexes)
 }
 
-/// The book by which a stream with these options is read and written. There may be no schema yet, and
-/// the options may not conflict ([`Options::conflicts`](exi_gram::Options::conflicts)).
+/// The indexes of the states of each grammar.
+fn all_indexes(
+    alloc: Global,
+    states: &[Items<CodedState>],
+) -> Result<Items<Items<Index>>, AllocError>
+    ensures { IfOk result (λ indexes. FindInAll indexes states.now) }
+{
+    let mut indexes = Items::new(alloc);
+    for grammar in states {
+        indexes.push(indexes_for(alloc, grammar.as_slice())?)?;
+    }
+    Ok(indexes)
+}
+
+/// The book by which a stream of this schema, or without one, is read and written with these options. They
+/// may not conflict ([`Options::conflicts`](exi_gram::Options::conflicts)). It takes memory in proportion to
+/// the productions of the schema's grammars.
 ///
 /// # Errors
 ///
 /// `AllocError` where memory is refused.
 pub fn book(alloc: Global, schema: Schema, options: Options) -> Result<Book, AllocError>
-    requires without { schema.known ≡ false }
     requires no_conflict { conflicts options ≡ false }
     ensures options { IfOk result (λ b. b.options ≡ options) }
     ensures schema { IfOk result (λ b. b.schema ≡ schema) }
-    ensures states { IfOk result (λ b. b.states ≡ map (state_of options first_names) (document []) ∷ []) }
+    ensures states { IfOk result (λ b. b.states ≡ book_states options schema) }
 {
-    let document = document_left(alloc, &options)?;
-    let mut tables = Items::new(alloc);
-    tables.push(tables_for(alloc, document.as_slice())?)?;
-    let mut indexes = Items::new(alloc);
-    indexes.push(indexes_for(alloc, document.as_slice())?)?;
-    let mut states = Items::new(alloc);
-    states.push(document)?;
+    let states = states_for(alloc, &schema, &options)?;
+    let tables = all_tables(alloc, states.as_slice())?;
+    let indexes = all_indexes(alloc, states.as_slice())?;
     Ok(Book::of(options, schema, states, tables, indexes))
 }

@@ -7,6 +7,7 @@ pub mod CodeTells
 pub mod Indexed
 pub mod Leaving
 pub mod PartLaws
+pub mod Plain
 pub mod Puts
 pub mod StateSets
 pub mod TableLists

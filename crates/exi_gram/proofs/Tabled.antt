@@ -1,17 +1,18 @@
 -- The compiled tables of a book stand for its states.
-use Rattle.std.proofs.Common.{◌≡◌, ℕ, zero, suc, Bool, true, false, List, [], ◌∷◌, map, get_or, refl, sym, ap, ◌∙◌, subst}
+use Rattle.std.proofs.Common.{◌≡◌, ℕ, zero, suc, List, [], ◌∷◌, map, get_or, refl, sym, ap, ◌∙◌, subst}
 use Rattle.std.proofs.lemmas.List.Elements.{All-nil}
 use Rattle.exi_names.specs.StartTables.{Names}
 use Rattle.exi_gram.specs.declared.code.Coded.{Coded as Kept}
 use Rattle.exi_gram.specs.declared.options.Options.{Options}
 use Rattle.exi_gram.specs.declared.second.SecondPart.{SecondPart}
-use Rattle.exi_gram.specs.Books.{Contents, HoldsStates, IsBook, is_kept, placed_in, state_at, state_of}
+use Rattle.exi_gram.specs.Additions.{made_states}
+use Rattle.exi_gram.specs.Books.{Contents, IsBook, is_kept, placed_in, state_at, state_of}
 use Rattle.exi_gram.specs.Codes.{Coded, HasMembers, IsClosedUp, Productions}
 use Rattle.exi_gram.specs.Laws.{codes}
 use Rattle.exi_gram.specs.Naming.{Entry}
+use Rattle.exi_gram.specs.Switches.{strict}
 use Rattle.exi_gram.specs.Tables.{IsTable, coded_of, items_of, no_productions, parts_of, table_of}
 use Rattle.exi_gram.specs.Terminals.{Rule}
-use Rattle.exi_gram.specs.Wholes.{document}
 use Rattle.exi_gram.proofs.CodeLaws.{pruned_closed}
 
 kept_codes : (cs : List Kept) → map (λ (c : Kept). parts_of c.code) cs ≡ map (λ (c : Coded Entry). c.parts) (map coded_of cs)
@@ -32,13 +33,10 @@ closed_or P none f h (p ∷ ps) (suc state) = closed_or P none f h ps state
 none_closed : IsClosedUp {X = Entry} no_productions
 none_closed = All-nil HasMembers
 
-closed_by : (known : Bool) (o : Options) (names : Names) (states : List (List (Productions Entry))) (grammar state : ℕ) → HoldsStates known o names states → IsClosedUp (get_or (get_or states grammar []) state no_productions)
-closed_by true o names states grammar state h = absurd h
-closed_by false o names states grammar state h = subst (λ (z : List (List (Productions Entry))). IsClosedUp (get_or (get_or z grammar []) state no_productions)) (sym h) (of grammar)
-  where
-    of : (grammar : ℕ) → IsClosedUp (get_or (get_or (map (state_of o names) (document []) ∷ []) grammar []) state no_productions)
-    of zero = closed_or IsClosedUp none_closed (state_of o names) (λ p. pruned_closed (is_kept o) (placed_in names p)) (document []) state
-    of (suc grammar) = none_closed
+closed_in : (o : Options) (names : Names) (pss : List (List (Productions Rule))) (grammar state : ℕ) → IsClosedUp (get_or (get_or (map (map (state_of o names)) pss) grammar []) state no_productions)
+closed_in o names [] grammar state = none_closed
+closed_in o names (ps ∷ pss) zero state = closed_or IsClosedUp none_closed (state_of o names) (λ p. pruned_closed (is_kept o) (placed_in names p)) ps state
+closed_in o names (ps ∷ pss) (suc grammar) state = closed_in o names pss grammar state
 
 pub book_closed : (b : Contents) (grammar state : ℕ) → IsBook b → IsClosedUp (state_at b grammar state)
-book_closed b grammar state h = closed_by b.schema.known b.options b.schema.names b.states grammar state h.states
+book_closed b grammar state h = subst (λ (z : List (List (Productions Entry))). IsClosedUp (get_or (get_or z grammar []) state no_productions)) (sym h.states) (closed_in b.options b.schema.names (made_states (strict b.options) b.schema) grammar state)

@@ -2,11 +2,12 @@
 use Rattle.std.specs.Prelude.{◌≡◌, ℕ, ◌<◌, Bool, true, false, List, [], ◌∷◌, length, map, get_or}
 use Rattle.exi_names.specs.StartTables.{Names}
 use Rattle.exi_gram.specs.declared.options.Options.{Options}
+use Rattle.exi_gram.specs.Additions.{made_states}
 use Rattle.exi_gram.specs.Codes.{Productions, mapped, pruned}
 use Rattle.exi_gram.specs.Laws.{codes}
 use Rattle.exi_gram.specs.Naming.{Entry, entry_of}
 use Rattle.exi_gram.specs.Outlines.{Outline}
-use Rattle.exi_gram.specs.Switches.{conflicts}
+use Rattle.exi_gram.specs.Switches.{conflicts, strict}
 use Rattle.exi_gram.specs.Tables.{no_productions}
 use Rattle.exi_gram.specs.Terminals.{Rule, is_left}
 use Rattle.exi_gram.specs.Wholes.{document}
@@ -31,12 +32,9 @@ placed_in names p = mapped (entry_of names) p
 abbrev pub state_of : Options → Names → Productions Rule → Productions Entry
 state_of o names p = left_of o (placed_in names p)
 
--- The states are those of the schema's grammars under the options. Where there is no schema this is the Document
--- grammar alone (EXI 1.0, section 8.4.1). The grammars of a schema (section 8.5.4) will be the other case; until
--- then there is no book for a schema.
-abbrev pub HoldsStates : Bool → Options → Names → List (List (Productions Entry)) → Type 0
-HoldsStates false o names states = states ≡ map (state_of o names) (document []) ∷ []
-HoldsStates true o names states = ⊥
+-- the states of all grammars of a schema under the options (EXI 1.0, sections 8.3, 8.4.1 and 8.5.4)
+abbrev pub book_states : Options → Outline → List (List (Productions Entry))
+book_states o s = map (map (state_of o s.names)) (made_states (strict o) s)
 
 -- the codes of the states, for which the compiled tables stand
 abbrev pub tables_of : List (List (Productions Entry)) → List (List (List (List ℕ)))
@@ -45,7 +43,12 @@ tables_of states = map (map codes) states
 -- what holds of every book
 pub record IsBook (b : Contents) : Type 0 where
   pub no_conflict : conflicts b.options ≡ false
-  pub states : HoldsStates b.schema.known b.options b.schema.names b.states
+  pub states : b.states ≡ book_states b.options b.schema
+
+-- of a book without a schema: it has the Document grammar alone
+pub record IsPlainBook (b : Contents) : Type 0 where
+  pub no_conflict : conflicts b.options ≡ false
+  pub states : b.states ≡ map (state_of b.options b.schema.names) (document []) ∷ []
 
 -- the states of a grammar, and a state's productions
 abbrev pub states_in : Contents → ℕ → List (Productions Entry)

@@ -1,9 +1,12 @@
+pub mod Additions
 pub mod Books
 pub mod Codes
 pub mod Naming
 pub mod Laws
 pub mod Lends
+pub mod Orders
 pub mod Outlines
+pub mod Reaching
 pub mod Schemas
 pub mod Switches
 pub mod Tables

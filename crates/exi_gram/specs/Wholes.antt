@@ -51,9 +51,9 @@ fragment elements = whole_start ∷ fragment_content elements ∷ []
 abbrev pub listed : {X : Type 0} → Productions X → List X
 listed p = map (λ c. c.item) (coded p)
 
--- as grammars; the content begins behind SD
+-- as grammars; a whole stream has no attributes, and its content begins with it
 abbrev pub whole_grammar : List (Productions Rule) → Rules
-whole_grammar states = record { states = map listed states; content = 1 }
+whole_grammar states = record { states = map listed states; content = 0 }
 
 -- what there is without a schema: the Document grammar alone
 abbrev pub without_schema : Outline

@@ -1,9 +1,9 @@
-ghost use Rattle.std.specs.Prelude.{◌≡◌, ◌<◌, ◌++◌, IfOk, OnOk, OnErr, length};
+ghost use Rattle.std.specs.Prelude.{◌≡◌, ◌<◌, ◌++◌, false, IfOk, OnOk, OnErr, length};
 ghost use Rattle.exi_bits.specs.Bits.{IsAligned};
 ghost use Rattle.exi_bits.specs.Unsigned.{Reads};
 ghost use Rattle.exi_bits.specs.Written.{IsWholeBytes};
 ghost use Rattle.exi_items.specs.Fronts.{HoldsFront};
-ghost use Rattle.exi_gram.specs.Books.{IsBook, IsStateOf, state_at, tables_of};
+ghost use Rattle.exi_gram.specs.Books.{IsBook, IsPlainBook, IsStateOf, state_at, tables_of};
 ghost use Rattle.exi_gram.specs.Candidates.{FindInAll, candidates};
 ghost use Rattle.exi_gram.specs.Codes.{code_at, code_bits, coded};
 ghost use Rattle.exi_gram.specs.CodeTrees.{place_read};
@@ -94,6 +94,7 @@ impl Book {
     pub fn schema(&self) -> &Schema
         ensures schema { result.now ≡ self.now.schema }
         ensures book { IsBook self.now }
+        ensures plain { self.now.schema.known ≡ false → IsPlainBook self.now }
     {
         &self.schema
     }

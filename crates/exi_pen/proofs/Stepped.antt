@@ -1,7 +1,7 @@
 -- One event of a list is written by the production that is wanted for it.
 use Rattle.std.proofs.Common.{◌≡◌, ℕ, Bool, true, false, cond, sym, ap, ◌∙◌, subst, Option}
 use Rattle.std.specs.Prelude.{Result, Ok, Err}
-use Rattle.exi_gram.specs.Books.{IsBook}
+use Rattle.exi_gram.specs.Books.{IsPlainBook}
 use Rattle.exi_gram.specs.Codes.{Coded}
 use Rattle.exi_names.specs.Events.{Happening}
 use Rattle.exi_names.specs.Events as event
@@ -21,7 +21,7 @@ use Rattle.exi_toll.specs.declared.stop.PutStop.TheVariants as stop
 use Rattle.exi_pen.specs.Pages.{IsReady, Page, Writes, WritesFragment, by_choice}
 use Rattle.exi_pen.specs.Steps.{StepsAs, begins_fragment, left_of}
 
-written_is : (g : Setting) (c : Config) (e : Happening) → IsBook g → IsSound c → has_ended c ≡ false → by_choice g c (wanted_of c.tables e) e ≡ written g c e
+written_is : (g : Setting) (c : Config) (e : Happening) → IsPlainBook g → IsSound c → has_ended c ≡ false → by_choice g c (wanted_of c.tables e) e ≡ written g c e
 unfolding written
 written_is g c e b s h = ap (λ (o : Option (Coded Rule)). by_code g c e o) (sym (chosen_picked g c e b s)) ∙ ap (λ (ended : Bool). cond ended (Err not_derived) (by_code g c e (chosen g c e))) (sym h)
 

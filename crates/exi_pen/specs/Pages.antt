@@ -3,7 +3,7 @@ use Rattle.std.specs.Prelude.{◌≡◌, ◌<◌, ◌+◌, ◌*◌, not, ℕ, Bo
 use Rattle.exi_bits.specs.declared.fault.Kind.{Kind}
 use Rattle.exi_builtin.specs.declared.learnable.Learned.{Learned}
 use Rattle.exi_builtin.specs.declared.learnable.Learned.TheVariants as used
-use Rattle.exi_gram.specs.Books.{IsBook}
+use Rattle.exi_gram.specs.Books.{IsPlainBook}
 use Rattle.exi_meter.specs.Metering.{Bounds, Metering, with_tally, without_level}
 use Rattle.exi_meter.specs.declared.tally.Tally.{Tally}
 use Rattle.exi_names.specs.declared.names.NameId.{NameId}
@@ -122,7 +122,7 @@ pub record IsReady (p : Page) : Type 0 where
   pub room : HasRoom p.config
   pub levels : HasLevels p.config
   pub sound : IsSound p.config
-  pub book : IsBook p.setting
+  pub book : IsPlainBook p.setting
 
 -- ---- the start and the ends
 -- a fragment begins at a whole byte

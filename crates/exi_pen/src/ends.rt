@@ -1,6 +1,6 @@
-ghost use Rattle.std.specs.Prelude.{◌≡◌, ◌<◌, ◌%◌, true, IfOk, OnOk, length};
+ghost use Rattle.std.specs.Prelude.{◌≡◌, ◌<◌, ◌%◌, false, true, IfOk, OnOk, length};
 ghost use Rattle.exi_bits.specs.Written.{IsWholeBytes};
-ghost use Rattle.exi_gram.specs.Books.{IsBook};
+ghost use Rattle.exi_gram.specs.Books.{IsPlainBook};
 ghost use Rattle.exi_gram.specs.Switches.{align_of};
 ghost use Rattle.exi_meter.specs.Metering.{IsWithinStream, tally_fits};
 ghost use Rattle.exi_names.specs.StartTables.{IsStart};
@@ -45,10 +45,11 @@ impl<'a, T: Tables + Drop> Pen<'a, T> {
         head: BitOut,
     ) -> Result<Pen<'a, T>, AllocError>
         requires place { StartsAt start (length head) }
+        requires plain { book.now.schema.known ≡ false }
         requires aligned { IsWholeBytes (align_of book.now.options) head }
         ensures first { IfOk result (λ p. p ≡ first_page book.now start limits head) }
         ensures within { IfOk result (λ p. IsWithinStream limits) }
-        ensures book { IfOk result (λ p. IsBook book.now) }
+        ensures book { IfOk result (λ p. IsPlainBook book.now) }
         ensures names { IfOk result (λ p. IsStart book.now.schema.names) }
     {
         let tables = first_tables(alloc, book)?;

@@ -2,7 +2,7 @@
 use Rattle.std.proofs.Common.{◌≡◌, ◌≢◌, ℕ, ◌+◌, ◌-◌, ◌*◌, ◌/◌, ◌≤◌, Bool, true, false, cond, List, [], ◌∷◌, Option, Some, None, Result, Ok, Err, refl, sym, ap, ◌∙◌, subst, arith, All}
 use Rattle.std.proofs.lemmas.List.Elements.{All-head}
 use Rattle.exi_bits.specs.declared.fault.Fault.{Fault}
-use Rattle.exi_gram.specs.Books.{IsBook}
+use Rattle.exi_gram.specs.Books.{IsPlainBook}
 use Rattle.exi_meter.specs.Metering.{Metering}
 use Rattle.exi_names.specs.Events.{Happening}
 use Rattle.exi_names.specs.Events as event
@@ -144,7 +144,7 @@ module _ (g : Setting) (bytes : List ℕ) (a : Alone) (c d : Config) (r : Rule) 
   made_aside (informed y) p = absurd (not_so None (ap (λ (z : Given). z.0) p.is) refl)
 
 -- ---- what a reader stands at behind SC
-pub at_fragment : (g : Setting) (bytes : List ℕ) (c next : Config) (byte : ℕ) → IsBook g → IsSound c → Deep c.meter → one g bytes c ≡ told (Some (event.sc byte), next) → AtFragment g byte next
+pub at_fragment : (g : Setting) (bytes : List ℕ) (c next : Config) (byte : ℕ) → IsPlainBook g → IsSound c → Deep c.meter → one g bytes c ≡ told (Some (event.sc byte), next) → AtFragment g byte next
 unfolding Deep
 at_fragment g bytes c next byte book sound deep h =
     let u = stepped g bytes c (Some (event.sc byte), next) h in

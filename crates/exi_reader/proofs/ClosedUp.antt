@@ -1,11 +1,11 @@
 -- In no state of a book, and in no built-in state, is a group of productions empty.
-use Rattle.std.proofs.Common.{ℕ, zero, suc, Bool, true, false, List, [], ◌∷◌, map, get_or, refl, sym, subst, arith, All}
+use Rattle.std.proofs.Common.{◌≡◌, ℕ, zero, suc, List, [], ◌∷◌, map, get_or, refl, sym, subst, arith, All}
 use Rattle.std.proofs.lemmas.List.Elements.{All-nil, All-cons}
 use Rattle.exi_builtin.specs.BuiltIn.{BuiltInRule, is_kept, written_rules}
 use Rattle.exi_builtin.specs.Learning.{Learning}
 use Rattle.exi_builtin.specs.declared.learnable.Room.{Room}
 use Rattle.exi_builtin.specs.declared.learnable.Room.TheVariants as room
-use Rattle.exi_gram.specs.Books.{HoldsStates, IsBook, is_kept as is_entry_kept, placed_in, state_at, state_of}
+use Rattle.exi_gram.specs.Books.{IsPlainBook, is_kept as is_entry_kept, placed_in, state_at, state_of}
 use Rattle.exi_gram.specs.Codes.{HasMembers, IsClosedUp, Productions, Second, group, kept_seconds, mapped_second, single}
 use Rattle.exi_gram.specs.Naming.{Entry}
 use Rattle.exi_gram.specs.Tables.{no_productions}
@@ -46,16 +46,15 @@ left_closed o names [] i = none_closed
 left_closed o names (p ∷ ps) zero = state_closed o names p
 left_closed o names (p ∷ ps) (suc i) = left_closed o names ps i
 
-in_states : (o : Options) (names : Names) (known : Bool) (states : List (List (Productions Entry))) → HoldsStates known o names states → (i j : ℕ) → IsClosedUp (get_or (get_or states i []) j no_productions)
-in_states o names true states h i j = absurd h
-in_states o names false states h zero j = subst (λ (z : List (List (Productions Entry))). IsClosedUp (get_or (get_or z 0 []) j no_productions)) (sym h) (left_closed o names (document []) j)
-in_states o names false states h (suc i) j = subst (λ (z : List (List (Productions Entry))). IsClosedUp (get_or (get_or z (suc i) []) j no_productions)) (sym h) none_closed
+in_states : (o : Options) (names : Names) (states : List (List (Productions Entry))) → states ≡ map (state_of o names) (document []) ∷ [] → (i j : ℕ) → IsClosedUp (get_or (get_or states i []) j no_productions)
+in_states o names states h zero j = subst (λ (z : List (List (Productions Entry))). IsClosedUp (get_or (get_or z 0 []) j no_productions)) (sym h) (left_closed o names (document []) j)
+in_states o names states h (suc i) j = subst (λ (z : List (List (Productions Entry))). IsClosedUp (get_or (get_or z (suc i) []) j no_productions)) (sym h) none_closed
 
-book_closed : (g : Setting) → IsBook g → (grammar number : ℕ) → IsClosedUp (in_book g grammar number)
-book_closed g b grammar number = mapped_members book_rule (state_at g grammar number).seconds (in_states g.options g.schema.names g.schema.known g.states b.states grammar number)
+book_closed : (g : Setting) → IsPlainBook g → (grammar number : ℕ) → IsClosedUp (in_book g grammar number)
+book_closed g b grammar number = mapped_members book_rule (state_at g grammar number).seconds (in_states g.options g.schema.names g.states b.states grammar number)
 
 -- ---- every state
-outer_closed : (g : Setting) (l : Learning) (o : Outer) → IsBook g → IsClosedUp (outer_rules g l o)
+outer_closed : (g : Setting) (l : Learning) (o : Outer) → IsPlainBook g → IsClosedUp (outer_rules g l o)
 outer_closed g l (outer.Book grammar number) b = book_closed g b grammar number
 outer_closed g l outer.FragmentStart b = All-nil HasMembers
 outer_closed g l outer.FragmentContent b = built_in_closed g l room.Fragment
@@ -64,13 +63,13 @@ outer_closed g l outer.AloneFirst b = built_in_closed g l room.Fragment
 outer_closed g l outer.AloneOver b = built_in_closed g l room.Fragment
 outer_closed g l outer.Ended b = All-nil HasMembers
 
-element_closed : (g : Setting) (l : Learning) (s : State) → IsBook g → IsClosedUp (element_rules g l s)
+element_closed : (g : Setting) (l : Learning) (s : State) → IsPlainBook g → IsClosedUp (element_rules g l s)
 element_closed g l (state.BuiltIn r) b = built_in_closed g l r
 element_closed g l (state.Informed grammar number empty) b = book_closed g b grammar number
 
-closed_in : (g : Setting) (l : Learning) (es : List Element) (o : Outer) → IsBook g → IsClosedUp (rules_in g l es o)
+closed_in : (g : Setting) (l : Learning) (es : List Element) (o : Outer) → IsPlainBook g → IsClosedUp (rules_in g l es o)
 closed_in g l [] o b = outer_closed g l o b
 closed_in g l (e ∷ es) o b = element_closed g l e.state b
 
-pub closed_up : (g : Setting) (c : Config) → IsBook g → IsClosedUp (rules_of g c)
+pub closed_up : (g : Setting) (c : Config) → IsPlainBook g → IsClosedUp (rules_of g c)
 closed_up g c b = closed_in g c.learned c.elements c.outer b

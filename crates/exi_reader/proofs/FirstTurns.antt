@@ -2,7 +2,7 @@
 use Rattle.std.proofs.Common.{◌≡◌, ℕ, ◌+◌, false, List, [], ◌∷◌, length, Some, None, refl, sym, ap, ◌∙◌, subst}
 use Rattle.exi_bits.specs.declared.fault.Kind.TheVariants as kind
 use Rattle.exi_bits.specs.Bits.{IsAligned, IsBytes, Spot}
-use Rattle.exi_gram.specs.Books.{IsBook}
+use Rattle.exi_gram.specs.Books.{IsPlainBook}
 use Rattle.exi_gram.specs.Codes.{code_at}
 use Rattle.exi_gram.specs.Switches.{align_of, prefixes}
 use Rattle.exi_gram.proofs.CodeLaws.{spelled_item}
@@ -95,7 +95,7 @@ module _ (g : Setting) (bytes : List ℕ) where
   fits_at : (f : Config) (o : Outer) (t : Terminal) (to : ℕ) → f.elements ≡ [] → f.outer ≡ o → FitsIn f.tables f.outer f.elements t to → FitsIn f.tables o [] t to
   fits_at f o t to e h fit = subst (λ (z : Outer). FitsIn f.tables z [] t to) h (subst (λ (z : List Element). FitsIn f.tables f.outer z t to) e fit)
 
-  pub started : (f : Config) (given : Given) → IsBook g → IsSound f → Begins f → one g bytes f ≡ told given → (place : ℕ) × (rule : Rule) × (spot : Spot) × (code_at (align_of g.options) (rules_of g f) (spot_in bytes f) ≡ fine (rule, spot)) × (place ≡ spot.place) × Started f given place
+  pub started : (f : Config) (given : Given) → IsPlainBook g → IsSound f → Begins f → one g bytes f ≡ told given → (place : ℕ) × (rule : Rule) × (spot : Spot) × (code_at (align_of g.options) (rules_of g f) (spot_in bytes f) ≡ fine (rule, spot)) × (place ≡ spot.place) × Started f given place
   started f given book sound b h =
       let u = stepped g bytes f given h in
       let fit : FitsStart u.rule.on u.rule.to = fits_at f outer.AloneStart u.rule.on u.rule.to b.elements b.outer_is (codes_fit g bytes f u.rule u.spot book sound u.code).0 in
@@ -138,7 +138,7 @@ module _ (g : Setting) (bytes : List ℕ) where
   first_parted f r entity place given octets plain al b fit t = absurd fit
   first_parted f r (informed y) place given octets plain al b fit t = absurd fit
 
-  pub rooted : (f : Config) (given : Given) → IsBytes bytes → prefixes g.options ≡ false → IsAligned (align_of g.options) (spot_in bytes f) → IsBook g → IsSound f → IsFirst f → one g bytes f ≡ told given → Rooted f given
+  pub rooted : (f : Config) (given : Given) → IsBytes bytes → prefixes g.options ≡ false → IsAligned (align_of g.options) (spot_in bytes f) → IsPlainBook g → IsSound f → IsFirst f → one g bytes f ≡ told given → Rooted f given
   rooted f given octets plain al book sound b h =
       let u = stepped g bytes f given h in
       let fit : FitsContent f.tables u.rule.on u.rule.to = fits_at f outer.AloneFirst u.rule.on u.rule.to b.elements b.outer_is (codes_fit g bytes f u.rule u.spot book sound u.code).0 in

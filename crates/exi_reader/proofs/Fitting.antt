@@ -1,5 +1,5 @@
 -- What a code can tell in a sound configuration: which terminals fit each state, and of which names.
-use Rattle.std.proofs.Common.{◌≡◌, ◌⊎◌, ℕ, zero, suc, Bool, true, false, List, [], ◌∷◌, ◌++◌, map, get_or, Option, Some, None, inl, inr, refl, sym, subst}
+use Rattle.std.proofs.Common.{◌≡◌, ◌⊎◌, ℕ, zero, suc, true, false, List, [], ◌∷◌, ◌++◌, map, get_or, Option, Some, None, inl, inr, refl, sym, subst}
 use Rattle.std.specs.Prelude.{All, slice_get}
 use Rattle.std.proofs.lemmas.List.Elements.{All-append, All-from_recursion, All-head, All-nil, All-weaker}
 use Rattle.std.proofs.lemmas.Option.{get_or_from_slice_get, slice_get_within}
@@ -12,7 +12,7 @@ use Rattle.exi_builtin.specs.declared.element_grammar.ElementGrammar.{ElementGra
 use Rattle.exi_builtin.specs.Learning.{Learning, behind_learned, productions, rule_in, rules}
 use Rattle.exi_builtin.proofs.Rules.{rules_are}
 use Rattle.exi_gram.specs.declared.options.Options.{Options}
-use Rattle.exi_gram.specs.Books.{HoldsStates, IsBook, state_of, is_kept as is_entry_kept, placed_in}
+use Rattle.exi_gram.specs.Books.{IsPlainBook, state_of, is_kept as is_entry_kept, placed_in}
 use Rattle.exi_gram.specs.Codes.{Productions, Second, group, mapped, single}
 use Rattle.exi_gram.specs.Naming.{Entry, entry_of}
 use Rattle.exi_gram.specs.Switches.{align_of}
@@ -185,18 +185,17 @@ number_fits o names number (inl e) = subst (λ (n : ℕ). Each (InDocument n) (m
 number_fits o names number (inr (inl e)) = subst (λ (n : ℕ). Each (InDocument n) (mapped book_rule (kept_state (map (state_of o names) (document []) ∷ []) n))) (sym e) (left_fits o names 1 (document_content []) document_written)
 number_fits o names number (inr (inr e)) = subst (λ (n : ℕ). Each (InDocument n) (mapped book_rule (kept_state (map (state_of o names) (document []) ∷ []) n))) (sym e) (left_fits o names 2 document_end end_written)
 
-in_states : (o : Options) (names : Names) (known : Bool) (states : List (List (Productions Entry))) → HoldsStates known o names states → (number : ℕ) → (number ≡ 0) ⊎ (number ≡ 1) ⊎ (number ≡ 2) → Each (InDocument number) (mapped book_rule (kept_state states number))
-in_states o names true states h number n = absurd h
-in_states o names false states h number n = subst (λ (z : List (List (Productions Entry))). Each (InDocument number) (mapped book_rule (kept_state z number))) (sym h) (number_fits o names number n)
+in_states : (o : Options) (names : Names) (states : List (List (Productions Entry))) → states ≡ map (state_of o names) (document []) ∷ [] → (number : ℕ) → (number ≡ 0) ⊎ (number ≡ 1) ⊎ (number ≡ 2) → Each (InDocument number) (mapped book_rule (kept_state states number))
+in_states o names states h number n = subst (λ (z : List (List (Productions Entry))). Each (InDocument number) (mapped book_rule (kept_state z number))) (sym h) (number_fits o names number n)
 
-book_fits : (g : Setting) → IsBook g → (grammar number : ℕ) → IsOuter (outer.Book grammar number) → Each (InDocument number) (in_book g grammar number)
-book_fits g b grammar number h = subst (λ (z : ℕ). Each (InDocument number) (in_book g z number)) (sym h.0) (in_states g.options g.schema.names g.schema.known g.states b.states number h.1)
+book_fits : (g : Setting) → IsPlainBook g → (grammar number : ℕ) → IsOuter (outer.Book grammar number) → Each (InDocument number) (in_book g grammar number)
+book_fits g b grammar number h = subst (λ (z : ℕ). Each (InDocument number) (in_book g z number)) (sym h.0) (in_states g.options g.schema.names g.states b.states number h.1)
 
 -- ---- every state
 abbrev Outside : Partitions → Outer → Rule → Type 0
 Outside p o r = FitsOutside p o r.on r.to
 
-outer_fits : (g : Setting) (p : Partitions) (l : Learning) → IsBook g → IsSoundLearning p l → (o : Outer) → IsOuter o → Each (Outside p o) (outer_rules g l o)
+outer_fits : (g : Setting) (p : Partitions) (l : Learning) → IsPlainBook g → IsSoundLearning p l → (o : Outer) → IsOuter o → Each (Outside p o) (outer_rules g l o)
 outer_fits g p l b s (outer.Book grammar number) h = book_fits g b grammar number h
 outer_fits g p l b s outer.FragmentStart h = start_fits
 outer_fits g p l b s outer.FragmentContent h = fragment_fits g p l s
@@ -208,7 +207,7 @@ outer_fits g p l b s outer.Ended h = record { firsts = All-nil (Outside p outer.
 abbrev pub Fits : Partitions → Outer → List Element → Rule → Type 0
 Fits p o es r = FitsIn p o es r.on r.to
 
-pub state_fits : (g : Setting) (p : Partitions) (l : Learning) → IsBook g → (es : List Element) (o : Outer) → IsSoundBody p l es o → Each (Fits p o es) (rules_in g l es o)
+pub state_fits : (g : Setting) (p : Partitions) (l : Learning) → IsPlainBook g → (es : List Element) (o : Outer) → IsSoundBody p l es o → Each (Fits p o es) (rules_in g l es o)
 state_fits g p l b [] o s = outer_fits g p l b s.learned o s.outer_is
 state_fits g p l b (e ∷ es) o s = element_fits g p l e s.learned e.state (All-head (IsSoundElement p l) e es s.elements).state
 
@@ -262,15 +261,14 @@ state_plain o names (suc zero) = left_plain o names (document_content []) docume
 state_plain o names (suc (suc zero)) = left_plain o names document_end end_plain
 state_plain o names (suc (suc (suc i))) = none_plain
 
-states_plain : (o : Options) (names : Names) (known : Bool) (states : List (List (Productions Entry))) → HoldsStates known o names states → (grammar number : ℕ) → Each IsPlain (mapped book_rule (get_or (get_or states grammar []) number no_productions))
-states_plain o names true states h grammar number = absurd h
-states_plain o names false states h zero number = subst (λ (z : List (List (Productions Entry))). Each IsPlain (mapped book_rule (get_or (get_or z 0 []) number no_productions))) (sym h) (state_plain o names number)
-states_plain o names false states h (suc grammar) number = subst (λ (z : List (List (Productions Entry))). Each IsPlain (mapped book_rule (get_or (get_or z (suc grammar) []) number no_productions))) (sym h) none_plain
+states_plain : (o : Options) (names : Names) (states : List (List (Productions Entry))) → states ≡ map (state_of o names) (document []) ∷ [] → (grammar number : ℕ) → Each IsPlain (mapped book_rule (get_or (get_or states grammar []) number no_productions))
+states_plain o names states h zero number = subst (λ (z : List (List (Productions Entry))). Each IsPlain (mapped book_rule (get_or (get_or z 0 []) number no_productions))) (sym h) (state_plain o names number)
+states_plain o names states h (suc grammar) number = subst (λ (z : List (List (Productions Entry))). Each IsPlain (mapped book_rule (get_or (get_or z (suc grammar) []) number no_productions))) (sym h) none_plain
 
-book_plain : (g : Setting) → IsBook g → (grammar number : ℕ) → Each IsPlain (in_book g grammar number)
-book_plain g b grammar number = states_plain g.options g.schema.names g.schema.known g.states b.states grammar number
+book_plain : (g : Setting) → IsPlainBook g → (grammar number : ℕ) → Each IsPlain (in_book g grammar number)
+book_plain g b grammar number = states_plain g.options g.schema.names g.states b.states grammar number
 
-outer_plain : (g : Setting) (l : Learning) → IsBook g → (o : Outer) → Each IsPlain (outer_rules g l o)
+outer_plain : (g : Setting) (l : Learning) → IsPlainBook g → (o : Outer) → Each IsPlain (outer_rules g l o)
 outer_plain g l b (outer.Book grammar number) = book_plain g b grammar number
 outer_plain g l b outer.FragmentStart = start_plain
 outer_plain g l b outer.FragmentContent = built_in_plain g l room.Fragment
@@ -279,11 +277,11 @@ outer_plain g l b outer.AloneFirst = built_in_plain g l room.Fragment
 outer_plain g l b outer.AloneOver = built_in_plain g l room.Fragment
 outer_plain g l b outer.Ended = record { firsts = All-nil IsPlain; seconds = All-nil (EachOf IsPlain) }
 
-element_plain : (g : Setting) (l : Learning) → IsBook g → (s : State) → Each IsPlain (element_rules g l s)
+element_plain : (g : Setting) (l : Learning) → IsPlainBook g → (s : State) → Each IsPlain (element_rules g l s)
 element_plain g l b (state.BuiltIn r) = built_in_plain g l r
 element_plain g l b (state.Informed grammar number empty) = book_plain g b grammar number
 
-rules_plain : (g : Setting) (l : Learning) → IsBook g → (es : List Element) (o : Outer) → Each IsPlain (rules_in g l es o)
+rules_plain : (g : Setting) (l : Learning) → IsPlainBook g → (es : List Element) (o : Outer) → Each IsPlain (rules_in g l es o)
 rules_plain g l b [] o = outer_plain g l b o
 rules_plain g l b (e ∷ es) o = element_plain g l b e.state
 

@@ -5,7 +5,7 @@ use Rattle.exi_bits.specs.declared.fault.Kind.{Kind}
 use Rattle.exi_bits.specs.declared.fault.Kind.TheVariants as kind
 use Rattle.exi_bits.specs.Bits.{Spot}
 use Rattle.exi_bits.specs.Unsigned.{◌>>=◌}
-use Rattle.exi_gram.specs.Books.{IsBook}
+use Rattle.exi_gram.specs.Books.{IsPlainBook}
 use Rattle.exi_gram.specs.Codes.{code_at}
 use Rattle.exi_gram.specs.Switches.{align_of}
 use Rattle.exi_meter.specs.Metering.{Metering, without_level}
@@ -364,7 +364,7 @@ module _ (base : Config) (b : Body) (bs : List Body) where
             (paid_split bit base.meter (h.rest false) (h.rest true) h.dues c.meter now))
 
   -- ---- one event
-  module _ (P : Outer → Type 0) (lasts : Lasts P) (g : Setting) (bytes : List ℕ) (book : IsBook g) (tally : Tally) (room : Room base.meter tally) (c : Config) (sound : IsSound c) (nests : Nests P c.outer c.aside) (lev : LevelsOf c) where
+  module _ (P : Outer → Type 0) (lasts : Lasts P) (g : Setting) (bytes : List ℕ) (book : IsPlainBook g) (tally : Tally) (room : Room base.meter tally) (c : Config) (sound : IsSound c) (nests : Nests P c.outer c.aside) (lev : LevelsOf c) where
     code_steps : (q : Result (Rule × Spot) Fault) → code_at (align_of g.options) (rules_of g c) (spot_in bytes c) ≡ q → Fair tally (failing c.meter q >>= λ chosen. followed bytes c.place (plan_of g c chosen.0) (at_place c chosen.1.place)) → Step P lasts c.place c.root (failing c.meter q >>= λ chosen. followed bytes c.place (plan_of g c chosen.0) (at_place c chosen.1.place)) (failing (shifted_meter base.meter c.meter) q >>= λ chosen. followed bytes c.place (plan_of g (shifted c) chosen.0) (at_place (shifted c) chosen.1.place))
     unfolding Step shifted
     code_steps (Err e) h fair = refl

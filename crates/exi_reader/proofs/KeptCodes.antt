@@ -8,7 +8,7 @@ use Rattle.exi_builtin.specs.Learning.{Learning, behind_learned}
 use Rattle.exi_builtin.specs.declared.learnable.Learnable.{Learnable}
 use Rattle.exi_builtin.specs.declared.learnable.Learnable.TheVariants as learnable
 use Rattle.exi_builtin.specs.declared.learnable.Room.TheVariants as room
-use Rattle.exi_gram.specs.Books.{IsBook}
+use Rattle.exi_gram.specs.Books.{IsPlainBook}
 use Rattle.exi_gram.specs.Codes.{Productions, Second, code_at, group, group_unless_empty, kept_second, kept_seconds, pruned, single}
 use Rattle.exi_gram.specs.Switches.{align_of, prefixes, strict, self_contained as may_be, dtd, comments, processing_instructions}
 use Rattle.exi_gram.specs.declared.options.Options.{Options}
@@ -110,7 +110,7 @@ none_outside p outer.AloneFirst to h = h
 none_outside p outer.AloneOver to h = h
 none_outside p outer.Ended to h = h
 
-module _ (g : Setting) (bytes : List ℕ) (c : Config) (r : Rule) (t : Spot) (book : IsBook g) (sound : IsSound c) (told : code_at (align_of g.options) (rules_of g c) (spot_in bytes c) ≡ fine (r, t)) (on : r.on ≡ self_contained) where
+module _ (g : Setting) (bytes : List ℕ) (c : Config) (r : Rule) (t : Spot) (book : IsPlainBook g) (sound : IsSound c) (told : code_at (align_of g.options) (rules_of g c) (spot_in bytes c) ≡ fine (r, t)) (on : r.on ≡ self_contained) where
   left_in : (es : List Element) → es ≡ c.elements → may_be g.options ≡ true
   left_in [] e = absurd (none_outside c.tables c.outer r.to (subst (λ t. FitsIn c.tables c.outer [] t r.to) on (subst (λ (z : List Element). FitsIn c.tables c.outer z r.on r.to) (sym e) (codes_fit g bytes c r t book sound told).0)))
   left_in (x ∷ xs) e =

@@ -3,7 +3,7 @@ use Rattle.std.proofs.Common.{◌≡◌, ◌⊎◌, inl, inr, ℕ, ◌+◌, ◌*
 use Rattle.std.proofs.lemmas.Bool.{leb-true, le-leb}
 use Rattle.exi_bits.specs.Bits.{IsBytes}
 use Rattle.exi_bits.specs.declared.fault.Kind.TheVariants as kind
-use Rattle.exi_gram.specs.Books.{IsBook}
+use Rattle.exi_gram.specs.Books.{IsPlainBook}
 use Rattle.exi_meter.specs.Metering.{Bounds, Metering, nothing_used, tally_fits, text_fits, with_text}
 use Rattle.exi_names.specs.Events.{Happening}
 use Rattle.exi_names.specs.StartTables.{IsStart}
@@ -40,7 +40,7 @@ IsOver o = o ≡ outer.AloneOver
 not_over : outer.AloneFirst ≡ outer.AloneOver → ⊥
 not_over e = absurd cc
 
-module _ (j : Job) (byte : ℕ) (c : Config) (limits : Bounds) (at : AtFragment j.setting byte c) (octets : IsBytes j.bytes) (book : IsBook j.setting) (names : IsStart j.setting.schema.names) (within : IsWithinLimits c.meter.limits c.meter.used) where
+module _ (j : Job) (byte : ℕ) (c : Config) (limits : Bounds) (at : AtFragment j.setting byte c) (octets : IsBytes j.bytes) (book : IsPlainBook j.setting) (names : IsStart j.setting.schema.names) (within : IsWithinLimits c.meter.limits c.meter.used) where
   module _ (last : Config) (x : Option Happening) (e : End) (at_end : turn j.setting j.bytes last ≡ ends x e) (much : tally_fits c.meter (tally_of e) ≡ false) where
     abbrev g : Setting
     g = j.setting

@@ -2,7 +2,7 @@
 use Rattle.std.proofs.Common.{◌≡◌, inl, ℕ, Bool, true, false, List, [], ◌∷◌, Option, refl, subst, arith}
 use Rattle.std.proofs.lemmas.List.Elements.{All-nil}
 use Rattle.exi_builtin.specs.Learning.{nothing_learned}
-use Rattle.exi_gram.specs.Books.{IsBook}
+use Rattle.exi_gram.specs.Books.{IsPlainBook}
 use Rattle.exi_gram.specs.Switches.{fragment}
 use Rattle.exi_names.specs.Events.{Happening}
 use Rattle.exi_tables.specs.Partitions.{Partitions}
@@ -41,7 +41,7 @@ first_is_sound j s limits names =
     }
 
 -- ---- what is reached
-led_sound : (g : Setting) (bytes : List ℕ) (turns : List (Option Happening)) (c last : Config) → IsBook g → IsSound c → Leads g bytes c turns last → IsSound last
+led_sound : (g : Setting) (bytes : List ℕ) (turns : List (Option Happening)) (c last : Config) → IsPlainBook g → IsSound c → Leads g bytes c turns last → IsSound last
 led_sound g bytes [] c last b s l = subst (λ (z : Config). IsSound z) l s
 led_sound g bytes (e ∷ turns) c last b s l = led_sound g bytes turns l.0 last b (steps_keep_sound g bytes c l.0 e b s (by_result bytes c (one g bytes c) e l.0 l.1)) l.2
 

@@ -6,7 +6,7 @@ use Rattle.exi_bits.specs.declared.fault.Kind.{Kind}
 use Rattle.exi_bits.specs.declared.fault.Kind.TheVariants as kind
 use Rattle.exi_bits.specs.Bits.{Spot, IsAligned, IsBytes, moved, rest}
 use Rattle.exi_bits.specs.Unsigned.{◌>>=◌}
-use Rattle.exi_gram.specs.Books.{IsBook}
+use Rattle.exi_gram.specs.Books.{IsPlainBook}
 use Rattle.exi_gram.specs.Codes.{code_at}
 use Rattle.exi_gram.specs.Switches.{align_of}
 use Rattle.exi_gram.proofs.CodeLaws.{spelled_item}
@@ -181,7 +181,7 @@ refused_is_fault g bytes c e book at (inr h) =
 mixed : (r : Result Given Failure) (given : Given) (e : Failure) → r ≡ told given → r ≡ fails e → ⊥
 mixed r given e p q = no_told given e (sym p ∙ q)
 
-one_of_results : (g : Setting) (bytes : List ℕ) (c : Config) → IsBook g → IsIn g bytes c → (r : Result Given Failure) → one g bytes c ≡ r → HasOne g bytes c ⊎ HasRefusal g bytes c
+one_of_results : (g : Setting) (bytes : List ℕ) (c : Config) → IsPlainBook g → IsIn g bytes c → (r : Result Given Failure) → one g bytes c ≡ r → HasOne g bytes c ⊎ HasRefusal g bytes c
 one_of_results g bytes c book at (Ok given) h =
     let u = one_is_spelled g bytes c given book at h in
     inl (record {

@@ -7,7 +7,7 @@ use Rattle.exi_bits.specs.declared.fault.Kind.TheVariants as kind
 use Rattle.exi_bits.specs.Bits.{IsAligned, IsBytes, Spot, bits, le_bytes, number_bits}
 use Rattle.exi_bits.specs.Widths.{width_from}
 use Rattle.exi_builtin.specs.Learning.{Learning, nothing_learned}
-use Rattle.exi_gram.specs.Books.{IsBook}
+use Rattle.exi_gram.specs.Books.{IsPlainBook}
 use Rattle.exi_gram.specs.Codes.{Coded, code_at, code_bits}
 use Rattle.exi_gram.specs.Laws.{SpellsCode, codes}
 use Rattle.exi_gram.specs.Switches.{align_of}
@@ -65,7 +65,7 @@ start_text a r (suc place) parts text h e = absurd cc
 start_bits : (a : Align) (r : Rule) (text : List Bool) → SpellsCode fragment_start a r text → text ≡ []
 start_bits a r text h = start_text a r h.place h.parts text h.there h.bits
 
-module _ (g : Setting) (bytes : List ℕ) (book : IsBook g) (octets : IsBytes bytes) where
+module _ (g : Setting) (bytes : List ℕ) (book : IsPlainBook g) (octets : IsBytes bytes) where
   starts_there : (f : Config) (r : Rule) (s : Spot) → IsAligned (align_of g.options) (spot_in bytes f) → Begins f → code_at (align_of g.options) (rules_of g f) (spot_in bytes f) ≡ fine (r, s) → s.place ≡ f.place
   starts_there f r s al b h =
       let k = (spelled_item (rules_of g f) (closed_up g f book) (align_of g.options)).takes r (spot_in bytes f) s octets al h in
@@ -109,7 +109,7 @@ module _ (j : Job) (byte : ℕ) (c : Config) (limits : Bounds) (at : AtFragment 
       ∙ ap (λ (z : Bool). made_of c.place c.meter c.tables c.elements c.outer c.learned z (at.body ∷ at.bodies)) (sym at.after_start)
       ∙ ap (λ (z : List Body). made_of c.place c.meter c.tables c.elements c.outer c.learned c.after_start z) (sym at.aside)
 
-  module _ (octets : IsBytes j.bytes) (book : IsBook j.setting) (names : IsStart j.setting.schema.names) where
+  module _ (octets : IsBytes j.bytes) (book : IsPlainBook j.setting) (names : IsStart j.setting.schema.names) where
     abbrev pub g : Setting
     g = j.setting
 

@@ -3,7 +3,7 @@ use Rattle.std.proofs.Common.{◌≡◌, ◌≢◌, ◌⊎◌, inl, inr, ℕ, �
 use Rattle.std.specs.Prelude.{All}
 use Rattle.std.proofs.lemmas.List.Elements.{All-head}
 use Rattle.exi_bits.specs.declared.fault.Fault.{Fault}
-use Rattle.exi_gram.specs.Books.{IsBook}
+use Rattle.exi_gram.specs.Books.{IsPlainBook}
 use Rattle.exi_meter.specs.Metering.{Metering, with_tally, without_level}
 use Rattle.exi_meter.specs.declared.tally.Tally.{Tally}
 use Rattle.exi_names.specs.Events.{Happening}
@@ -162,7 +162,7 @@ levels_of c s = record {
 }
 
 -- ---- behind the first element of the fragment
-module _ (g : Setting) (bytes : List ℕ) (byte : ℕ) (base : Config) (b : Body) (bs : List Body) (going : is_end b.outer ≡ false) (book : IsBook g) where
+module _ (g : Setting) (bytes : List ℕ) (byte : ℕ) (base : Config) (b : Body) (bs : List Body) (going : is_end b.outer ≡ false) (book : IsPlainBook g) where
   abbrev IsOver : Outer → Type 0
   IsOver o = o ≡ outer.AloneOver
 

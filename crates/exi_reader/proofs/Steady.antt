@@ -1,5 +1,5 @@
 -- What a step needs holds wherever turns lead from a job's first place.
-use Rattle.std.proofs.Common.{◌≡◌, ◌≢◌, ◌⊎◌, inl, inr, ◌<◌, ◌≤◌, ◌^◌, ◌-◌, ℕ, ◌+◌, ◌*◌, Bool, true, false, List, [], ◌∷◌, length, get_or, Option, Some, None, Ok, refl, sym, ap, ◌∙◌, subst, arith}
+use Rattle.std.proofs.Common.{◌≡◌, ◌≢◌, ◌⊎◌, inl, inr, ◌<◌, ◌≤◌, ◌^◌, ◌-◌, ℕ, ◌+◌, ◌*◌, true, List, [], ◌∷◌, length, map, get_or, Option, Some, None, Ok, refl, sym, ap, ◌∙◌, subst, arith}
 use Rattle.std.specs.Prelude.{All, slice_get}
 use Rattle.std.proofs.lemmas.List.Elements.{All-head}
 use Rattle.std.proofs.lemmas.Option.{slice_get_within, get_or_from_slice_get}
@@ -10,7 +10,8 @@ use Rattle.exi_builtin.specs.declared.learnable.Room.{Room}
 use Rattle.exi_builtin.specs.declared.learnable.Room.TheVariants as room
 use Rattle.exi_builtin.specs.Learning.{IsRoom, Learning, learned_in}
 use Rattle.exi_gram.specs.declared.options.Options.{Options}
-use Rattle.exi_gram.specs.Books.{HoldsStates, IsBook, IsStateOf}
+use Rattle.exi_gram.specs.Books.{IsPlainBook, IsStateOf, state_of}
+use Rattle.exi_gram.specs.Wholes.{document}
 use Rattle.exi_gram.specs.Codes.{Productions, code_at}
 use Rattle.exi_gram.specs.Naming.{Entry}
 use Rattle.exi_gram.specs.Switches.{align_of}
@@ -135,18 +136,17 @@ rooms_in : (g : Setting) (l : Learning) (es : List Element) (o : Outer) → AreT
 rooms_in g l [] o h r e = outer_learns l o r e
 rooms_in g l (x ∷ es) o h r e = state_learns g l x.state r h e
 
-three_there : (o : Options) (known : Bool) (names : Names) (states : List (List (Productions Entry))) → HoldsStates known o names states → (number : ℕ) → (number ≡ 0) ⊎ (number ≡ 1) ⊎ (number ≡ 2) → (0 < length states) × (number < length (get_or states 0 []))
-three_there o true names states h number k = absurd h
-three_there o false names states h number k = subst (λ (z : List (List (Productions Entry))). (0 < length z) × (number < length (get_or z 0 []))) (sym h) (omega arith, below number k)
+three_there : (o : Options) (names : Names) (states : List (List (Productions Entry))) → states ≡ map (state_of o names) (document []) ∷ [] → (number : ℕ) → (number ≡ 0) ⊎ (number ≡ 1) ⊎ (number ≡ 2) → (0 < length states) × (number < length (get_or states 0 []))
+three_there o names states h number k = subst (λ (z : List (List (Productions Entry))). (0 < length z) × (number < length (get_or z 0 []))) (sym h) (omega arith, below number k)
   where
     below : (n : ℕ) → (n ≡ 0) ⊎ (n ≡ 1) ⊎ (n ≡ 2) → n < 3
     below n (inl e) = omega (arith, e)
     below n (inr (inl e)) = omega (arith, e)
     below n (inr (inr e)) = omega (arith, e)
 
-outer_there : (g : Setting) → IsBook g → (o : Outer) → IsOuter o → IsThere g o
+outer_there : (g : Setting) → IsPlainBook g → (o : Outer) → IsOuter o → IsThere g o
 outer_there g b (outer.Book grammar number) h =
-    let k = three_there g.options g.schema.known g.schema.names g.states b.states number h.1 in
+    let k = three_there g.options g.schema.names g.states b.states number h.1 in
     subst (λ (z : ℕ). IsStateOf g z number) (sym h.0) (record { grammar_is = k.0; state_is = k.1 })
 outer_there g b outer.FragmentStart h = tt
 outer_there g b outer.FragmentContent h = tt
@@ -302,7 +302,7 @@ same_characters document_type e = absurd cc
 same_characters entity e = absurd cc
 same_characters (informed sort) e = absurd cc
 
-names_of : (g : Setting) (bytes : List ℕ) (c : Config) → IsBook g → IsSound c → (r : Rule) (t : Spot) → known_at_code g (rules_of g c) (spot_in bytes c) ≡ Ok (r, t) → HasNames c r.on
+names_of : (g : Setting) (bytes : List ℕ) (c : Config) → IsPlainBook g → IsSound c → (r : Rule) (t : Spot) → known_at_code g (rules_of g c) (spot_in bytes c) ≡ Ok (r, t) → HasNames c r.on
 names_of g bytes c b s r t e =
     let k = bind_fine (code_at (align_of g.options) (rules_of g c) (spot_in bytes c)) (λ x. Ok (known_rule x.0, x.1)) (r, t) e in
     let same : known_rule k.0.0 ≡ r = ap (λ (z : Rule × Spot). z.0) (fine_is (known_rule k.0.0, k.0.1) (r, t) k.2) in
@@ -316,7 +316,7 @@ names_of g bytes c b s r t e =
     }
 
 -- ---- all of it
-pub steady : (j : Job) (s : Start) (limits : Bounds) (turns : List (Option Happening)) (c : Config) → IsWithinStream limits → IsBook j.setting → IsStart j.setting.schema.names → Leads j.setting j.bytes (first j s limits) turns c → IsSteady (record { setting = j.setting; bytes = j.bytes; config = c })
+pub steady : (j : Job) (s : Start) (limits : Bounds) (turns : List (Option Happening)) (c : Config) → IsWithinStream limits → IsPlainBook j.setting → IsStart j.setting.schema.names → Leads j.setting j.bytes (first j s limits) turns c → IsSteady (record { setting = j.setting; bytes = j.bytes; config = c })
 steady j s limits turns c within b names l =
     let sound : IsSound c = reached_are_sound j s limits turns c b names l in
     let few : Few (length turns) c = few_after_turns j s limits turns c names l in

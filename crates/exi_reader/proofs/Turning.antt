@@ -5,7 +5,7 @@ use Rattle.std.proofs.lemmas.List.Elements.{All-head}
 use Rattle.std.specs.Result.{IsErrOf}
 use Rattle.exi_bits.specs.Bits.{IsBytes}
 use Rattle.exi_bits.specs.declared.fault.Fault.{Fault}
-use Rattle.exi_gram.specs.Books.{IsBook}
+use Rattle.exi_gram.specs.Books.{IsPlainBook}
 use Rattle.exi_meter.specs.Metering.{Bounds, IsWithinStream}
 use Rattle.exi_names.specs.Events.{Happening}
 use Rattle.exi_names.specs.Events as event
@@ -232,7 +232,7 @@ module _ {T : Type 0} (took : T → List Happening → T → Type 0) (broke : T 
 true_no_false : {X : Type 0} → true ≡ false → X
 true_no_false e = absurd cc
 
-pub reached_first : (j : Job) (s : Start) (limits : Bounds) (r : Reading) → r ≡ record { setting = j.setting; bytes = j.bytes; config = first j s limits; waits = false } → IsWithinStream limits → IsBook j.setting → IsStart j.setting.schema.names → IsBytes j.bytes → IsReached r
+pub reached_first : (j : Job) (s : Start) (limits : Bounds) (r : Reading) → r ≡ record { setting = j.setting; bytes = j.bytes; config = first j s limits; waits = false } → IsWithinStream limits → IsPlainBook j.setting → IsStart j.setting.schema.names → IsBytes j.bytes → IsReached r
 reached_first j s limits r e within b names octets = subst IsReached (sym e) (record { body = j.body; start = s; limits = limits; within = within; book = b; names = names; octets = octets; turns = []; leads = refl; fragment = λ k. true_no_false (sym k) })
 
 abbrev waits_at : Reading → Type 0
@@ -244,7 +244,7 @@ reached_same r q e at h a b f = record {
   start = at.start;
   limits = at.limits;
   within = at.within;
-  book = subst IsBook (sym a) at.book;
+  book = subst IsPlainBook (sym a) at.book;
   names = subst (λ (z : Setting). IsStart z.schema.names) (sym a) at.names;
   octets = subst IsBytes (sym b) at.octets;
   turns = at.turns ++ e ∷ [];

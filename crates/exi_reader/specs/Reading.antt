@@ -1,7 +1,7 @@
 -- What the calls of a reader promise, in the words of sequential processing.
 use Rattle.std.specs.Prelude.{◌≡◌, ◌⊎◌, ◌≤◌, ◌^◌, ◌*◌, ◌+◌, ℕ, Bool, true, false, List, [], ◌∷◌, ◌++◌, length, Option, Some, Result, Ok, Err}
 use Rattle.exi_bits.specs.Bits.{IsAligned, IsBytes}
-use Rattle.exi_gram.specs.Books.{IsBook}
+use Rattle.exi_gram.specs.Books.{IsPlainBook}
 use Rattle.exi_gram.specs.Switches.{align_of}
 use Rattle.exi_meter.specs.Metering.{Bounds, IsWithinStream}
 use Rattle.exi_names.specs.Events.{Happening}
@@ -58,7 +58,7 @@ pub record IsReached (r : Reading) : Type 0 where
   pub start : Start
   pub limits : Bounds
   pub within : IsWithinStream limits
-  pub book : IsBook r.setting
+  pub book : IsPlainBook r.setting
   pub names : IsStart r.setting.schema.names
   pub octets : IsBytes r.bytes
   pub turns : List (Option Happening)

@@ -8,7 +8,7 @@ use Rattle.exi_builtin.specs.declared.learnable.Learnable.TheVariants as learnab
 use Rattle.exi_builtin.specs.declared.learnable.Room.TheVariants as room
 use Rattle.exi_builtin.specs.declared.element_grammar.ElementGrammar.{ElementGrammar}
 use Rattle.exi_builtin.specs.Learning.{Learning}
-use Rattle.exi_gram.specs.Books.{IsBook}
+use Rattle.exi_gram.specs.Books.{IsPlainBook}
 use Rattle.exi_gram.specs.Codes.{code_at}
 use Rattle.exi_gram.specs.Switches.{align_of}
 use Rattle.exi_meter.specs.Metering.{Bounds}
@@ -147,11 +147,11 @@ FirstIsSound = (j : Job) (start : Start) (limits : Bounds) → IsStart j.setting
 
 -- and a step leads from one that is sound to one that is
 abbrev pub StepsKeepSound : Type 0
-StepsKeepSound = (g : Setting) (bytes : List ℕ) (c next : Config) (e : Option Happening) → IsBook g → IsSound c → one g bytes c ≡ Ok (e, next) → IsSound next
+StepsKeepSound = (g : Setting) (bytes : List ℕ) (c next : Config) (e : Option Happening) → IsPlainBook g → IsSound c → one g bytes c ≡ Ok (e, next) → IsSound next
 
 -- so each configuration that turns lead to from the first is sound
 abbrev pub ReachedAreSound : Type 0
-ReachedAreSound = (j : Job) (start : Start) (limits : Bounds) (turns : List (Option Happening)) (reached : Config) → IsBook j.setting → IsStart j.setting.schema.names → Leads j.setting j.bytes (first j start limits) turns reached → IsSound reached
+ReachedAreSound = (j : Job) (start : Start) (limits : Bounds) (turns : List (Option Happening)) (reached : Config) → IsPlainBook j.setting → IsStart j.setting.schema.names → Leads j.setting j.bytes (first j start limits) turns reached → IsSound reached
 
 -- ---- what a code tells in a sound configuration
 -- where an element is open: neither SD, ED nor DT, and of a name only one that stands
@@ -238,4 +238,4 @@ FitsIn p o (e ∷ es) t to = FitsInside p t
 
 -- what a code tells fits the state, and opens no grammar of a schema
 abbrev pub CodesFit : Type 0
-CodesFit = (g : Setting) (bytes : List ℕ) (c : Config) (r : Rule) (s : Spot) → IsBook g → IsSound c → code_at (align_of g.options) (rules_of g c) (spot_in bytes c) ≡ Ok (r, s) → FitsIn c.tables c.outer c.elements r.on r.to × (r.inner ≡ None)
+CodesFit = (g : Setting) (bytes : List ℕ) (c : Config) (r : Rule) (s : Spot) → IsPlainBook g → IsSound c → code_at (align_of g.options) (rules_of g c) (spot_in bytes c) ≡ Ok (r, s) → FitsIn c.tables c.outer c.elements r.on r.to × (r.inner ≡ None)

@@ -4,7 +4,7 @@ use Rattle.std.specs.Prelude.{◌≡◌, ℕ, ◌+◌, ◌*◌, ◌≤◌, ◌&&
 use Rattle.exi_bits.specs.declared.fault.Kind.{Kind}
 use Rattle.exi_bits.specs.declared.fault.Kind.TheVariants as kind
 use Rattle.exi_builtin.specs.Learning.{nothing_learned}
-use Rattle.exi_gram.specs.Books.{IsBook}
+use Rattle.exi_gram.specs.Books.{IsPlainBook}
 use Rattle.exi_gram.specs.Switches.{prefixes}
 use Rattle.exi_bits.specs.Bits.{IsBytes}
 use Rattle.exi_meter.specs.Metering.{Bounds, tally_fits, with_tally, with_text}
@@ -107,4 +107,4 @@ GoesAs g bytes c es (wrong_root e) = (turns : List (Option Happening)) × IsRun 
 
 -- the outcome of the fragment, read by itself under any limits, may be taken where it fits: sequential processing goes on so
 abbrev pub SplicesAreRuns : Type 0
-SplicesAreRuns = (j : Job) (byte : ℕ) (c : Config) (limits : Bounds) (es : List Happening) (e : End) (count : ℕ) → IsBytes j.bytes → IsBook j.setting → IsStart j.setting.schema.names → AtFragment j.setting byte c → IsSequence j (start.Fragment byte) limits es e count → fits c e ≡ true → GoesAs j.setting j.bytes c es (spliced c e)
+SplicesAreRuns = (j : Job) (byte : ℕ) (c : Config) (limits : Bounds) (es : List Happening) (e : End) (count : ℕ) → IsBytes j.bytes → IsPlainBook j.setting → IsStart j.setting.schema.names → AtFragment j.setting byte c → IsSequence j (start.Fragment byte) limits es e count → fits c e ≡ true → GoesAs j.setting j.bytes c es (spliced c e)

@@ -1,6 +1,6 @@
 ghost use Rattle.std.specs.Prelude.{◌≡◌, ◌≤◌, ◌^◌, false, length, true, IfOk, MatchOption, OnOk};
 ghost use Rattle.exi_bits.specs.Bits.{IsBytes};
-ghost use Rattle.exi_gram.specs.Books.{IsBook};
+ghost use Rattle.exi_gram.specs.Books.{IsPlainBook};
 ghost use Rattle.exi_gram.specs.Switches.{fragment};
 ghost use Rattle.exi_meter.specs.Metering.{IsWithinStream};
 ghost use Rattle.exi_names.specs.StartTables.{IsStart};
@@ -51,7 +51,7 @@ pub fn first_outer(options: &Options, start: Start) -> Outer
 /// The string tables at the start of a stream.
 pub fn first_tables<T: Tables>(alloc: Global, book: &Book) -> Result<T, AllocError>
     ensures tables { IfOk result (λ t. T.held t ≡ first_tables book.now) }
-    ensures book { IsBook book.now }
+    ensures plain { book.now.schema.known ≡ false → IsPlainBook book.now }
     ensures names { IsStart book.now.schema.names }
 {
     let options = book.options();
@@ -81,7 +81,7 @@ impl<'a, T: Tables + Drop> Stepper<'a, T> {
         requires start { IsStartIn (job_of job.now) start }
         ensures first { IfOk result (λ s. s ≡ standing (job_of job.now) (first (job_of job.now) start limits)) }
         ensures within { IfOk result (λ s. IsWithinStream limits) }
-        ensures book { IfOk result (λ s. IsBook job.now.book.now) }
+        ensures book { IfOk result (λ s. IsPlainBook job.now.book.now) }
         ensures names { IfOk result (λ s. IsStart job.now.book.now.schema.names) }
         ensures octets { IfOk result (λ s. IsBytes job.now.bytes.now) }
     {

@@ -8,7 +8,7 @@ use Rattle.exi_bits.proofs.BitLaws.{pow_up, value_of_below}
 use Rattle.exi_bits.proofs.OctetLaws.{bits_octets}
 use Rattle.exi_bits.specs.declared.fault.Fault.{Fault}
 use Rattle.exi_evtext.specs.Parsing.{events_in}
-use Rattle.exi_gram.specs.Books.{IsBook}
+use Rattle.exi_gram.specs.Books.{IsPlainBook}
 use Rattle.exi_gram.specs.declared.options.Options.{Options}
 use Rattle.exi_gram.specs.declared.options.SchemaWord.{SchemaWord}
 use Rattle.exi_gram.specs.declared.options.SchemaWord.TheVariants as schema
@@ -93,7 +93,7 @@ body_run w text r h =
     let t = text_events w r (events_in text) h in
     (t.0, run_of (body (setting_of w.options) (length (head_bits w)) stream_bounds t.0) r t.1)
 
-book_of : (o : Options) → conflicts o ≡ false → IsBook (setting_of o)
+book_of : (o : Options) → conflicts o ≡ false → IsPlainBook (setting_of o)
 book_of o free = record { no_conflict = free; states = refl }
 
 stands_in : (w : Wish) (r : Run) → IsIn (setting_of w.options) (stream_of w r) (first (written_job w r) start.Body stream_bounds)

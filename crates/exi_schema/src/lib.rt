@@ -18,7 +18,7 @@ fn document_grammar(alloc: Global) -> Result<Grammar, AllocError>
     for state in coded.as_slice() {
         states.push(state.productions(alloc)?)?;
     }
-    Ok(Grammar { states, content: 1 })
+    Ok(Grammar { states, content: 0 })
 }
 
 /// What there is without a schema: the Document grammar alone, and the first string tables (EXI 1.0,

@@ -5,7 +5,7 @@ use Rattle.std.proofs.lemmas.List.{length-append, length-replicate}
 use Rattle.exi_bits.specs.Bits.{bits}
 use Rattle.exi_bits.specs.Written.{IsWholeBytes, padded, to_byte, zeros}
 use Rattle.exi_bits.proofs.BitLaws.{length-bits}
-use Rattle.exi_gram.specs.Books.{IsBook}
+use Rattle.exi_gram.specs.Books.{IsPlainBook}
 use Rattle.exi_gram.specs.Switches.{align_of}
 use Rattle.exi_meter.specs.Metering.{Bounds, IsWithinStream}
 use Rattle.exi_names.specs.StartTables.{IsStart}
@@ -29,7 +29,7 @@ starts_at : (s : Start) (bits : ℕ) → StartsAt s bits → first_place bits s 
 starts_at start.Body bits h = refl
 starts_at (start.Fragment byte) bits h = h
 
-first_composed : (g : Setting) (s : Start) (limits : Bounds) (head : List Bool) → IsWithinStream limits → IsBook g → IsStart g.schema.names → StartsAt s (length head) → IsWholeBytes (align_of g.options) head → IsComposed (composing_at (first_page g s limits head))
+first_composed : (g : Setting) (s : Start) (limits : Bounds) (head : List Bool) → IsWithinStream limits → IsPlainBook g → IsStart g.schema.names → StartsAt s (length head) → IsWholeBytes (align_of g.options) head → IsComposed (composing_at (first_page g s limits head))
 first_composed g s limits head within book names starts aligned = record {
   body = length head;
   start = s;
@@ -43,7 +43,7 @@ first_composed g s limits head within book names starts aligned = record {
   leads = λ bytes more octets are. ([], refl);
 }
 
-pub begun : (p : Page) (g : Setting) (s : Start) (limits : Bounds) (head : List Bool) → p ≡ first_page g s limits head → IsWithinStream limits → IsBook g → IsStart g.schema.names → StartsAt s (length head) → IsWholeBytes (align_of g.options) head → IsComposed (composing_at p)
+pub begun : (p : Page) (g : Setting) (s : Start) (limits : Bounds) (head : List Bool) → p ≡ first_page g s limits head → IsWithinStream limits → IsPlainBook g → IsStart g.schema.names → StartsAt s (length head) → IsWholeBytes (align_of g.options) head → IsComposed (composing_at p)
 begun p g s limits head is within book names starts aligned = subst (λ (z : Page). IsComposed (composing_at z)) (sym is) (first_composed g s limits head within book names starts aligned)
 
 -- ---- a fragment, at a whole byte

@@ -3,7 +3,7 @@ use Rattle.std.specs.Prelude.{◌≡◌, ◌+◌, ◌*◌, ◌%◌, ◌/◌, ℕ
 use Rattle.exi_bits.specs.Bits.{IsBytes, bits}
 use Rattle.exi_bits.specs.Written.{IsWholeBytes}
 use Rattle.exi_bits.specs.declared.align.Align.{Align}
-use Rattle.exi_gram.specs.Books.{IsBook}
+use Rattle.exi_gram.specs.Books.{IsPlainBook}
 use Rattle.exi_gram.specs.Switches.{align_of}
 use Rattle.exi_meter.specs.Metering.{Bounds, IsWithinStream, Metering, with_tally}
 use Rattle.exi_meter.specs.declared.tally.Tally.{Tally}
@@ -46,7 +46,7 @@ pub record IsComposed (w : Composing) : Type 0 where
   pub start : Start
   pub limits : Bounds
   pub within : IsWithinStream limits
-  pub book : IsBook w.setting
+  pub book : IsPlainBook w.setting
   pub names : IsStart w.setting.schema.names
   pub sound : HasSoundTables w.config
   pub place : w.config.place ≡ length w.bits

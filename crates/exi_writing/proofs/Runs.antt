@@ -4,7 +4,7 @@ use Rattle.std.specs.Prelude.{Result, Ok, Err, nat_lt}
 use Rattle.std.proofs.lemmas.Bool.{cases_Bool, le-ltb}
 use Rattle.std.proofs.lemmas.List.{append_cancel_left}
 use Rattle.exi_bits.specs.Bits.{rest}
-use Rattle.exi_gram.specs.Books.{IsBook}
+use Rattle.exi_gram.specs.Books.{IsPlainBook}
 use Rattle.exi_names.specs.Events.{Happening}
 use Rattle.exi_tables.proofs.Sound.{first_sound}
 use Rattle.exi_gram.specs.Switches.{fragment}
@@ -69,7 +69,7 @@ run_is : (a b : Run) → given_run a ≡ given_run b → a ≡ b
 run_is a b e = cc
 
 -- an event in front of others
-chained_front : Laws → (g : Setting) (bytes : List ℕ) (c : Config) (e : Happening) (w : Written) (r : Run) (more : List Bool) → IsBook g → IsIn g bytes c → HasSoundTables c → written g c e ≡ Ok w → rest (spot_in bytes c) ≡ (w.bits ++ r.bits) ++ more
+chained_front : Laws → (g : Setting) (bytes : List ℕ) (c : Config) (e : Happening) (w : Written) (r : Run) (more : List Bool) → IsPlainBook g → IsIn g bytes c → HasSoundTables c → written g c e ≡ Ok w → rest (spot_in bytes c) ≡ (w.bits ++ r.bits) ++ more
     → ((IsIn g bytes w.given.1) → (HasSoundTables w.given.1) → rest (spot_in bytes w.given.1) ≡ r.bits ++ more → Chained g bytes w.given.1 r more) → Chained g bytes c (in_front w r) more
 chained_front laws g bytes c e w r more book stands sound h front others =
     let s = one_read laws g bytes c e w (r.bits ++ more) book stands sound h (front ∙ append_assoc w.bits r.bits more) in
@@ -80,7 +80,7 @@ then_parts : (w : Written) (o : Result Run Refused) (r : Run) → then_run w o �
 then_parts w (Ok s) r e = (s, refl, sym (run_is (in_front w s) r e))
 then_parts w (Err why) r e = absurd cc
 
-all_read : Laws → (g : Setting) (bytes : List ℕ) (c : Config) (es : List Happening) (r : Run) (more : List Bool) → IsBook g → IsIn g bytes c → HasSoundTables c → written_all g c es ≡ Ok r → rest (spot_in bytes c) ≡ r.bits ++ more → Chained g bytes c r more
+all_read : Laws → (g : Setting) (bytes : List ℕ) (c : Config) (es : List Happening) (r : Run) (more : List Bool) → IsPlainBook g → IsIn g bytes c → HasSoundTables c → written_all g c es ≡ Ok r → rest (spot_in bytes c) ≡ r.bits ++ more → Chained g bytes c r more
 all_read laws g bytes c [] r more book stands sound h front =
     let is = run_is (nothing_from c) r h in
     rw (← is) record { chain = refl; stands = stands; left = subst (λ (x : Run). rest (spot_in bytes c) ≡ x.bits ++ more) (sym is) front; sound = sound }
@@ -92,7 +92,7 @@ all_read laws g bytes c (e ∷ es) r more book stands sound h front =
     rw t.2 (chained_front laws g bytes c e w s more book stands sound a.1 (subst (λ (x : Run). rest (spot_in bytes c) ≡ x.bits ++ more) t.2 front)
     (λ st so fr. all_read laws g bytes w.given.1 es s more book st so t.1 fr))
 
-put_read : Laws → (g : Setting) (bytes : List ℕ) (c : Config) (e : Happening) (r : Run) (more : List Bool) → IsBook g → IsIn g bytes c → HasSoundTables c → put g c e ≡ Ok r → rest (spot_in bytes c) ≡ r.bits ++ more → Chained g bytes c r more
+put_read : Laws → (g : Setting) (bytes : List ℕ) (c : Config) (e : Happening) (r : Run) (more : List Bool) → IsPlainBook g → IsIn g bytes c → HasSoundTables c → put g c e ≡ Ok r → rest (spot_in bytes c) ≡ r.bits ++ more → Chained g bytes c r more
 unfolding put
 put_read laws g bytes c e r more book stands sound h front =
     let a = bind_parts (written g c e) _ r h in
@@ -121,7 +121,7 @@ behind_run_parts r (Err why) t e = absurd cc
 abbrev Others : Setting → List ℕ → (Config → Result Run Refusal) → Type 0
 Others g bytes others = (d : Config) (r : Run) (more : List Bool) → IsIn g bytes d → HasSoundTables d → others d ≡ Ok r → rest (spot_in bytes d) ≡ r.bits ++ more → Whole g bytes d r more
 
-on_read : Laws → (n : ℕ) (g : Setting) (bytes : List ℕ) (c : Config) (e : Happening) (o : Result Run Refused) (others : Config → Result Run Refusal) (r : Run) (more : List Bool) → IsBook g → IsIn g bytes c → HasSoundTables c → Others g bytes others → put g c e ≡ o → go_on n o others ≡ Ok r → rest (spot_in bytes c) ≡ r.bits ++ more → Whole g bytes c r more
+on_read : Laws → (n : ℕ) (g : Setting) (bytes : List ℕ) (c : Config) (e : Happening) (o : Result Run Refused) (others : Config → Result Run Refusal) (r : Run) (more : List Bool) → IsPlainBook g → IsIn g bytes c → HasSoundTables c → Others g bytes others → put g c e ≡ o → go_on n o others ≡ Ok r → rest (spot_in bytes c) ≡ r.bits ++ more → Whole g bytes c r more
 on_read laws n g bytes c e (Err why) others r more book stands sound read is h front = absurd cc
 on_read laws n g bytes c e (Ok s) others r more book stands sound read is h front =
     let b = behind_run_parts s (others s.last) r h in
@@ -134,11 +134,11 @@ on_read laws n g bytes c e (Ok s) others r more book stands sound read is h fron
       ended = more_read.ended;
     }
 
-then_read : Laws → (n : ℕ) (g : Setting) (bytes : List ℕ) (c : Config) (o : Option Happening) (others : Config → Result Run Refusal) (r : Run) (more : List Bool) → IsBook g → IsIn g bytes c → HasSoundTables c → Others g bytes others → put_then n g c o others ≡ Ok r → rest (spot_in bytes c) ≡ r.bits ++ more → Whole g bytes c r more
+then_read : Laws → (n : ℕ) (g : Setting) (bytes : List ℕ) (c : Config) (o : Option Happening) (others : Config → Result Run Refusal) (r : Run) (more : List Bool) → IsPlainBook g → IsIn g bytes c → HasSoundTables c → Others g bytes others → put_then n g c o others ≡ Ok r → rest (spot_in bytes c) ≡ r.bits ++ more → Whole g bytes c r more
 then_read laws n g bytes c None others r more book stands sound read h front = read c r more stands sound h front
 then_read laws n g bytes c (Some e) others r more book stands sound read h front = on_read laws n g bytes c e (put g c e) others r more book stands sound read refl h front
 
-from_read : Laws → (n : ℕ) (g : Setting) (bytes : List ℕ) (c : Config) (es : List Happening) (r : Run) (more : List Bool) → IsBook g → IsIn g bytes c → HasSoundTables c → put_from n g c es ≡ Ok r → rest (spot_in bytes c) ≡ r.bits ++ more → Whole g bytes c r more
+from_read : Laws → (n : ℕ) (g : Setting) (bytes : List ℕ) (c : Config) (es : List Happening) (r : Run) (more : List Bool) → IsPlainBook g → IsIn g bytes c → HasSoundTables c → put_from n g c es ≡ Ok r → rest (spot_in bytes c) ≡ r.bits ++ more → Whole g bytes c r more
 from_read laws n g bytes c [] r more book stands sound h front = elim (cases_Bool (has_ended c)) [
   | inl k ↦
       let is = listed_is (nothing_from c) r (rw k at h) in

@@ -1,4 +1,4 @@
-use Rattle.std.proofs.Common.{◌≡◌, take}
+use Rattle.std.proofs.Common.{take}
 use Rattle.exi_gram.specs.Candidates.{FindInStates}
 use Rattle.exi_codes.proofs.make.indexes_for.Given as goal
 

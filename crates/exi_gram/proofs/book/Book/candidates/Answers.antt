@@ -1,10 +1,18 @@
-use Rattle.std.proofs.Common.{◌≡◌, List, get_or, [], ap, ◌∙◌, subst, arith}
+use Rattle.std.proofs.Common.{◌≡◌, ◌<◌, ℕ, List, length, sym, get_or, [], ap, ◌∙◌, subst, arith}
 use Rattle.exi_gram.specs.Books.{Contents}
 use Rattle.exi_gram.specs.Candidates.{FindInAll}
 use Rattle.exi_gram.specs.Codes.{Productions}
 use Rattle.exi_gram.specs.Naming.{Entry}
-use Rattle.exi_gram.proofs.Indexed.{index_at, row_at, states_count}
+use Rattle.exi_gram.proofs.Indexed.{all_count, index_at, row_at, states_count}
 use Rattle.exi_gram.proofs.book.Book.candidates.Goals as goal
+
+pub bounds-as_slice-grammar : goal.bounds-as_slice-grammar
+bounds-as_slice-grammar c =
+    let v : c.self.inside.states ≡ c.args.self.now.states = ap (λ (b : Contents). b.states) c.self.view_is in
+    let f = subst (λ (z : List (List (Productions Entry))). FindInAll c.self.inside.indexes z) v c.self.invariant.2 in
+    let n : length c.self.inside.indexes ≡ length c.args.self.now.states = all_count c.self.inside.indexes c.args.self.now.states f in
+    let l : length c.as_slice.result.now ≡ length c.self.inside.indexes = ap length c.as_slice.ensures in
+    omega (arith, n, l, c.requires.exists.grammar_is)
 
 pub bounds-indexes-state : goal.bounds-indexes-state
 bounds-indexes-state c =

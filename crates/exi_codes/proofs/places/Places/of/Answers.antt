@@ -1,0 +1,7 @@
+use Rattle.std.proofs.Common.{None, ap, ◌∙◌}
+use Rattle.exi_codes.specs.PlacedNames.{names_in}
+use Rattle.exi_codes.proofs.PlacedNames.{names_first}
+use Rattle.exi_codes.proofs.places.Places.of.Goals as goal
+
+pub returns : goal.returns
+returns c = ap names_in c.in_ok-tables.ensures ∙ names_first c.args.names.now None None c.uris.ensures.start

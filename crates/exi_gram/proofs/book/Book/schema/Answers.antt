@@ -1,0 +1,7 @@
+use Rattle.std.proofs.Common.{◌≡◌, false, sym, ap, ◌∙◌, subst}
+use Rattle.exi_gram.specs.Books.{Contents, IsBook, IsPlainBook}
+use Rattle.exi_gram.proofs.Plain.{plain_book}
+use Rattle.exi_gram.proofs.book.Book.schema.Goals as goal
+
+pub returns-clause-plain : goal.returns-clause-plain
+returns-clause-plain c plain = plain_book c.args.self.now (subst IsBook c.self.view_is c.self.invariant.0) plain
