@@ -1,0 +1,12 @@
+pub mod Lists
+pub mod Normal
+pub mod Steps
+pub mod Good
+pub mod Drafts
+pub mod Places
+pub mod Made
+pub mod Fragments
+pub mod Entries
+pub mod Wholes
+pub mod Named
+pub mod Outlined

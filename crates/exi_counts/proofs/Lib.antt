@@ -1,0 +1,5 @@
+pub mod ContentParticles
+pub mod FewSteps
+pub mod InnerEnds
+pub mod Sized
+pub mod Steps

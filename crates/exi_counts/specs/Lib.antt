@@ -1,0 +1,4 @@
+pub mod Counts
+pub mod Inner
+pub mod Kinds
+pub mod Sizes

@@ -1,0 +1,10 @@
+pub mod ByName
+pub mod Counting
+pub mod Firsts
+pub mod Joined
+pub mod Leading
+pub mod Led
+pub mod Rising
+pub mod Totals
+pub mod Walked
+pub mod Walking

@@ -1,0 +1,10 @@
+pub mod Bridge
+pub mod Law
+pub mod Marked
+pub mod Ordered
+pub mod Same
+pub mod Seen
+pub mod Topmost
+pub mod Turns
+pub mod Walking
+pub mod Works

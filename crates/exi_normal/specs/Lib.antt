@@ -1,0 +1,10 @@
+pub mod KeyLaws
+pub mod Keys
+pub mod Marking
+pub mod Normals
+pub mod Numbers
+pub mod Promises
+pub mod Reached
+pub mod Spots
+pub mod Steps
+pub mod Working

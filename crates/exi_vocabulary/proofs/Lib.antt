@@ -1,0 +1,9 @@
+pub mod Agrees
+pub mod Distinct
+pub mod Firsts
+pub mod InTheirOrder
+pub mod Rows
+pub mod Standing
+pub mod Taken
+pub mod Tellings
+pub mod Words

@@ -1,0 +1,5 @@
+use Rattle.std.proofs.Common.{◌≡◌, map, take}
+use Rattle.exi_vocabulary.proofs.texts.sorted.Given as goal
+
+abbrev pub invariant-loop-text : goal.invariant-loop-text
+invariant-loop-text l = map (λ t. t.now) l.sorted.items ≡ take l.text-index l.texts

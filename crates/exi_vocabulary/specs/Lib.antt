@@ -1,0 +1,5 @@
+pub mod Agreement
+pub mod Collected
+pub mod FirstNames
+pub mod Named
+pub mod Vocabulary

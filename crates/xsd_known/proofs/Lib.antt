@@ -1,0 +1,5 @@
+pub mod Told
+pub mod ToldCompiled
+pub mod ToldCounts
+pub mod ToldNames
+pub mod ToldProtos
