@@ -22,7 +22,7 @@ use Rattle.xsd_contents.specs.declared.value_step.ValueStep.{ValueStep}
 use Rattle.xsd_contents.specs.declared.value_step.ValueStep.TheVariants as step
 use Rattle.xsd_declared.specs.Decls.{or_any_simple, or_zero}
 use Rattle.xsd_declared.specs.Lists.{attribute_groups_of, attributes_of}
-use Rattle.xsd_particles.specs.Particles.{attributes_in, base_by, complex_base, complex_of, content_by, content_in, model_at, or_any, or_itself, own_content, particles_of}
+use Rattle.xsd_particles.specs.Particles.{attributes_in, base_by, complex_base, complex_of, content_by, content_in, empty_content, model_at, or_any, or_itself, own_content, particles_of}
 use Rattle.xsd_places.specs.Kinds.{is_type_node}
 use Rattle.xsd_places.specs.declared.kind.Kind.TheVariants as kind
 use Rattle.xsd_values.specs.Restricted.{or_value_of_base, restricted_type, value_of_base}
@@ -157,9 +157,13 @@ or_itself_inner : (ns : List Node) (i : ℕ) (o : Option ℕ) → IsInner ns i �
 or_itself_inner ns i None h g = h
 or_itself_inner ns i (Some d) h g = g d refl
 
+empty_content_fits : (p : Parts) (mixed : Bool) → IsContent p (empty_content mixed)
+empty_content_fits p true = tt
+empty_content_fits p false = tt
+
 own_content_fits : (ns : List Node) (p : Parts) (i : ℕ) (mixed : Bool) → IsTree ns → length p.particles ≡ length (particles_of ns) → IsInner ns i → IsContent p (own_content ns i mixed)
 own_content_fits ns p i mixed tree count h =
-    by_test (IsContent p) (is_empty ns i && not mixed) content.Empty (content.Parts (model_at ns i) mixed) (λ e. tt)
+    by_test (IsContent p) (is_empty ns i) (empty_content mixed) (content.Parts (model_at ns i) mixed) (λ e. empty_content_fits p mixed)
     (λ e. rw count (model_fits ns i h.outer tree h.free h.held))
 
 content_in_fits : (ns : List Node) (p : Parts) (i : ℕ) (o : Option ℕ) → IsTree ns → length p.particles ≡ length (particles_of ns) → IsInner ns i → ((d : ℕ) → o ≡ Some d → IsInner ns d) → IsContent p (content_in ns i o)

@@ -1,6 +1,6 @@
 -- The particles, groups and complex types that a schema document declares, each read from its element by search (XML Schema 1.0
 -- Part 1, sections 3.4, 3.7, 3.8 and 3.9).
-use Rattle.std.specs.Prelude.{ℕ, ◌-◌, ◌^◌, nat_lt, Bool, ◌&&◌, not, Option, Some, None, option_map, List, map, if◌then◌else◌}
+use Rattle.std.specs.Prelude.{ℕ, ◌-◌, ◌^◌, nat_lt, Bool, true, Option, Some, None, option_map, List, map, if◌then◌else◌}
 use Rattle.exi_names.specs.declared.names.QName.{QName}
 use Rattle.xsd_model.specs.declared.parts.Complex.{Complex}
 use Rattle.xsd_model.specs.declared.parts.Content.{Content}
@@ -93,9 +93,13 @@ attributes_in ns i = or_itself i (derivation ns i)
 abbrev pub derivation_by : List Node → ℕ → Derivation
 derivation_by ns i = if is_at ns part.Extension (attributes_in ns i) then derived.Extension else derived.Restriction
 
+-- where nothing stands within, text may stand once, however often the model may
+abbrev pub empty_content : Bool → Content
+empty_content mixed = if mixed then content.Parts None true else content.Empty
+
 -- the content that stands in a type, or in a restriction or extension
 abbrev pub own_content : List Node → ℕ → Bool → Content
-own_content ns i mixed = if is_empty ns i && not mixed then content.Empty else content.Parts (model_at ns i) mixed
+own_content ns i mixed = if is_empty ns i then empty_content mixed else content.Parts (model_at ns i) mixed
 
 abbrev pub content_in : List Node → ℕ → Option ℕ → Content
 content_in ns i None = own_content ns i (is_yes (text_at ns attribute.Mixed i))

@@ -4,7 +4,7 @@ ghost use Rattle.std.specs.Prelude.{◌≡◌, IfOk};
 ghost use Rattle.xsd_contents.specs.Contents.{is_yes, model_groups};
 ghost use Rattle.xsd_nodes.specs.Nodes.{text_at};
 ghost use Rattle.xsd_nodes.specs.declared.attribute_name.AttributeName.TheVariants as attribute;
-ghost use Rattle.xsd_particles.specs.Particles.{content_by, content_in, group_decl, model_at, own_content};
+ghost use Rattle.xsd_particles.specs.Particles.{content_by, content_in, empty_content, group_decl, model_at, own_content};
 
 use std::alloc::{AllocError, Global};
 use xsd_components::TypeAt;
@@ -52,6 +52,21 @@ fn is_mixed_itself(alloc: Global, nodes: &[Node], place: u32) -> Result<bool, Al
     }
 }
 
+/// The content of a type within which nothing stands: text may stand in it once, however often its model may (XML Schema 1.0
+/// Part 1, section 3.4.2).
+fn empty_content(mixed: bool) -> Content
+    ensures { result ≡ empty_content mixed }
+{
+    if mixed {
+        Content::Parts {
+            particle: None,
+            mixed: true,
+        }
+    } else {
+        Content::Empty
+    }
+}
+
 /// The content that stands within the type or derivation at a place.
 fn own_content(
     alloc: Global,
@@ -61,9 +76,8 @@ fn own_content(
 ) -> Result<Content, AllocError>
     ensures { IfOk result (λ c. c ≡ own_content places.now place mixed) }
 {
-    let empty = is_empty(alloc, places.schema(), place)?;
-    if empty && !mixed {
-        return Ok(Content::Empty);
+    if is_empty(alloc, places.schema(), place)? {
+        return Ok(empty_content(mixed));
     }
     Ok(Content::Parts {
         particle: model_at(places, place),
