@@ -25,6 +25,20 @@ pub fn moment_kind(name: &str) -> Option<MomentKind> {
     }
 }
 
+/// The name of a kind of dates or times.
+pub fn moment_word(kind: MomentKind) -> &'static str {
+    match kind {
+        MomentKind::GYear => "gYear",
+        MomentKind::GYearMonth => "gYearMonth",
+        MomentKind::Date => "date",
+        MomentKind::DateTime => "dateTime",
+        MomentKind::GMonth => "gMonth",
+        MomentKind::GMonthDay => "gMonthDay",
+        MomentKind::GDay => "gDay",
+        MomentKind::Time => "time",
+    }
+}
+
 /// `LEAST:COUNT`
 fn small(range: &str) -> Option<Datatype> {
     let (least, count) = range.split_once(':')?;

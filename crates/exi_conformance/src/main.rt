@@ -13,6 +13,7 @@
 //! place DATATYPE TEXT           the place of the value in an enumeration, or none
 //! write DATATYPE ALIGN SKIP TEXT    HEX BITS, or none
 //! body FLAGS EVENTS:TEXT:DEPTH START HEX    events and end: see the module `bodies`
+//! book FLAGS HEX                every grammar of a schema with its codes: see the module `books`
 //! codes FLAGS                   the codes of a stream without a schema: see the module `codes`
 //! events HEX                    the events of a text: see the module `events`
 //! header FLAGS BLOCK MOST CAPACITY ID TOLD COOKIE    what is written of options: see the module `headers`
@@ -25,6 +26,7 @@
 
 mod agree;
 mod bodies;
+mod books;
 mod calls;
 mod codes;
 mod datatypes;
@@ -37,6 +39,7 @@ mod options;
 mod reads;
 mod show;
 mod tables;
+mod terminals;
 mod texts;
 mod writes;
 
@@ -58,6 +61,7 @@ fn answer_by(alloc: Global, fields: &[&str]) -> Result<Option<String>, AllocErro
         ["uint" | "nbit" | "read" | "chars", ..] => reads::answer(alloc, fields),
         ["wuint" | "wbit" | "wchars", ..] => writes::answer(alloc, fields),
         ["value" | "place" | "write", ..] => texts::answer(alloc, fields),
+        ["book", ..] => books::answer(alloc, fields),
         ["body", ..] => bodies::answer(alloc, fields),
         ["codes", ..] => codes::answer(alloc, fields),
         ["events", ..] => events::answer(alloc, fields),

@@ -1,19 +1,17 @@
 -- A type's grammar has as many states as were counted.
-use Rattle.std.proofs.Common.{◌≡◌, ◌≤◌, ℕ, zero, suc, ◌+◌, ◌*◌, Bool, true, false, cond, Option, Some, None, List, [], ◌∷◌, ◌++◌, length, map, slice_get, refl, sym, ap, ◌∙◌, arith, if◌then◌else◌, length-append}
-use Rattle.std.proofs.lemmas.List.{length-map, map-append}
+use Rattle.std.proofs.Common.{◌≡◌, ℕ, suc, ◌+◌, ◌*◌, Bool, true, false, cond, Option, Some, None, List, [], ◌∷◌, ◌++◌, length, map, slice_get, refl, sym, ap, ◌∙◌, arith, if◌then◌else◌}
 use Rattle.xsd_model.specs.declared.parts.TypeBody.{TypeBody}
 use Rattle.xsd_model.specs.declared.parts.TypeBody.TheVariants as body
 use Rattle.xsd_model.specs.declared.parts.TypeDef.{TypeDef}
 use Rattle.xsd_model.specs.declared.parts.Wild.{Wild}
-use Rattle.xsd_model.specs.declared.parts.Wild.TheVariants as wild
 use Rattle.xsd_model.specs.Parts.{Parts}
 use Rattle.exi_counts.specs.Counts as count
 use Rattle.exi_counts.specs.Counts.{in_sequence, sum_of, type_states}
 use Rattle.exi_inherited.specs.Contents.{Whole, content_of, elements, value}
 use Rattle.exi_inherited.specs.declared.uses.Use.{Use}
 use Rattle.exi_inherited.specs.Uses.{uses_of}
-use Rattle.exi_draft.specs.Drafts.{Draft, States}
-use Rattle.exi_proto.specs.Pieces.{counts_of, Piece, empty_states, joined_all, sequence, with_text, with_text_from}
+use Rattle.exi_draft.specs.Drafts.{States}
+use Rattle.exi_proto.specs.Pieces.{counts_of, empty_states, sequence, with_text, with_text_from}
 use Rattle.exi_proto.specs.Protos.{any_pieces, attribute_states, body_draft, complex_draft, content_states, draft_of_type, last_wild, piece_of, type_draft, use_states}
 use Rattle.exi_proto.proofs.Counting.{length-joined_all, length-sequence, length-within}
 

@@ -1,5 +1,5 @@
 -- How many states and particles pieces have.
-use Rattle.std.proofs.Common.{◌≡◌, ◌≤◌, ℕ, zero, suc, ◌+◌, ◌-◌, ◌*◌, ◌==◌, Bool, true, false, cond, Option, Some, None, List, [], ◌∷◌, ◌++◌, length, map, min, slice_get, refl, sym, ap, ◌∙◌, arith, length-append}
+use Rattle.std.proofs.Common.{◌≡◌, ℕ, zero, suc, ◌+◌, ◌-◌, ◌*◌, ◌==◌, Bool, cond, Option, Some, None, List, [], ◌∷◌, ◌++◌, length, map, min, slice_get, refl, sym, ap, ◌∙◌, arith, length-append}
 use Rattle.std.proofs.Math.ListN.{replicate}
 use Rattle.std.proofs.lemmas.Bool.{ne_eqb}
 use Rattle.std.proofs.lemmas.List.{length-map, length-replicate, map-append}
@@ -15,8 +15,8 @@ use Rattle.exi_elements.specs.StandIns.{stand_ins}
 use Rattle.exi_counts.specs.Counts as count
 use Rattle.exi_counts.specs.Counts.{in_sequence, of_stand_ins, particles_within, states_within, sum_of}
 use Rattle.exi_draft.specs.Drafts.{States}
-use Rattle.exi_proto.specs.Pieces.{counts_of, Piece, behind_step, branches_from, choice, copied, copies_of, further, joined, joined_all, joined_behind, led, led_step, none_where_empty, one_of, optional, particles_of, placed, raised, raised_step, repeated, required, sequence, with_start}
-use Rattle.exi_proto.specs.Protos.{element_piece, group_piece, one_of_them, opening_piece, particle_piece, piece_within, term_piece, wild_piece}
+use Rattle.exi_proto.specs.Pieces.{counts_of, Piece, behind_step, branches_from, choice, copied, copies_of, joined, joined_all, joined_behind, led, led_step, none_where_empty, optional, particles_of, placed, raised, raised_step, repeated, sequence, with_start}
+use Rattle.exi_proto.specs.Protos.{group_piece, one_of_them, opening_piece, particle_piece, piece_within, term_piece, wild_piece}
 
 -- ---- joined
 pub length-joined : (a b : States) → length (joined a b) ≡ length a + length b

@@ -1,9 +1,9 @@
 -- Each step of a type's grammar leads to one of its states.
-use Rattle.std.proofs.Common.{◌≡◌, ◌<◌, ◌≤◌, ℕ, zero, suc, ◌+◌, ◌-◌, Bool, true, false, cond, min, Option, Some, None, List, [], ◌∷◌, ◌++◌, All, length, map, slice_get, refl, sym, ap, subst, ◌∙◌, arith, length-append}
+use Rattle.std.proofs.Common.{◌≡◌, ◌<◌, ◌≤◌, ℕ, zero, suc, ◌+◌, ◌-◌, Bool, true, false, cond, min, Option, Some, None, List, [], ◌∷◌, ◌++◌, All, length, map, slice_get, refl, sym, subst, arith, length-append}
 use Rattle.std.proofs.Math.ListN.{replicate}
 use Rattle.std.proofs.lemmas.List.{length-map}
 use Rattle.std.proofs.lemmas.List.Elements.{All-append, All-cons, All-head, All-nil, All-tail}
-use Rattle.exi_gram.specs.Terminals.{StepRule, Symbol, at_any, ch_text, se_any}
+use Rattle.exi_gram.specs.Terminals.{StepRule, at_any, ch_text, se_any}
 use Rattle.xsd_model.specs.declared.parts.AttributeDecl.{AttributeDecl}
 use Rattle.xsd_model.specs.declared.parts.ElementDecl.{ElementDecl}
 use Rattle.xsd_model.specs.declared.parts.Group.{Group}
@@ -21,9 +21,9 @@ use Rattle.exi_elements.specs.StandIns.{stand_ins}
 use Rattle.exi_inherited.specs.declared.uses.Use.{Use}
 use Rattle.exi_inherited.specs.Contents.{Whole, content_of, elements, value}
 use Rattle.exi_inherited.specs.Uses.{uses_of}
-use Rattle.exi_proto.specs.Pieces.{Piece, behind, behind_step, branches_from, choice, copied, copies_of, empty_states, ending, further, joined, joined_all, joined_behind, leading, led, led_step, optional, placed, raised, raised_step, reading, reading_one, repeated, required, sequence, starts_from, with_start, with_text, with_text_from}
-use Rattle.exi_proto.specs.Protos.{any_draft, any_empty_draft, any_pieces, attribute_of, attribute_states, attribute_steps, body_draft, complex_draft, content_states, draft_of_type, element_piece, end_unless, group_piece, in_each_from, last_wild, of_each_uri, one_of_them, opening, opening_of, opening_piece, particle_piece, piece_of, piece_within, states_count, term_piece, type_draft, use_states, value_states, wild_piece, wild_steps}
-use Rattle.exi_proto.proofs.Counting.{length-joined, length-optional}
+use Rattle.exi_proto.specs.Pieces.{Piece, behind, behind_step, branches_from, choice, copied, copies_of, empty_states, ending, joined, joined_all, joined_behind, leading, led, led_step, optional, placed, raised, raised_step, reading, reading_one, repeated, sequence, starts_from, with_text, with_text_from}
+use Rattle.exi_proto.specs.Protos.{any_draft, any_empty_draft, any_pieces, attribute_of, attribute_states, attribute_steps, body_draft, complex_draft, content_states, draft_of_type, end_unless, group_piece, in_each_from, last_wild, of_each_uri, one_of_them, opening, opening_of, opening_piece, particle_piece, piece_of, piece_within, states_count, term_piece, type_draft, use_states, value_states, wild_piece, wild_steps}
+use Rattle.exi_proto.proofs.Counting.{length-joined}
 
 -- ---- steps that lead to states below a bound
 abbrev pub Below : ℕ → StepRule → Type 0
@@ -269,7 +269,7 @@ good_text true a x =
 pub good_value : (p : Parts) (place : ℕ) → Good (value_states p place)
 good_value p place = good_reading _ (All-cons (Below 2) _ [] (omega arith) (All-nil (Below 2)))
 
-good_content : (p : Parts) (w : Whole) → Good (content_states p w)
+pub good_content : (p : Parts) (w : Whole) → Good (content_states p w)
 good_content p (value place) = good_value p place
 good_content p (elements any places mixed) = good_text mixed (sequence (any_pieces any ++ map (piece_of p) places)).states (good_sequence (any_pieces any ++ map (piece_of p) places) (any_front any))
   where

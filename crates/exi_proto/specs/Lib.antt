@@ -1,3 +1,9 @@
+pub mod Attributes
+pub mod Contents
+pub mod Lists
 pub mod Made
 pub mod Pieces
+pub mod Places
+pub mod Promises
 pub mod Protos
+pub mod Tasks

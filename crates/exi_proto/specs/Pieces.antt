@@ -1,5 +1,5 @@
 -- Grammars that are not yet normal, and how larger ones are made of smaller ones (EXI 1.0, sections 8.5.4.1.1 to 8.5.4.1.8).
-use Rattle.std.specs.Prelude.{ℕ, zero, suc, ◌+◌, ◌-◌, Bool, true, false, Option, Some, None, List, [], ◌∷◌, ◌++◌, length, map, min, replicate, if◌then◌else◌}
+use Rattle.std.specs.Prelude.{ℕ, suc, ◌+◌, ◌-◌, Bool, Option, Some, None, List, [], ◌∷◌, ◌++◌, length, map, min, replicate, if◌then◌else◌}
 use Rattle.exi_gram.specs.Terminals.{StepRule, Symbol, ch_text, ee}
 use Rattle.exi_draft.specs.Drafts.{States, ends}
 

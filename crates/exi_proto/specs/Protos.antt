@@ -1,7 +1,6 @@
 -- The grammar of a type before it is normal (EXI 1.0, section 8.5.4.1).
 use Rattle.std.specs.Prelude.{ℕ, zero, suc, ◌+◌, Bool, true, false, Option, Some, None, List, [], ◌∷◌, ◌++◌, length, map, slice_get, get_or, if◌then◌else◌}
 use Rattle.exi_names.specs.Datatypes.{Representation, text}
-use Rattle.exi_names.specs.declared.names.QName.{QName}
 use Rattle.exi_gram.specs.Terminals.{StepRule, se, se_in, se_any, at, at_in, at_any, ch, ch_text}
 use Rattle.xsd_model.specs.declared.parts.AttributeDecl.{AttributeDecl}
 use Rattle.xsd_model.specs.declared.parts.ElementDecl.{ElementDecl}
@@ -19,7 +18,7 @@ use Rattle.exi_draft.specs.Drafts.{Draft, States}
 use Rattle.exi_elements.specs.StandIns.{opener, stand_ins}
 use Rattle.exi_inherited.specs.Contents.{Whole, content_of, elements, value}
 use Rattle.exi_inherited.specs.Uses.{uses_of}
-use Rattle.exi_proto.specs.Pieces.{Piece, choice, copied, empty_states, ending, joined_all, leading, reading, reading_one, sequence, with_text}
+use Rattle.exi_proto.specs.Pieces.{Piece, choice, copied, empty_states, ending, joined_all, reading, reading_one, sequence, with_text}
 
 -- ---- elements
 -- SE of the element at a place; the place of its particle is told apart from the others later

@@ -28,7 +28,7 @@ use Rattle.exi_run.specs.declared.unwritten.Unwritten.{Unwritten}
 use Rattle.exi_writing.specs.Runs.{Run}
 use Rattle.xsd_file.specs.Documents.{IsDocument}
 use Rattle.xsd_file.specs.declared.refusal.SchemaRefusal.{SchemaRefusal}
-use Rattle.xsd_parts.specs.Documents.{Declared}
+use Rattle.xsd_known.specs.Knowing.{Known}
 use Rattle.exi_run.proofs.Owing.{text-whole, told-said}
 
 -- ---- what may be owed: a refusal's line, or what a command owes whose files were found
@@ -141,8 +141,8 @@ text_told : (file : List ℕ) (w : Wish) (text : List ℕ) (others : List (List 
 text_told file w text others due (Ok r) is d = inl (subst (λ (x : Due). IsTold x.status) (sym d) refl)
 text_told file w text others due (Err why) is d = inr (refusal.Events why, d, (why, refl, is))
 
-document_told : (file bytes : List ℕ) (others : List (List ℕ)) (due : Due) (o : Result Declared SchemaRefusal) → IsDocument bytes o → due ≡ document_due o → IsTold due.status ⊎ WasRefused (counting file) due (bytes ∷ others)
-document_told file bytes others due (Ok d) is e = inl (subst (λ (x : Due). IsTold x.status) (sym e) refl)
+document_told : (file bytes : List ℕ) (others : List (List ℕ)) (due : Due) (o : Result Known SchemaRefusal) → IsDocument bytes o → due ≡ document_due o → IsTold due.status ⊎ WasRefused (counting file) due (bytes ∷ others)
+document_told file bytes others due (Ok k) is e = inl (subst (λ (x : Due). IsTold x.status) (sym e) refl)
 document_told file bytes others due (Err why) is e = inr (refusal.Schema why, e, (why, refl, is))
 
 done_told : (t : Task) (due : Due) (bs : List (List ℕ)) → OwedBy t due bs → IsTold due.status ⊎ WasRefused t due bs
@@ -384,7 +384,7 @@ ends_text : (w : Wish) (due : Due) (s : Status) (o : Result Run Unwritten) → d
 ends_text w due s (Ok r) d is = inl (sym is ∙ ap (λ (x : Due). x.status) d)
 ends_text w due s (Err why) d is = inr (sym is ∙ ap (λ (x : Due). x.status) d)
 
-ends_document : (due : Due) (s : Status) (o : Result Declared SchemaRefusal) → due ≡ document_due o → due.status ≡ s → (s ≡ status.Ok) ⊎ (s ≡ status.Schema)
+ends_document : (due : Due) (s : Status) (o : Result Known SchemaRefusal) → due ≡ document_due o → due.status ≡ s → (s ≡ status.Ok) ⊎ (s ≡ status.Schema)
 ends_document due s (Ok r) d is = inl (sym is ∙ ap (λ (x : Due). x.status) d)
 ends_document due s (Err why) d is = inr (sym is ∙ ap (λ (x : Due). x.status) d)
 
@@ -499,8 +499,8 @@ pub events_is : (t : Option Task) (files : Option Files) (rose : Type 0) (s : St
 events_is t files rose s old new a e = events_by t files s old new (refusal_of t files s old new (came t files rose s old new a) (ap sort_of e)) e
 
 -- ---- what a schema document declares is counted
-counted_bytes : (bytes : List ℕ) (due : Due) (s : Status) (old new : Option (List ℕ)) (o : Result Declared SchemaRefusal) → IsDocument bytes o → due ≡ document_due o → IsPut s due old new → s ≡ status.Ok → Counts old new bytes
-counted_bytes bytes due s old new (Ok d) is e p ok = (d, is, subst (λ (t : List ℕ). Grows old t new) (ap (λ (x : Due). text_of (all_pieces x)) e ∙ ap text_of (append-nil (count_lines d))) p.1)
+counted_bytes : (bytes : List ℕ) (due : Due) (s : Status) (old new : Option (List ℕ)) (o : Result Known SchemaRefusal) → IsDocument bytes o → due ≡ document_due o → IsPut s due old new → s ≡ status.Ok → Counts old new bytes
+counted_bytes bytes due s old new (Ok k) is e p ok = (k, is, subst (λ (t : List ℕ). Grows old t new) (ap (λ (x : Due). text_of (all_pieces x)) e ∙ ap text_of (append-nil (count_lines k.declared))) p.1)
 counted_bytes bytes due s old new (Err why) is e p ok = let x : status.Schema ≡ status.Ok = sym (ap (λ (x : Due). x.status) e) ∙ p.0 ∙ ok in absurd cc
 
 counts_file : (name : List ℕ) (held : Files) (s : Status) (old new : Option (List ℕ)) (b : List ℕ) (due : Due) (file : Option (List ℕ)) → file_at held name ≡ file → file_at held name ≡ Some b → OwedOfDocument b due → IsPut s due old new → IfSome file (λ bytes. s ≡ status.Ok → Counts old new bytes)

@@ -25,6 +25,7 @@ use Rattle.xsd_file.specs.Counts.{attributes_counted, elements_counted, types_co
 use Rattle.xsd_file.specs.Documents.{IsDocument}
 use Rattle.xsd_file.specs.Laws.{ADocumentIsThere}
 use Rattle.xsd_file.specs.declared.refusal.SchemaRefusal.{SchemaRefusal}
+use Rattle.xsd_known.specs.Knowing.{Known}
 use Rattle.xsd_parts.specs.Documents.{Declared}
 
 pub served_bytes : (f : Form) (words : Options) (name : List ℕ) (files : Option Files) (rose : Type 0) (bytes : List ℕ) (r : Result Status Halt) (old new : Option (List ℕ)) → IsHad files rose name (found bytes) → OwesDid f words bytes r old new → Served (Some (stream f name words)) files rose r old new
@@ -112,14 +113,14 @@ document_unserved there name files rose halt.Memory old fetched =
     let o = document_owes there name files rose h.0 h.1 in
     (o.0, o.1, ([], o.0.lines, refl, grows_none old))
 
--- what was counted, by what is declared
-pub counted_ok : (bytes : List ℕ) (d : Declared) (old new : Option (List ℕ)) → IsDocument bytes (Ok d) → DidLines (count_lines d) (Ok tt) old new → DocumentDid bytes (Ok status.Ok) old new
-counted_ok bytes d old new is g = (counts_due d, (Ok d, is, refl), (refl, subst (λ (t : List ℕ). Grows old t new) (ap text_of (sym (append-nil (count_lines d)))) g))
+-- what was counted, by what is known
+pub counted_ok : (bytes : List ℕ) (k : Known) (old new : Option (List ℕ)) → IsDocument bytes (Ok k) → DidLines (count_lines k.declared) (Ok tt) old new → DocumentDid bytes (Ok status.Ok) old new
+counted_ok bytes k old new is g = (counts_due k.declared, (Ok k, is, refl), (refl, subst (λ (t : List ℕ). Grows old t new) (ap text_of (sym (append-nil (count_lines k.declared)))) g))
 
-pub counted_err : (h : Halt) (bytes : List ℕ) (d : Declared) (old new : Option (List ℕ)) → IsDocument bytes (Ok d) → DidLines (count_lines d) (Err h) old new → DocumentDid bytes (Err h) old new
-counted_err (halt.Refused r) bytes d old new is g = absurd g
-counted_err halt.Write bytes d old new is g = (counts_due d, (Ok d, is, refl), subst (λ (t : List ℕ). GrowsByFront old t new) (ap text_of (sym (append-nil (count_lines d)))) g)
-counted_err halt.Memory bytes d old new is g = (counts_due d, (Ok d, is, refl), g)
+pub counted_err : (h : Halt) (bytes : List ℕ) (k : Known) (old new : Option (List ℕ)) → IsDocument bytes (Ok k) → DidLines (count_lines k.declared) (Err h) old new → DocumentDid bytes (Err h) old new
+counted_err (halt.Refused r) bytes k old new is g = absurd g
+counted_err halt.Write bytes k old new is g = (counts_due k.declared, (Ok k, is, refl), subst (λ (t : List ℕ). GrowsByFront old t new) (ap text_of (sym (append-nil (count_lines k.declared)))) g)
+counted_err halt.Memory bytes k old new is g = (counts_due k.declared, (Ok k, is, refl), g)
 
 pub refused_document : (why : SchemaRefusal) (bytes : List ℕ) (old : Option (List ℕ)) → IsDocument bytes (Err why) → DocumentDid bytes (Err (halt.Refused (refusal.Schema why))) old old
 refused_document why bytes old is = (document_due (Err why), (Err why, is, refl), (refl, refl))

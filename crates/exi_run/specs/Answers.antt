@@ -27,7 +27,7 @@ use Rattle.exi_run.specs.Forms.{all_said, told_as}
 use Rattle.exi_writing.specs.Runs.{Run}
 use Rattle.xsd_file.specs.Documents.{IsDocument}
 use Rattle.xsd_file.specs.declared.refusal.SchemaRefusal.{SchemaRefusal}
-use Rattle.xsd_parts.specs.Documents.{Declared}
+use Rattle.xsd_known.specs.Knowing.{Known}
 
 -- ---- what was done
 abbrev pub no_memory : List ℕ
@@ -164,7 +164,7 @@ WritesNone w old new text = (why : Unwritten) × (written_for w text ≡ Err why
 
 -- the sink took how many components the document declares that the whole schema knows by name
 abbrev pub Counts : Option (List ℕ) → Option (List ℕ) → List ℕ → Type 0
-Counts old new bytes = (d : Declared) × IsDocument bytes (Ok d) × Grows old (text_of (count_lines d)) new
+Counts old new bytes = (k : Known) × IsDocument bytes (Ok k) × Grows old (text_of (count_lines k.declared)) new
 
 -- the document is refused, and the sink took the line that says why
 abbrev pub RefusesDocument : Option (List ℕ) → Option (List ℕ) → List ℕ → Type 0

@@ -23,6 +23,7 @@ use Rattle.exi_writing.specs.Runs.{Run}
 use Rattle.xsd_file.specs.Counts.{attributes_counted, elements_counted, types_counted}
 use Rattle.xsd_file.specs.Documents.{IsDocument}
 use Rattle.xsd_file.specs.declared.refusal.SchemaRefusal.{SchemaRefusal}
+use Rattle.xsd_known.specs.Knowing.{Known}
 use Rattle.xsd_parts.specs.Documents.{Declared}
 use Rattle.exi_run.specs.Forms.{pieces, last_pieces}
 
@@ -110,12 +111,12 @@ count_lines d =
 abbrev pub counts_due : Declared → Due
 counts_due d = record { lines = count_lines d; last = []; status = status.Ok }
 
-abbrev pub document_due : Result Declared SchemaRefusal → Due
-document_due (Ok d) = counts_due d
+abbrev pub document_due : Result Known SchemaRefusal → Due
+document_due (Ok k) = counts_due k.declared
 document_due (Err why) = refusal_due (refusal.Schema why)
 
 abbrev pub OwedOfDocument : List ℕ → Due → Type 0
-OwedOfDocument bytes due = (found : Result Declared SchemaRefusal) × IsDocument bytes found × (due ≡ document_due found)
+OwedOfDocument bytes due = (found : Result Known SchemaRefusal) × IsDocument bytes found × (due ≡ document_due found)
 
 -- of a command whose files were found, by their bytes in their order
 abbrev pub OwedBy : Task → Due → List (List ℕ) → Type 0

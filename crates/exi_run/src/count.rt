@@ -7,7 +7,7 @@ ghost use Rattle.exi_run.specs.Dues.{Due, OwedOfDocument, count_line, count_line
 ghost use Rattle.exi_run.specs.Refusals.{schema_line};
 ghost use Rattle.exi_run.specs.Statuses.{IsTold};
 ghost use Rattle.exi_run.specs.Tasks.{counting};
-ghost use Rattle.xsd_parts.specs.Readings.{as_declared};
+ghost use Rattle.xsd_fits.specs.Views.{as_told};
 
 use crate::ending::{push_kind, push_number};
 use crate::files::fetch_file;
@@ -20,7 +20,7 @@ use xsd_file::laws::one_document;
 use xsd_file::{
     SchemaHalt, SchemaRefusal, attributes_counted, elements_counted, read_document, types_counted,
 };
-use xsd_parts::Declarations;
+use xsd_model::Components;
 
 /// The line of a schema document that is refused, with the line's end.
 #[tactic(auto, unfolding(crate::specs::Refusals::schema_line))]
@@ -66,14 +66,14 @@ fn put_count<O: Sink>(alloc: Global, word: &[u8], count: usize, out: &mut O) -> 
 }
 
 /// How many components the whole schema knows by name, one line a kind.
-fn put_counts<O: Sink>(alloc: Global, declared: &Declarations, out: &mut O) -> Result<(), Halt>
-    ensures put { DidLines (count_lines (as_declared declared.now)) result (O.taken out.old) (O.taken out.new) }
+fn put_counts<O: Sink>(alloc: Global, components: &Components, out: &mut O) -> Result<(), Halt>
+    ensures put { DidLines (count_lines (as_told components.now)) result (O.taken out.old) (O.taken out.new) }
     ensures later { O.faults out.old ≤ O.faults out.new }
     ensures write { IsErrOf result Halt.Write → Rose (O.faults out.old) (O.faults out.new) }
 {
-    put_count(alloc, b"elements ", elements_counted(declared), out)?;
-    put_count(alloc, b"attributes ", attributes_counted(declared), out)?;
-    put_count(alloc, b"types ", types_counted(declared), out)
+    put_count(alloc, b"elements ", elements_counted(components), out)?;
+    put_count(alloc, b"attributes ", attributes_counted(components), out)?;
+    put_count(alloc, b"types ", types_counted(components), out)
 }
 
 /// What the bytes of a schema document declare, as counts.
@@ -87,8 +87,8 @@ fn count_bytes<O: Sink>(alloc: Global, bytes: &[u8], out: &mut O) -> Result<Stat
 {
     one_document();
     match read_document(alloc, bytes) {
-        Ok(declared) => {
-            put_counts(alloc, &declared, out)?;
+        Ok(schema) => {
+            put_counts(alloc, &schema.components, out)?;
             Ok(Status::Ok)
         }
         Err(SchemaHalt::Refused(why)) => Err(Halt::Refused(Refusal::Schema(why))),

@@ -1,4 +1,4 @@
--- What the bytes of a schema document declare, once and for all.
+-- What the bytes of a schema document make known, once and for all.
 use Rattle.std.proofs.Common.{◌≡◌, ◌≤◌, ◌+◌, ◌^◌, ℕ, List, [], ◌∷◌, ◌++◌, length, map, Option, Some, None, Result, Ok, Err, refl, sym, ap, ◌∙◌, subst, arith}
 use Rattle.std.proofs.lemmas.List.{length-append}
 use Rattle.exi_bits.specs.declared.fault.Fault.{Fault}
@@ -18,20 +18,20 @@ use Rattle.xsd_file.specs.declared.refusal.SchemaRefusal.{SchemaRefusal}
 use Rattle.xsd_file.specs.declared.refusal.SchemaRefusal.TheVariants as refusal
 use Rattle.xsd_file.specs.declared.refusal.SchemaHalt.{SchemaHalt}
 use Rattle.xsd_file.specs.declared.refusal.SchemaHalt.TheVariants as halt
-use Rattle.xsd_parts.specs.Documents.{Declared}
-use Rattle.xsd_parts.specs.declared.declarations.Declarations.{Declarations}
+use Rattle.xsd_known.specs.declared.known.KnownSchema.{KnownSchema}
+use Rattle.xsd_known.specs.Knowing.{Known}
 
 -- ---- there is one
 processed : (j : Job) (es : List Happening) (last : End) (count : ℕ) → IsSequence j start.Body document_bounds es last count → IsProcessed j es last
 unfolding IsProcessed
 processed j es last count s = (count, s)
 
-body_there : ASequenceIsThere → (j : Job) → (found : Result Declared SchemaRefusal) × IsBody j found
+body_there : ASequenceIsThere → (j : Job) → (found : Result Known SchemaRefusal) × IsBody j found
 body_there there j =
     let s = there j start.Body document_bounds in
     (by_end s.0 s.1, (s.0, s.1, processed j s.0 s.1 s.2 s.3, refl))
 
-there_from : ASequenceIsThere → (bytes : List ℕ) (r : Result Header Fault) → (found : Result Declared SchemaRefusal) × IsDocumentFrom bytes r found
+there_from : ASequenceIsThere → (bytes : List ℕ) (r : Result Header Fault) → (found : Result Known SchemaRefusal) × IsDocumentFrom bytes r found
 there_from there bytes (Ok h) = body_there there (job_of bytes h)
 there_from there bytes (Err f) = (Err (refusal.Stream f), refl)
 
@@ -45,12 +45,12 @@ one_processed only j es fs last end (m, p) (n, q) =
     let same = only j start.Body document_bounds es fs last end m n p q in
     (same.0, same.1)
 
-one_body : OneSequence → (j : Job) (one another : Result Declared SchemaRefusal) → IsBody j one → IsBody j another → one ≡ another
+one_body : OneSequence → (j : Job) (one another : Result Known SchemaRefusal) → IsBody j one → IsBody j another → one ≡ another
 one_body only j one another (es, last, p, is) (fs, end, q, e) =
     let same = one_processed only j es fs last end p q in
     is ∙ ap (λ (x : List Happening). by_end x last) same.0 ∙ ap (λ (x : End). by_end fs x) same.1 ∙ sym e
 
-one_from : OneSequence → (bytes : List ℕ) (r : Result Header Fault) (one another : Result Declared SchemaRefusal) → IsDocumentFrom bytes r one → IsDocumentFrom bytes r another → one ≡ another
+one_from : OneSequence → (bytes : List ℕ) (r : Result Header Fault) (one another : Result Known SchemaRefusal) → IsDocumentFrom bytes r one → IsDocumentFrom bytes r another → one ≡ another
 one_from only bytes (Ok h) one another p q = one_body only (job_of bytes h) one another p q
 one_from only bytes (Err f) one another p q = p ∙ sym q
 
@@ -76,7 +76,7 @@ unfolding IsProcessed
 few_processed j es last (count, p) = omega (arith, few_events j start.Body document_bounds es last count p)
 
 -- ---- what a call answers
-pub comes_from : (j : Job) (es : List Happening) (last : End) (r : Result Declarations SchemaHalt) → IsProcessed j es last → Comes es last r → ReadsFrom j r
+pub comes_from : (j : Job) (es : List Happening) (last : End) (r : Result KnownSchema SchemaHalt) → IsProcessed j es last → Comes es last r → ReadsFrom j r
 comes_from j es last (Ok found) p c = (es, last, p, sym c)
 comes_from j es last (Err (halt.Refused why)) p c = (es, last, p, sym c)
 comes_from j es last (Err halt.Memory) p c = tt

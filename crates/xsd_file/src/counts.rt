@@ -2,33 +2,22 @@
 
 ghost use Rattle.std.specs.Prelude.{◌≡◌, drop, filter, length};
 ghost use Rattle.xsd_file.specs.Counts.{attributes_counted, elements_counted, has_name, types_counted};
-ghost use Rattle.xsd_parts.specs.Readings.{as_declared};
+ghost use Rattle.xsd_fits.specs.Views.{as_told};
 
-use xsd_model::TypeDef;
-use xsd_parts::Declarations;
+use xsd_model::{Components, TypeDef};
 
 /// How many elements stand directly in the schema.
-pub fn elements_counted(declared: &Declarations) -> usize
-    ensures { result ≡ elements_counted (as_declared declared.now) }
+pub fn elements_counted(components: &Components) -> usize
+    ensures { result ≡ elements_counted (as_told components.now) }
 {
-    declared
-        .elements
-        .as_slice()
-        .iter()
-        .filter(|e| e.global)
-        .count()
+    components.elements().iter().filter(|e| e.global).count()
 }
 
 /// How many attributes stand directly in the schema.
-pub fn attributes_counted(declared: &Declarations) -> usize
-    ensures { result ≡ attributes_counted (as_declared declared.now) }
+pub fn attributes_counted(components: &Components) -> usize
+    ensures { result ≡ attributes_counted (as_told components.now) }
 {
-    declared
-        .attributes
-        .as_slice()
-        .iter()
-        .filter(|a| a.global)
-        .count()
+    components.attributes().iter().filter(|a| a.global).count()
 }
 
 /// Whether a type has a name.
@@ -63,8 +52,8 @@ fn behind_built_in(types: &[TypeDef]) -> &[TypeDef]
 }
 
 /// How many types of the schema have a name.
-pub fn types_counted(declared: &Declarations) -> usize
-    ensures { result ≡ types_counted (as_declared declared.now) }
+pub fn types_counted(components: &Components) -> usize
+    ensures { result ≡ types_counted (as_told components.now) }
 {
-    named(behind_built_in(declared.types.as_slice()))
+    named(behind_built_in(components.types()))
 }

@@ -1,4 +1,4 @@
-//! A schema document: its header, its events, and what they declare.
+//! A schema document: its header, its events, and what they make known.
 
 ghost use Rattle.std.specs.Prelude.{◌≡◌, ◌≤◌, ◌*◌, ◌^◌, IfOk, false, length};
 ghost use Rattle.exi_bits.specs.Bits.{IsAligned};
@@ -6,7 +6,7 @@ ghost use Rattle.exi_gram.specs.Switches.{align_of, conflicts};
 ghost use Rattle.exi_header.specs.Headers.{Tells};
 ghost use Rattle.exi_names.specs.Lists.{events_of};
 ghost use Rattle.exi_reader.specs.Reading.{IsJob, job_of};
-ghost use Rattle.xsd_file.specs.Documents.{Comes, Declares, IsProcessed, Reads, ReadsFrom, document_bounds, document_header, document_options};
+ghost use Rattle.xsd_file.specs.Documents.{Comes, IsProcessed, MakesKnown, Reads, ReadsFrom, document_bounds, document_header, document_options};
 
 use crate::refusal::{SchemaHalt, SchemaRefusal};
 use exi_bits::{Fault, Kind, Stop};
@@ -21,8 +21,8 @@ use exi_tables::PlaceTables;
 use std::alloc::Global;
 use std::marker::Brand;
 use std::sync::ledger::{Blank, Ledger};
+use xsd_known::{KnownSchema, schema_of};
 use xsd_model::SchemaStop;
-use xsd_parts::{Declarations, declarations_of};
 
 /// The most events of a schema document.
 pub const MOST_EVENTS: u64 = 1 << 20;
@@ -100,31 +100,31 @@ fn read_events<L: Ledger>(
     Ok((events, end))
 }
 
-/// What the events of a document declare.
-fn declared(alloc: Global, events: &EventList) -> Result<Declarations, SchemaHalt>
+/// What the events of a document make known.
+fn known(alloc: Global, events: &EventList) -> Result<KnownSchema, SchemaHalt>
     requires few { length (events_of events.now) ≤ 2 ^ 28 }
-    ensures { Declares (events_of events.now) result }
+    ensures { MakesKnown (events_of events.now) result }
 {
-    match declarations_of(alloc, events.as_slice()) {
-        Ok(declared) => Ok(declared),
+    match schema_of(alloc, events.as_slice()) {
+        Ok(schema) => Ok(schema),
         Err(SchemaStop::Fault(fault)) => Err(SchemaHalt::Refused(SchemaRefusal::Document(fault))),
         Err(SchemaStop::Memory) => Err(SchemaHalt::Memory),
     }
 }
 
-/// What the events of a document declare, by the end of their stream.
-fn by_end(alloc: Global, events: &EventList, end: End) -> Result<Declarations, SchemaHalt>
+/// What the events of a document make known, by the end of their stream.
+fn by_end(alloc: Global, events: &EventList, end: End) -> Result<KnownSchema, SchemaHalt>
     requires few { length (events_of events.now) ≤ 2 ^ 28 }
     ensures { Comes (events_of events.now) end result }
 {
     match end {
-        End::Done { .. } => declared(alloc, events),
+        End::Done { .. } => known(alloc, events),
         End::Fault { fault, .. } => Err(SchemaHalt::Refused(SchemaRefusal::Stream(fault))),
     }
 }
 
-/// What the events of a body declare.
-fn read_body(alloc: Global, job: &Job<'_>) -> Result<Declarations, SchemaHalt>
+/// What the events of a body make known.
+fn read_body(alloc: Global, job: &Job<'_>) -> Result<KnownSchema, SchemaHalt>
     requires job { IsJob (job_of job.now) }
     ensures { ReadsFrom (job_of job.now) result }
 {
@@ -134,13 +134,14 @@ fn read_body(alloc: Global, job: &Job<'_>) -> Result<Declarations, SchemaHalt>
     by_end(alloc, &events, end)
 }
 
-/// What the bytes of a schema document's stream declare: at most 64 MiB of bytes.
+/// What the bytes of a schema document's stream make known: its components and their grammars. At most 64 MiB of bytes.
 ///
 /// # Errors
 ///
 /// `Refused` where the stream has a fault, or names a schema, or its header tells options that do not preserve prefixes; and
-/// else where its events are no schema document, or one with a fault. `Memory` where memory is refused.
-pub fn read_document(alloc: Global, bytes: &[u8]) -> Result<Declarations, SchemaHalt>
+/// else where its events are no schema document, or one with a fault, or one whose components have no grammars: too many states,
+/// or elements of one name that open different grammars. `Memory` where memory is refused.
+pub fn read_document(alloc: Global, bytes: &[u8]) -> Result<KnownSchema, SchemaHalt>
     requires few { length bytes.now ≤ 2 ^ 26 }
     ensures { Reads bytes.now result }
 {

@@ -4,7 +4,7 @@ ghost use Rattle.xsd_file.specs.Laws.{ADocumentIsThere, OneDocument};
 
 use exi_reader::laws::{a_sequence_is_there, one_sequence};
 
-/// Bytes declare exactly one list of components, or are refused for exactly one reason.
+/// Bytes make exactly one schema known, its components and their grammars, or are refused for exactly one reason.
 pub fn one_document()
     ensures there { ADocumentIsThere }
     ensures one { OneDocument }

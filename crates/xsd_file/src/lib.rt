@@ -6,6 +6,7 @@
 //!   bytes ──▶ header      told options preserve prefixes, and name no schema
 //!         ──▶ events      at most 2^20 of them, with 2^24 units of text
 //!         ──▶ components  or the first fault of the document
+//!         ──▶ grammars    or the first type or element that has none
 //! ```
 #![tactic(auto)]
 

@@ -1,9 +1,11 @@
-//! What a schema document makes known: its components, and the grammars that they become (EXI 1.0, section 8.5). It is defined
-//! here; what makes it is not built yet.
+//! What a schema document makes known: its components, and the grammars that they become (EXI 1.0, section 8.5).
 //!
 //! ```text
 //!   events ──▶ components ──▶ grammars
 //! ```
 #![tactic(auto)]
 
+mod known;
 pub mod laws;
+
+pub use known::{KnownSchema, schema_of};

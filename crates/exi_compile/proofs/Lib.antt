@@ -1,0 +1,11 @@
+pub mod Added
+pub mod Attributed
+pub mod Compiling
+pub mod Marks
+pub mod NextItem
+pub mod Opens
+pub mod Paired
+pub mod Placed
+pub mod Produced
+pub mod Sizes
+pub mod Telling

@@ -1,0 +1,7 @@
+use Rattle.std.proofs.Common.{◌≡◌, ◌++◌, map, take}
+use Rattle.exi_gram.specs.Terminals.{rule}
+use Rattle.exi_gram.specs.Wholes.{opening}
+use Rattle.exi_compile.proofs.wholes.push_named.Given as goal
+
+abbrev pub invariant-loop-element : goal.invariant-loop-element
+invariant-loop-element l = map rule l.state ≡ map rule l.fn.state ++ map (opening l.to) (take l.element-index l.elements)

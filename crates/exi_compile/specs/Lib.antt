@@ -1,0 +1,10 @@
+pub mod Casts
+pub mod Entries
+pub mod Fragments
+pub mod Makings
+pub mod Opening
+pub mod Order
+pub mod Pairs
+pub mod Promises
+pub mod Tables
+pub mod Whole
