@@ -1,0 +1,15 @@
+pub mod Same
+pub mod Bits
+pub mod Pieces
+pub mod Values
+pub mod Counted
+pub mod Goings
+pub mod Limits
+pub mod Meters
+pub mod Growths
+pub mod Rows
+pub mod WriteRows
+pub mod Written
+pub mod ReadBack
+pub mod Worked
+pub mod Refusals

@@ -1,0 +1,10 @@
+pub mod Readings
+pub mod Valued
+pub mod Spelled
+pub mod Promises
+pub mod Stops
+pub mod Growths
+pub mod Written
+pub mod WriteStops
+pub mod WrittenLaws
+pub mod Refused
