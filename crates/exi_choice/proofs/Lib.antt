@@ -1,5 +1,12 @@
 pub mod Choosing
+pub mod EventKinds
+pub mod FirstPlaces
+pub mod ToldNames
+pub mod FittedValues
 pub mod Matching
 pub mod BuiltIns
-pub mod Books
 pub mod Picking
+pub mod BuiltFits
+pub mod Books
+pub mod Starts
+pub mod Strings

@@ -1,18 +1,24 @@
 -- A production that was found, and how its code is kept until it is written.
-use Rattle.std.specs.Prelude.{◌≡◌, ◌<◌, ℕ, List, [], ◌∷◌, Option, Some, None}
+use Rattle.std.specs.Prelude.{◌≡◌, ◌<◌, ℕ, true, false, List, [], ◌∷◌, Option, Some, None, slice_get}
 use Rattle.exi_builtin.specs.LeastCodes.{IsCodeOf}
 use Rattle.exi_builtin.specs.Learning.{IsRoom, Learning, productions}
 use Rattle.exi_gram.specs.Books.{IsStateOf, state_at}
 use Rattle.exi_gram.specs.Codes.{Coded, Productions}
+use Rattle.exi_gram.specs.Naming.{Entry}
+use Rattle.exi_gram.specs.Outlines.{Outline}
 use Rattle.exi_gram.specs.Tables.{parts_at, parts_of, size}
 use Rattle.exi_reader.specs.Configurations.{Setting, built_in, in_book}
-use Rattle.exi_reader.specs.Handing.{known_rule, rule_in}
-use Rattle.exi_reader.specs.Rules.{Rule, fragment_start}
+use Rattle.exi_reader.specs.Handing.{rule_in}
+use Rattle.exi_reader.specs.Rules.{Rule, book_rule, fragment_start}
 use Rattle.exi_reader.specs.declared.rule.Content.{Content}
 use Rattle.exi_choice.specs.declared.choice.Choice.{Choice}
 use Rattle.exi_choice.specs.declared.choice.Way.{Way}
 use Rattle.exi_choice.specs.declared.choice.Way.TheVariants as way
-use Rattle.exi_choice.specs.Wanted.{first_for}
+use Rattle.exi_choice.specs.declared.fit.Fit.{Fit}
+use Rattle.exi_choice.specs.declared.found.Found.{Found}
+use Rattle.exi_choice.specs.declared.wanted.Wanted.{Wanted}
+use Rattle.exi_choice.specs.Fitting.{fit_in, fitted, having, value_in}
+use Rattle.exi_choice.specs.Wanted.{Seeking, first_for, first_suiting, is_taken}
 
 -- ---- how its code is kept
 abbrev pub way_parts : Setting → Way → List ℕ
@@ -29,10 +35,49 @@ IsWay g l rules (way.Book grammar number place) = IsStateOf g grammar number × 
 pub record IsChoice (g : Setting) (l : Learning) (wanted : Content) (rules : Productions Rule) (choice : Choice) : Type 0 where
   pub coded : Coded Rule
   pub first : first_for wanted rules ≡ Some coded
-  pub rule : rule_in choice.rule ≡ known_rule coded.item
+  pub rule : rule_in choice.rule ≡ coded.item
   pub parts : way_parts g choice.way ≡ coded.parts
   pub way : IsWay g l rules choice.way
 
 abbrev pub Chooses : Setting → Learning → Content → Productions Rule → Option Choice → Type 0
 Chooses g l wanted rules None = first_for wanted rules ≡ None
 Chooses g l wanted rules (Some choice) = IsChoice g l wanted rules choice
+
+-- ---- with what is written of the event's value
+abbrev pub wanting : Wanted → Seeking
+wanting w = record { on = w.on; having = having w.valued }
+
+pub record IsFound (g : Setting) (l : Learning) (s : Seeking) (rules : Productions Rule) (found : Found) : Type 0 where
+  pub coded : Coded Rule
+  pub first : first_suiting g s rules ≡ Some coded
+  pub rule : rule_in found.choice.rule ≡ coded.item
+  pub parts : way_parts g found.choice.way ≡ coded.parts
+  pub way : IsWay g l rules found.choice.way
+  pub value : fitted (value_in s.having) (Some found.value) ≡ fit_in g.schema coded.item.on s.having
+
+abbrev pub Finds : Setting → Learning → Seeking → Productions Rule → Option Found → Type 0
+Finds g l s rules None = first_suiting g s rules ≡ None
+Finds g l s rules (Some found) = IsFound g l s rules found
+
+-- ---- a production with so many parts in its code that suits, with what is written of the value there
+abbrev pub Takes : Outline → ℕ → Seeking → Coded Entry → Option Fit → Type 0
+Takes o parts s c None = is_taken o parts s c ≡ false
+Takes o parts s c (Some kept) = (is_taken o parts s c ≡ true) × (fitted (value_in s.having) (Some kept) ≡ fit_in o (book_rule c.item).on s.having)
+
+-- ---- the production at a place of a state's codes
+pub record IsFitAt (o : Outline) (s : Seeking) (cs : List (Coded Entry)) (place : ℕ) (kept : Fit) : Type 0 where
+  pub coded : Coded Entry
+  pub there : slice_get cs place ≡ Some coded
+  pub value : fitted (value_in s.having) (Some kept) ≡ fit_in o (book_rule coded.item).on s.having
+
+-- this place, with what is written of the value there
+abbrev pub FindsPlace : Outline → Seeking → List (Coded Entry) → Option ℕ → Option (ℕ × Fit) → Type 0
+FindsPlace o s cs place None = place ≡ None
+FindsPlace o s cs place (Some found) = (place ≡ Some found.0) × IsFitAt o s cs found.0 found.1
+
+-- ---- a production that stands for the event, where the value has a spelling in it
+abbrev pub Keeps : Outline → Seeking → Option Choice → Option Found → Type 0
+Keeps o s None None = Unit {0}
+Keeps o s None (Some found) = ⊥
+Keeps o s (Some choice) None = fit_in o (rule_in choice.rule).on s.having ≡ None
+Keeps o s (Some choice) (Some found) = (found.choice ≡ choice) × (fitted (value_in s.having) (Some found.value) ≡ fit_in o (rule_in choice.rule).on s.having)

@@ -1,20 +1,17 @@
-ghost use Rattle.std.specs.Prelude.{◌≡◌, ◌≤◌, None, length, map};
+ghost use Rattle.std.specs.Prelude.{◌≡◌, None};
 ghost use Rattle.exi_builtin.specs.Learning.{IsRoom, state_behind};
-ghost use Rattle.exi_gram.specs.Books.{IsStateOf};
-ghost use Rattle.exi_gram.specs.Tables.{coded_of, most_productions};
 ghost use Rattle.exi_builtin.specs.Learning.{Learning};
-ghost use Rattle.exi_reader.specs.Configurations.{Setting, built_in, in_book};
-ghost use Rattle.exi_reader.specs.Rules.{fragment_start};
+ghost use Rattle.exi_reader.specs.Configurations.{Setting, built_in};
+ghost use Rattle.exi_reader.specs.Rules.{fragment_start, start_document};
 ghost use Rattle.exi_reader.specs.Handing.{rule_in, telling_of, terminal_in};
 ghost use Rattle.exi_reader.specs.Rules.{built_in_terminal};
 ghost use Rattle.exi_choice.specs.declared.choice.Way.TheVariants as Way;
 ghost use Rattle.exi_choice.specs.Choices.{Chooses};
-ghost use Rattle.exi_choice.specs.Wanted.{fewest_place, general, is_of, is_told, place_for, special};
+ghost use Rattle.exi_choice.specs.Wanted.{general, is_of, is_told, special};
 
 use exi_builtin::{Learnable, Overlay, Room};
-use exi_gram::{Book, Code, Coded};
-use exi_names::NameId;
-use exi_reader::{Content, Rule, state_behind};
+use exi_gram::{Book, Code};
+use exi_reader::{Content, Rule, Telling, state_behind};
 
 /// How the code of a production is written.
 #[derive(Clone, Copy, Debug)]
@@ -35,33 +32,39 @@ pub enum Way {
 }
 
 /// A production, and how its code is written.
-#[derive(Clone, Copy, Debug)]
-pub struct Choice {
+#[derive(Clone, Copy)]
+pub struct Choice<'a> {
     /// The production.
-    pub rule: Rule,
+    pub rule: Rule<'a>,
     /// How its code is written.
     pub way: Way,
 }
 
 /// SD of a fragment, whose code takes no bits.
-const START: Choice = Choice {
-    rule: Rule {
-        on: Content::StartDocument,
-        to: 1,
-        inner: None,
-    },
-    way: Way::Nothing,
-};
+fn start<'a>() -> Choice<'a>
+    ensures rule { rule_in result.rule ≡ record { on = start_document; to = 1; inner = None } }
+    ensures way { result.way ≡ Way.Nothing }
+{
+    Choice {
+        rule: Rule {
+            on: Content::StartDocument,
+            to: 1,
+            inner: None,
+            datatype: None,
+        },
+        way: Way::Nothing,
+    }
+}
 
 /// The production of a fragment's start that stands for an event.
-pub fn choose_start(wanted: Content) -> Option<Choice>
+pub fn choose_start<'a>(wanted: Content) -> Option<Choice<'a>>
     ensures { (g : Setting) (l : Learning) → Chooses g l wanted fragment_start result }
 {
     match wanted {
-        Content::StartDocument => Some(START),
+        Content::StartDocument => Some(start()),
         Content::EndDocument
         | Content::Element(_)
-        | Content::Attribute(_)
+        | Content::Attribute(_, _)
         | Content::Characters
         | Content::EndElement
         | Content::Declaration
@@ -69,8 +72,7 @@ pub fn choose_start(wanted: Content) -> Option<Choice>
         | Content::Comment
         | Content::Instruction
         | Content::DocumentType
-        | Content::Entity
-        | Content::Informed => None,
+        | Content::Entity => None,
     }
 }
 
@@ -79,8 +81,8 @@ fn special(wanted: Content) -> Option<Learnable>
     ensures { result ≡ special wanted }
 {
     match wanted {
-        Content::Element(Some(name)) => Some(Learnable::Known(name, false)),
-        Content::Attribute(Some(name)) => Some(Learnable::Known(name, true)),
+        Content::Element(Telling::Known(name)) => Some(Learnable::Known(name, false)),
+        Content::Attribute(Telling::Known(name), _) => Some(Learnable::Known(name, true)),
         Content::Characters => Some(Learnable::Ch(true)),
         Content::EndElement => Some(Learnable::Ee(true)),
         _ => None,
@@ -93,7 +95,7 @@ fn general(wanted: Content) -> Option<Learnable>
 {
     match wanted {
         Content::Element(_) => Some(Learnable::SeAny),
-        Content::Attribute(_) => Some(Learnable::AtAny),
+        Content::Attribute(_, _) => Some(Learnable::AtAny),
         Content::Characters => Some(Learnable::Ch(false)),
         Content::EndElement => Some(Learnable::Ee(false)),
         Content::EndDocument => Some(Learnable::Ed),
@@ -102,32 +104,28 @@ fn general(wanted: Content) -> Option<Learnable>
         Content::Entity => Some(Learnable::Er),
         Content::Comment => Some(Learnable::Cm),
         Content::Instruction => Some(Learnable::Pi),
-        Content::StartDocument | Content::DocumentType | Content::Informed => None,
+        Content::StartDocument | Content::DocumentType => None,
     }
 }
 
 /// A production of a built-in state, with its code.
-fn coded_as(room: Room, production: Learnable, code: Code) -> Choice
+fn coded_as<'a>(room: Room, production: Learnable, code: Code) -> Choice<'a>
     ensures rule { rule_in result.rule ≡ record { on = built_in_terminal production; to = state_behind room production; inner = None } }
     ensures way { result.way ≡ Way.BuiltIn room code }
 {
     Choice {
-        rule: Rule {
-            on: Content::of_built_in(production),
-            to: state_behind(room, production),
-            inner: None,
-        },
+        rule: Rule::of_built_in(production, state_behind(room, production)),
         way: Way::BuiltIn(room, code),
     }
 }
 
 /// The production of a built-in state that stands for an event: the one for it alone before the one for its kind.
-pub fn choose_built_in(
-    book: &Book,
+pub fn choose_built_in<'a>(
+    book: &'a Book,
     overlay: &Overlay,
     room: Room,
     wanted: Content,
-) -> Option<Choice>
+) -> Option<Choice<'a>>
     requires room { IsRoom overlay.now room }
     ensures { Chooses book.now overlay.now wanted (built_in book.now overlay.now room) result }
 {
@@ -143,24 +141,29 @@ pub fn choose_built_in(
     Some(coded_as(room, production, code))
 }
 
-/// Whether a name is told so: in bits of its own, or by its places.
-fn is_told(own: Option<NameId>, told: Option<NameId>) -> bool
+/// Whether a name is told so: in bits of its own, by its URI's place, or by its places.
+fn is_told(own: Telling, told: Telling) -> bool
     ensures { result ≡ is_told own (telling_of told) }
 {
     match (own, told) {
-        (_, None) => true,
-        (Some(own), Some(told)) => told.uri == own.uri && told.local == own.local,
-        (None, Some(_)) => false,
+        (_, Telling::Spelled) => true,
+        (Telling::Known(own), Telling::Known(told)) => {
+            told.uri == own.uri && told.local == own.local
+        }
+        (Telling::Known(own), Telling::Under(uri)) => own.uri == uri,
+        (Telling::Under(own), Telling::Under(uri)) => own == uri,
+        (Telling::Spelled | Telling::Under(_), Telling::Known(_))
+        | (Telling::Spelled, Telling::Under(_)) => false,
     }
 }
 
 /// Whether a production stands for an event.
-fn is_for(wanted: Content, on: Content) -> bool
-    ensures { result ≡ is_of wanted (terminal_in on) }
+pub fn is_for(wanted: Content, on: Content) -> bool
+    ensures { result ≡ is_of wanted (terminal_in on None) }
 {
     match (wanted, on) {
         (Content::Element(own), Content::Element(told))
-        | (Content::Attribute(own), Content::Attribute(told)) => is_told(own, told),
+        | (Content::Attribute(own, _), Content::Attribute(told, _)) => is_told(own, told),
         (Content::StartDocument, Content::StartDocument)
         | (Content::EndDocument, Content::EndDocument)
         | (Content::Characters, Content::Characters)
@@ -173,59 +176,4 @@ fn is_for(wanted: Content, on: Content) -> bool
         | (Content::Entity, Content::Entity) => true,
         _ => false,
     }
-}
-
-/// The place of the first production with so many parts in its code that stands for an event.
-fn first_of(coded: &[Coded], parts: u32, wanted: Content) -> Option<u32>
-    requires few { length coded.now ≤ most_productions }
-    ensures { result ≡ place_for parts wanted 0 (map coded_of coded.now) }
-{
-    for (place, coded) in coded.iter().enumerate() {
-        if coded.code.parts() == parts && is_for(wanted, Content::of_book(&coded.production.on)) {
-            return Some(place as u32);
-        }
-    }
-    None
-}
-
-/// The place of the production with the fewest parts, and among these with the least code, that stands for an event.
-fn fewest(coded: &[Coded], wanted: Content) -> Option<u32>
-    requires few { length coded.now ≤ most_productions }
-    ensures { result ≡ fewest_place wanted (map coded_of coded.now) }
-{
-    if let Some(place) = first_of(coded, 1, wanted) {
-        return Some(place);
-    }
-    if let Some(place) = first_of(coded, 2, wanted) {
-        return Some(place);
-    }
-    first_of(coded, 3, wanted)
-}
-
-/// The production of a state of the book that stands for an event.
-pub fn choose_in_book(
-    book: &Book,
-    overlay: &Overlay,
-    grammar: u32,
-    state: u32,
-    wanted: Content,
-) -> Option<Choice>
-    requires exists { IsStateOf book.now grammar state }
-    ensures { Chooses book.now overlay.now wanted (in_book book.now grammar state) result }
-{
-    let coded = book.state(grammar, state).coded();
-    let place = fewest(coded, wanted)?;
-    let production = &coded[place as usize].production;
-    Some(Choice {
-        rule: Rule {
-            on: Content::of_book(&production.on),
-            to: production.to,
-            inner: production.inner,
-        },
-        way: Way::Book {
-            grammar,
-            state,
-            place,
-        },
-    })
 }

@@ -76,9 +76,7 @@ fn told_by(
     limits: Limits,
     start: &str,
     bytes: &[u8],
-) -> Result<Option<String>, AllocError>
-    requires plain { book.now.schema.known ≡ false }
-{
+) -> Result<Option<String>, AllocError> {
     let Some(job) = job_in(book, bytes, limits) else {
         return Ok(None);
     };
@@ -112,7 +110,6 @@ fn limits_of(text: &str) -> Option<Limits> {
 
 /// What is read: the body behind the header.
 fn job_in<'a>(book: &'a Book, bytes: &'a [u8], limits: Limits) -> Option<Job<'a>>
-    requires plain { book.now.schema.known ≡ false }
     ensures { IfSome result (λ j. IsJob (job_of j)) }
 {
     if bytes.is_empty() || bytes.len() > MOST_BYTES {

@@ -1,6 +1,10 @@
 pub mod Begun
+pub mod Effects
 pub mod EventKinds
 pub mod EventNames
+pub mod EventValues
+pub mod FittedValues
+pub mod Places
 pub mod PutCodes
 pub mod Putting
 pub mod Stepped

@@ -1,6 +1,6 @@
 -- The bits of a production's code, where the production is kept as one of a built-in state or of the book.
-use Rattle.std.proofs.Common.{◌≡◌, ◌<◌, ℕ, Bool, List, [], ◌∷◌, ◌++◌, length, map, Option, refl, sym, ap, ◌∙◌, subst, inl, inr, append-nil}
-use Rattle.std.specs.Prelude.{◌⊎◌, OnOk, Result, Ok, Err}
+use Rattle.std.proofs.Common.{◌≡◌, ◌<◌, ℕ, Bool, List, [], ◌∷◌, ◌++◌, length, map, Option, Some, true, refl, sym, ap, ◌∙◌, subst, inl, inr, append-nil}
+use Rattle.std.specs.Prelude.{◌⊎◌, IfOk, OnOk, Result, Ok, Err}
 use Rattle.std.specs.declared.alloc.AllocError.{AllocError}
 use Rattle.exi_bits.specs.Bits.{bits, le_bytes, number_bits}
 use Rattle.exi_bits.specs.Widths.{width_from}
@@ -16,13 +16,18 @@ use Rattle.exi_gram.specs.Switches.{align_of}
 use Rattle.exi_gram.specs.Tables.{parts_at, parts_of, size}
 use Rattle.exi_gram.specs.declared.code.Code.{Code}
 use Rattle.exi_gram.specs.declared.options.Options.{Options}
-use Rattle.exi_reader.specs.Configurations.{Setting, built_in, in_book, outer_rules, rules_of}
+use Rattle.exi_reader.specs.Configurations.{Setting, alone_rules, built_in, element_rules, in_book, outer_rules, rules_in, rules_of}
+use Rattle.exi_reader.specs.Handing.{IsThere}
 use Rattle.exi_reader.specs.Rules.{Rule, book_rule, fragment_start}
+use Rattle.exi_reader.specs.Stacks.{first_element}
+use Rattle.exi_reader.specs.declared.frames.Element.{Element}
 use Rattle.exi_reader.specs.declared.frames.Outer.{Outer}
 use Rattle.exi_reader.specs.declared.frames.Outer.TheVariants as outer
-use Rattle.exi_reader.specs.declared.rule.Content.{Content}
-use Rattle.exi_choice.specs.Choices.{Chooses, IsWay, way_parts}
-use Rattle.exi_choice.specs.declared.choice.Choice.{Choice}
+use Rattle.exi_reader.specs.declared.frames.State.{State}
+use Rattle.exi_reader.specs.declared.frames.State.TheVariants as state
+use Rattle.exi_choice.specs.Choices.{Finds, IsWay, way_parts}
+use Rattle.exi_choice.specs.Wanted.{Seeking}
+use Rattle.exi_choice.specs.declared.found.Found.{Found}
 use Rattle.exi_choice.specs.declared.choice.Way.{Way}
 use Rattle.exi_choice.specs.declared.choice.Way.TheVariants as way
 use Rattle.exi_pen.specs.Pages.{Page, with_bits}
@@ -44,9 +49,56 @@ start_bits align.Bits = refl
 start_bits align.Bytes = refl
 
 -- ---- outside of all elements, where a fragment begins
-pub start_chosen : (g : Setting) (l : Learning) (wanted : Content) (o : Outer) (found : Option Choice) → (o ≡ outer.FragmentStart) ⊎ (o ≡ outer.AloneStart) → Chooses g l wanted fragment_start found → Chooses g l wanted (outer_rules g l o) found
-start_chosen g l wanted o found (inl e) h = subst (λ (z : Outer). Chooses g l wanted (outer_rules g l z) found) (sym e) h
-start_chosen g l wanted o found (inr e) h = subst (λ (z : Outer). Chooses g l wanted (outer_rules g l z) found) (sym e) h
+pub start_found : (g : Setting) (l : Learning) (wanted : Seeking) (o : Outer) (found : Option Found) → (o ≡ outer.FragmentStart) ⊎ (o ≡ outer.AloneStart) → Finds g l wanted fragment_start found → Finds g l wanted (outer_rules g l o) found
+start_found g l wanted o found (inl e) h = subst (λ (z : Outer). Finds g l wanted (outer_rules g l z) found) (sym e) h
+start_found g l wanted o found (inr e) h = subst (λ (z : Outer). Finds g l wanted (outer_rules g l z) found) (sym e) h
+
+-- where its element is to come, and behind that
+pub alone_there : (p q : Page) → p ≡ q → (p.config.outer ≡ outer.AloneFirst) ⊎ (p.config.outer ≡ outer.AloneOver) → IsThere q.setting q.config.outer → q.setting.schema.known ≡ true → IsStateOf q.setting 1 1
+alone_there p q same (inl e) h = subst (λ (z : Outer). IsThere q.setting z) (ap (λ (z : Page). z.config.outer) (sym same) ∙ e) h
+alone_there p q same (inr e) h = subst (λ (z : Outer). IsThere q.setting z) (ap (λ (z : Page). z.config.outer) (sym same) ∙ e) h
+
+abbrev pub Finding : Type 0
+Finding = Result (Option Found) AllocError
+
+-- where memory was not refused
+abbrev pub FindsIn : Setting → Learning → Seeking → Productions Rule → Finding → Type 0
+FindsIn g l wanted rules r = IfOk r (λ found. Finds g l wanted rules found)
+
+pub alone_found : (wanted : Seeking) (p q : Page) (r : Finding) → p ≡ q → (p.config.outer ≡ outer.AloneFirst) ⊎ (p.config.outer ≡ outer.AloneOver) → FindsIn q.setting q.config.learned wanted (alone_rules q.setting q.config.learned) r
+    → FindsIn q.setting q.config.learned wanted (outer_rules q.setting q.config.learned q.config.outer) r
+alone_found wanted p q r same (inl e) h = subst (λ (z : Outer). FindsIn q.setting q.config.learned wanted (outer_rules q.setting q.config.learned z) r) (sym (ap (λ (z : Page). z.config.outer) (sym same) ∙ e)) h
+alone_found wanted p q r same (inr e) h = subst (λ (z : Outer). FindsIn q.setting q.config.learned wanted (outer_rules q.setting q.config.learned z) r) (sym (ap (λ (z : Page). z.config.outer) (sym same) ∙ e)) h
+
+-- in the book, whatever is learned
+found_for : (g : Setting) (l : Learning) (wanted : Seeking) (rules : Productions Rule) (r : Finding) → IfOk r (λ found. (k : Learning) → Finds g k wanted rules found) → FindsIn g l wanted rules r
+found_for g l wanted rules (Ok found) h = h l
+found_for g l wanted rules (Err e) h = tt
+
+pub book_found : (wanted : Seeking) (p q : Page) (grammar number : ℕ) (r : Finding) → p ≡ q → p.config.outer ≡ outer.Book grammar number → IfOk r (λ found. (k : Learning) → Finds p.setting k wanted (in_book p.setting grammar number) found)
+    → FindsIn q.setting q.config.learned wanted (outer_rules q.setting q.config.learned q.config.outer) r
+book_found wanted p q grammar number r same e h =
+    subst (λ (z : Page). FindsIn z.setting z.config.learned wanted (outer_rules z.setting z.config.learned z.config.outer) r) same
+    (subst (λ (z : Outer). FindsIn p.setting p.config.learned wanted (outer_rules p.setting p.config.learned z) r) (sym e)
+    (found_for p.setting p.config.learned wanted (in_book p.setting grammar number) r h))
+
+-- in an element
+rules_first : (g : Setting) (l : Learning) (es : List Element) (o : Outer) (e : Element) → first_element es ≡ Some e → rules_in g l es o ≡ element_rules g l e.state
+rules_first g l [] o e h = absurd cc
+rules_first g l (x ∷ es) o e h = ap (λ (z : Element). element_rules g l z.state) (first_is x e h)
+  where
+    first_is : (a b : Element) → Some a ≡ Some b → a ≡ b
+    first_is a b k = cc
+
+pub informed_found : (wanted : Seeking) (p q : Page) (e : Element) (grammar number : ℕ) (empty : Bool) (o : Option Element) (r : Finding) → p ≡ q → o ≡ first_element p.config.elements → o ≡ Some e → e.state ≡ state.Informed grammar number empty
+    → IfOk r (λ found. (k : Learning) → Finds p.setting k wanted (in_book p.setting grammar number) found)
+    → FindsIn q.setting q.config.learned wanted (rules_of q.setting q.config) r
+informed_found wanted p q e grammar number empty o r same first is there h =
+    let rules : rules_of p.setting p.config ≡ in_book p.setting grammar number =
+    rules_first p.setting p.config.learned p.config.elements p.config.outer e (sym first ∙ is) ∙ ap (λ (z : State). element_rules p.setting p.config.learned z) there in
+    subst (λ (z : Page). FindsIn z.setting z.config.learned wanted (rules_of z.setting z.config) r) same
+    (subst (λ (z : Productions Rule). FindsIn p.setting p.config.learned wanted z r) (sym rules)
+    (found_for p.setting p.config.learned wanted (in_book p.setting grammar number) r h))
 
 -- ---- a way's code on a page
 abbrev code_by : Page → Way → List Bool

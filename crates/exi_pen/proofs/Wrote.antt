@@ -10,11 +10,11 @@ use Rattle.exi_reader.specs.OneEvent.{remembered}
 use Rattle.exi_tables.specs.Partitions.{Partitions}
 use Rattle.exi_reader.specs.Plans.{Plan, plan_of}
 use Rattle.exi_reader.specs.Rules.{Rule, Terminal}
-use Rattle.exi_reader.specs.declared.rule.Content.{Content}
 use Rattle.exi_reader.specs.declared.rule.Rule.{Rule as Kept}
 use Rattle.exi_writing.specs.OneEvent.{◌>>=◌}
 use Rattle.exi_writing.specs.OneEvent.{Refused, Written, at_end, behind, behind_code, followed_by, not_derived, one_deeper, one_more, padding, paid, written_by}
-use Rattle.exi_pen.specs.Pages.{Begins, IsBegun, MayStand, Page, Writes, by_choice, code_behind, page_behind, tried}
+use Rattle.exi_choice.specs.Wanted.{Seeking}
+use Rattle.exi_pen.specs.Pages.{IsBegun, IsNotBegun, IsWanted, MayStand, Page, Writes, by_chosen, code_behind, page_behind, tried}
 use Rattle.exi_toll.specs.Charges.{Charged, Settles, charge, charge_event, charge_level}
 use Rattle.exi_writing.specs.Pieces.{Piece}
 use Rattle.exi_toll.specs.declared.stop.PutStop.{PutStop}
@@ -52,8 +52,8 @@ tried_none g c r code e s w = rw (s.free, s.placed, w) refl
 
 -- ---- what is answered
 -- so far in an event: its production was found and its code written
-pub record IsGoing (wanted : Content) (old : Page) (e : Happening) (r : Rule) (code : List Bool) : Type 0 where
-  pub is : by_choice old.setting old.config wanted e ≡ tried old.setting old.config r code e
+pub record IsGoing (old : Page) (e : Happening) (r : Rule) (code : List Bool) : Type 0 where
+  pub is : by_chosen old.setting old.config e ≡ tried old.setting old.config r code e
   pub stands : MayStand (plan_of old.setting old.config r)
 
 abbrev pub on_terminal : Kept → Terminal → Rule
@@ -62,43 +62,43 @@ on_terminal rule t = record { on = t; to = rule.to; inner = rule.inner }
 same_rule : (r : Rule) (t : Terminal) → r.on ≡ t → r ≡ record { on = t; to = r.to; inner = r.inner }
 same_rule r t e = ap (λ (z : Terminal). record { on = z; to = r.to; inner = r.inner }) e
 
-pub going_on : (wanted : Content) (old mid : Page) (toll charged : Charged) (rule : Kept) (e : Happening) (t : Terminal) → (b : IsBegun wanted old mid toll charged rule) → (rule_in rule).on ≡ t → IsGoing wanted old e (on_terminal rule t) b.code
-going_on wanted old mid toll charged rule e t b h = subst (λ (r : Rule). IsGoing wanted old e r b.code) (same_rule (rule_in rule) t h) record { is = b.is e; stands = b.stands }
+pub going_on : (wanted : Seeking) (old mid : Page) (toll charged : Charged) (rule : Kept) (e : Happening) (t : Terminal) → (b : IsBegun wanted old mid toll charged rule) → IsWanted old.setting old.config.tables wanted e → (rule_in rule).on ≡ t → IsGoing old e (on_terminal rule t) b.code
+going_on wanted old mid toll charged rule e t b same h = subst (λ (r : Rule). IsGoing old e r b.code) (same_rule (rule_in rule) t h) record { is = b.is e same; stands = b.stands }
 
 -- what was charged so far
-pub charged_on : (wanted : Content) (old mid : Page) (toll charged : Charged) (rule : Kept) (t : Terminal) → (b : IsBegun wanted old mid toll charged rule) → (rule_in rule).on ≡ t → charged ≡ charge_level (plan_of old.setting old.config (on_terminal rule t)).entered (charge_event (plan_of old.setting old.config (on_terminal rule t)).counted toll)
+pub charged_on : (wanted : Seeking) (old mid : Page) (toll charged : Charged) (rule : Kept) (t : Terminal) → (b : IsBegun wanted old mid toll charged rule) → (rule_in rule).on ≡ t → charged ≡ charge_level (plan_of old.setting old.config (on_terminal rule t)).entered (charge_event (plan_of old.setting old.config (on_terminal rule t)).counted toll)
 charged_on wanted old mid toll charged rule t b h = subst (λ (r : Rule). charged ≡ charge_level (plan_of old.setting old.config r).entered (charge_event (plan_of old.setting old.config r).counted toll)) (same_rule (rule_in rule) t h) b.charged
 
 -- ---- where no production was found
-pub begin_stop : (stopped : PutStop) (wanted : Content) (old new : Page) (toll charged : Charged) (e : Happening) → Begins wanted (Err stopped) old new toll charged → new.config.meter ≡ old.config.meter → Writes {X = Unit {0}} (Err stopped) old new (by_choice old.setting old.config wanted e)
-begin_stop stop.NotDerived wanted old new toll charged e b m = (b e, m)
-begin_stop (stop.Limit k) wanted old new toll charged e b m = absurd b
-begin_stop stop.Memory wanted old new toll charged e b m = tt
+pub begin_stop : (stopped : PutStop) (wanted : Seeking) (old new : Page) (e : Happening) → IsNotBegun wanted stopped old → IsWanted old.setting old.config.tables wanted e → new.config.meter ≡ old.config.meter → Writes {X = Unit {0}} (Err stopped) old new (by_chosen old.setting old.config e)
+begin_stop stop.NotDerived wanted old new e b same m = (b e same, m)
+begin_stop (stop.Limit k) wanted old new e b same m = absurd b
+begin_stop stop.Memory wanted old new e b same m = tt
 
 -- what is charged for a piece
 abbrev pub toll_of : Page → Plan → List ℕ → Charged
 toll_of old p units = charge units (charge_level p.entered (charge_event p.counted (Ok old.config.meter)))
 
 -- where it is written
-pub going_ok : (x : Unit {0}) (wanted : Content) (old new : Page) (e : Happening) (r : Rule) (code : List Bool) (piece : Piece (plan_of old.setting old.config r).Item) (m : Metering) → IsGoing wanted old e r code
+pub going_ok : (x : Unit {0}) (old new : Page) (e : Happening) (r : Rule) (code : List Bool) (piece : Piece (plan_of old.setting old.config r).Item) (m : Metering) → IsGoing old e r code
     → written_by old.setting old.config r e old.config.tables ≡ Some piece → (plan_of old.setting old.config r).refused piece.item ≡ None
     → toll_of old (plan_of old.setting old.config r) piece.units ≡ Ok m
     → new ≡ page_behind old (written_at (plan_of old.setting old.config r) old.config code piece m)
-    → Writes {X = Unit {0}} (Ok x) old new (by_choice old.setting old.config wanted e)
-going_ok x wanted old new e r code piece m k w f charged page = (
+    → Writes {X = Unit {0}} (Ok x) old new (by_chosen old.setting old.config e)
+going_ok x old new e r code piece m k w f charged page = (
   written_at (plan_of old.setting old.config r) old.config code piece m,
   k.is ∙ tried_is old.setting old.config r code e piece k.stands w f ∙ ap (finished (plan_of old.setting old.config r) old.config code piece) charged,
   page,
 )
 
 -- where a limit is passed
-pub settle_stop : (stopped : PutStop) (wanted : Content) (old new : Page) (e : Happening) (r : Rule) (code : List Bool) (piece : Piece (plan_of old.setting old.config r).Item) → IsGoing wanted old e r code
+pub settle_stop : (stopped : PutStop) (old new : Page) (e : Happening) (r : Rule) (code : List Bool) (piece : Piece (plan_of old.setting old.config r).Item) → IsGoing old e r code
     → written_by old.setting old.config r e old.config.tables ≡ Some piece → (plan_of old.setting old.config r).refused piece.item ≡ None
     → Settles (Err stopped) new.config.meter (toll_of old (plan_of old.setting old.config r) piece.units)
-    → Writes {X = Unit {0}} (Err stopped) old new (by_choice old.setting old.config wanted e)
-settle_stop stop.NotDerived wanted old new e r code piece k w f s = absurd s
-settle_stop (stop.Limit kind) wanted old new e r code piece k w f s = k.is ∙ tried_is old.setting old.config r code e piece k.stands w f ∙ ap (finished (plan_of old.setting old.config r) old.config code piece) s
-settle_stop stop.Memory wanted old new e r code piece k w f s = absurd s
+    → Writes {X = Unit {0}} (Err stopped) old new (by_chosen old.setting old.config e)
+settle_stop stop.NotDerived old new e r code piece k w f s = absurd s
+settle_stop (stop.Limit kind) old new e r code piece k w f s = k.is ∙ tried_is old.setting old.config r code e piece k.stands w f ∙ ap (finished (plan_of old.setting old.config r) old.config code piece) s
+settle_stop stop.Memory old new e r code piece k w f s = absurd s
 
 -- ---- the page
 pub place_behind : (bits code text : List Bool) (place : ℕ) → place ≡ length bits → length ((bits ++ code) ++ text) ≡ place + length code + length text

@@ -1,2 +1,4 @@
 pub mod Pages
+pub mod Told
+pub mod Values
 pub mod Steps

@@ -3,31 +3,36 @@ use Rattle.std.specs.Prelude.{◌≡◌, ◌<◌, ◌+◌, ◌*◌, not, ℕ, Bo
 use Rattle.exi_bits.specs.declared.fault.Kind.{Kind}
 use Rattle.exi_builtin.specs.declared.learnable.Learned.{Learned}
 use Rattle.exi_builtin.specs.declared.learnable.Learned.TheVariants as used
-use Rattle.exi_gram.specs.Books.{IsPlainBook}
 use Rattle.exi_meter.specs.Metering.{Bounds, Metering, with_tally, without_level}
 use Rattle.exi_meter.specs.declared.tally.Tally.{Tally}
 use Rattle.exi_names.specs.declared.names.NameId.{NameId}
 use Rattle.exi_names.specs.declared.names.QName.{QName}
 use Rattle.exi_names.specs.Events.{Happening}
 use Rattle.exi_tables.specs.Partitions.{Partitions}
-use Rattle.exi_reader.specs.Configurations.{Body, Config, Setting, first_config, rules_of}
+use Rattle.exi_reader.specs.Configurations.{Body, Config, IsSetting, Setting, first_config}
 use Rattle.exi_reader.specs.declared.start.Start.{Start}
 use Rattle.exi_reader.specs.declared.start.Start.TheVariants as start
-use Rattle.exi_reader.specs.Changes.{enclosing, put_aside, closed, learns, moves, opened, room_in}
+use Rattle.exi_reader.specs.Changes.{Effect, closed, effect_of, effected, enclosing, learns, moves, opened, opener, put_aside, room_in}
 use Rattle.exi_reader.specs.Handing.{AreThere, HasLevels, HasRoom, IsThere, rule_in, CanLearn, learned_by, root_at}
 use Rattle.exi_reader.specs.Sound.{FitsIn, IsSound}
 use Rattle.exi_reader.specs.Plans.{Alone, Plan, alone_in, ended_in, is_event, no_element, plan_of}
-use Rattle.exi_reader.specs.Rules.{Rule, Telling}
+use Rattle.exi_reader.specs.Rules.{Rule, Telling, Valuing}
 use Rattle.exi_reader.specs.declared.rule.Content.{Content}
-use Rattle.exi_reader.specs.declared.rule.Rule.{Rule as Kept}
 use Rattle.exi_reader.specs.declared.rule.Content.TheVariants as content
+use Rattle.exi_reader.specs.declared.rule.Rule.{Rule as Kept}
+use Rattle.exi_reader.specs.declared.rule.Telling.{Telling as Told}
+use Rattle.exi_reader.specs.declared.rule.Valuing.TheVariants as valuing
 use Rattle.exi_typed.specs.Strings.{Named}
 use Rattle.exi_writing.specs.Pieces.{Piece}
-use Rattle.exi_writing.specs.OneEvent.{Refused, Written, behind_code, by_code, followed, limit, matches, not_derived, padding, written_by}
+use Rattle.exi_writing.specs.OneEvent.{Refused, Written, behind_code, by_code, chosen, followed, limit, matches, not_derived, padding, written_by}
 use Rattle.exi_toll.specs.declared.stop.PutStop.{PutStop}
 use Rattle.exi_toll.specs.declared.stop.PutStop.TheVariants as stop
-use Rattle.exi_choice.specs.Wanted.{first_for, is_of, picked}
-use Rattle.exi_toll.specs.Charges.{Charged, charge, charge_event, charge_level}
+use Rattle.exi_choice.specs.Fitting.{fit_in, fitted, of_attribute, of_characters, value_in}
+use Rattle.exi_choice.specs.Wanted.{Seeking, of_kind, place_told, seeking, suits}
+use Rattle.exi_names.specs.Seen.{Value}
+use Rattle.exi_names.specs.StartTables.{IsStart}
+use Rattle.exi_pen.specs.declared.pen.Begun.{Begun}
+use Rattle.exi_toll.specs.Charges.{Charged, charge, charge_event, charge_level, is_within}
 
 -- what a writer stands for: what is written by, the bits that are written, and how far
 pub record Page : Type 0 where
@@ -42,8 +47,9 @@ with_bits p text = record { setting = p.setting; bits = p.bits ++ text; config =
 abbrev pub fragment_page : Page → Page
 fragment_page p = record p { config = put_aside p.setting p.config }
 
-abbrev pub by_choice : Setting → Config → Content → Happening → Result Written Refused
-by_choice g c wanted e = by_code g c e (picked g c e (first_for wanted (rules_of g c)))
+-- an event by the production that is chosen for it
+abbrev pub by_chosen : Setting → Config → Happening → Result Written Refused
+by_chosen g c e = by_code g c e (chosen g c e)
 
 -- ---- the code of an event
 abbrev pub code_behind : Config → List Bool → Config
@@ -62,22 +68,46 @@ abbrev pub no_element_for : Content → Alone → Option Kind
 no_element_for (content.Element own) a = None
 no_element_for wanted a = no_element a
 
--- the production was found, and its code written
-pub record IsBegun (wanted : Content) (old new : Page) (toll owed : Charged) (rule : Kept) : Type 0 where
+-- the event is one of those for which this is wanted: the same productions suit both
+abbrev pub IsWanted : Setting → Partitions → Seeking → Happening → Type 0
+IsWanted g p wanted e = (r : Rule) → suits g (seeking p e) r ≡ suits g wanted r
+
+-- the production was found, and its code written, for each such event
+pub record IsBegun (wanted : Seeking) (old new : Page) (toll owed : Charged) (rule : Kept) : Type 0 where
   pub code : List Bool
-  pub is : (e : Happening) → by_choice old.setting old.config wanted e ≡ tried old.setting old.config (rule_in rule) code e
-  pub on : is_of wanted (rule_in rule).on ≡ true
+  pub is : (e : Happening) → IsWanted old.setting old.config.tables wanted e → by_chosen old.setting old.config e ≡ tried old.setting old.config (rule_in rule) code e
+  pub on : suits old.setting wanted (rule_in rule) ≡ true
   pub stands : MayStand (plan_of old.setting old.config (rule_in rule))
-  pub fits : FitsIn old.config.tables old.config.outer old.config.elements (rule_in rule).on rule.to
-  pub element : no_element_for wanted (alone_in old.config.elements old.config.outer) ≡ None
+  pub fits : FitsIn old.setting old.config.tables old.config.outer old.config.elements (rule_in rule).on rule.to
+  pub element : no_element_for wanted.on (alone_in old.config.elements old.config.outer) ≡ None
   pub page : new ≡ record { setting = old.setting; bits = old.bits ++ code; config = code_behind old.config code }
   pub charged : owed ≡ charge_level (plan_of old.setting old.config (rule_in rule)).entered (charge_event (plan_of old.setting old.config (rule_in rule)).counted toll)
 
-abbrev pub Begins : Content → Result Kept PutStop → Page → Page → Charged → Charged → Type 0
-Begins wanted (Ok rule) old new toll charged = IsBegun wanted old new toll charged rule
-Begins wanted (Err stop.NotDerived) old new toll charged = ((e : Happening) → by_choice old.setting old.config wanted e ≡ Err not_derived)
-Begins wanted (Err (stop.Limit k)) old new toll charged = ⊥
-Begins wanted (Err stop.Memory) old new toll charged = Unit {0}
+-- what is written of the value is what the production writes of it
+pub record IsFitted (wanted : Seeking) (old : Page) (begun : Begun) : Type 0 where
+  pub value : fitted (value_in wanted.having) (Some begun.value) ≡ fit_in old.setting.schema (rule_in begun.rule).on wanted.having
+
+-- no production stands for an event for which this is wanted; or memory was refused
+abbrev pub IsNotBegun : Seeking → PutStop → Page → Type 0
+IsNotBegun wanted stop.NotDerived old = (e : Happening) → IsWanted old.setting old.config.tables wanted e → by_chosen old.setting old.config e ≡ Err not_derived
+IsNotBegun wanted (stop.Limit k) old = ⊥
+IsNotBegun wanted stop.Memory old = Unit {0}
+
+abbrev pub Begins : Seeking → Result Begun PutStop → Page → Page → Charged → Charged → Type 0
+Begins wanted (Ok begun) old new toll charged = IsBegun wanted old new toll charged begun.rule × IsFitted wanted old begun
+Begins wanted (Err stopped) old new toll charged = IsNotBegun wanted stopped old
+
+-- an event without a value
+abbrev pub BeginsKind : Content → Result Kept PutStop → Page → Page → Charged → Charged → Type 0
+BeginsKind on (Ok rule) old new toll charged = IsBegun (of_kind on) old new toll charged rule
+BeginsKind on (Err stopped) old new toll charged = IsNotBegun (of_kind on) stopped old
+
+-- an attribute, of whose name a code can tell so much
+abbrev pub attribute_wanted : Told → QName → Value → Seeking
+attribute_wanted told n v = record { on = content.Attribute told valuing.Untyped; having = of_attribute (place_told told) n v }
+
+abbrev pub characters_wanted : Value → Seeking
+characters_wanted v = record { on = content.Characters; having = of_characters v }
 
 -- ---- what stands behind the code
 -- more bits are written, and these tables stand
@@ -90,6 +120,20 @@ PutsIn {A} {X} (Ok a) w old new toll charged = (piece : Piece X) × (w ≡ Some 
 PutsIn (Err stop.NotDerived) w old new toll charged = (w ≡ None) × (new.config.meter ≡ old.config.meter)
 PutsIn (Err (stop.Limit k)) w old new toll charged = ⊥
 PutsIn (Err stop.Memory) w old new toll charged = Unit {0}
+
+-- the last of an event: it is written as far as no charge passes its limit
+pub record IsPutLast {X : Type 0} (piece : Piece X) (old new : Page) (toll charged : Charged) : Type 0 where
+  pub text : List Bool
+  pub tables : Partitions
+  pub page : new ≡ put_page old text tables
+  pub charges : charged ≡ charge piece.units toll
+  pub written : is_within charged ≡ true → (text ≡ piece.bits) × (tables ≡ piece.tables)
+
+abbrev pub PutsLast : {A X : Type 0} → Result A PutStop → Option (Piece X) → Page → Page → Charged → Charged → Type 0
+PutsLast {A} {X} (Ok a) w old new toll charged = (piece : Piece X) × (w ≡ Some piece) × IsPutLast piece old new toll charged
+PutsLast (Err stop.NotDerived) w old new toll charged = (w ≡ None) × (new.config.meter ≡ old.config.meter)
+PutsLast (Err (stop.Limit k)) w old new toll charged = ⊥
+PutsLast (Err stop.Memory) w old new toll charged = Unit {0}
 
 abbrev pub id_of : Option (Piece Named) → NameId → Type 0
 id_of None id = Unit {0}
@@ -121,8 +165,9 @@ pub record IsReady (p : Page) : Type 0 where
   pub elements : AreThere p.setting p.config.learned p.config.elements
   pub room : HasRoom p.config
   pub levels : HasLevels p.config
-  pub sound : IsSound p.config
-  pub book : IsPlainBook p.setting
+  pub sound : IsSound p.setting p.config
+  pub is_setting : IsSetting p.setting
+  pub names : IsStart p.setting.schema.names
 
 -- ---- the start and the ends
 -- a fragment begins at a whole byte
@@ -183,6 +228,14 @@ learned_config t u c = record c { learned = learned_by t (room_in c.elements c.o
 abbrev pub learned_page : Telling → Learned → ℕ → Page → Metering → Page
 learned_page t u to p m = at_config p (moves to (learned_config t u (paid_config m p.config)))
 
+-- what comes of an attribute
+abbrev pub effected_page : Effect → ℕ → Page → Page
+effected_page e to p = at_config p (effected e to p.config)
+
+-- the state learns by the use of an attribute's name, and its element goes on by the value
+abbrev pub attribute_page : Telling → Valuing → ℕ → NameId → Value → Page → Metering → Page
+attribute_page t v to id x p m = at_config p (effected (effect_of p.setting v id x) to (learned_config t (used.At id) (paid_config m p.config)))
+
 -- the innermost element has ended
 abbrev pub closed_page : Page → Metering → Page
 closed_page p m = at_config p (closed (learns used.Ee (paid_config m p.config)))
@@ -192,7 +245,7 @@ abbrev pub rooted_config : QName → Config → Config
 rooted_config name c = record c { root = root_at (alone_in c.elements c.outer) c.aside name c.root }
 
 abbrev pub opened_page : Telling → ℕ → Option ℕ → Named → Page → Metering → Page
-opened_page t to inner n p m = at_config p (record (opened n.id inner (moves to (learned_config t (used.Se n.id) (rooted_config n.name (paid_config m p.config))))) { after_start = is_event (alone_in p.config.elements p.config.outer) })
+opened_page t to inner n p m = at_config p (record (opened n.id (opener p.setting n.name inner) (moves to (learned_config t (used.Se n.id) (rooted_config n.name (paid_config m p.config))))) { after_start = is_event (alone_in p.config.elements p.config.outer) })
 
 -- behind ED
 abbrev pub ending_page : Page → Metering → Page

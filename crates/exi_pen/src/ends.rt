@@ -1,10 +1,10 @@
-ghost use Rattle.std.specs.Prelude.{◌≡◌, ◌<◌, ◌%◌, false, true, IfOk, OnOk, length};
+ghost use Rattle.std.specs.Prelude.{◌≡◌, ◌<◌, ◌%◌, true, IfOk, OnOk, length};
 ghost use Rattle.exi_bits.specs.Written.{IsWholeBytes};
-ghost use Rattle.exi_gram.specs.Books.{IsPlainBook};
 ghost use Rattle.exi_gram.specs.Switches.{align_of};
 ghost use Rattle.exi_meter.specs.Metering.{IsWithinStream, tally_fits};
 ghost use Rattle.exi_names.specs.StartTables.{IsStart};
 ghost use Rattle.exi_reader.specs.Changes.{innermost, texts_of};
+ghost use Rattle.exi_reader.specs.Configurations.{IsSetting};
 ghost use Rattle.exi_reader.specs.Handing.{HasLevels, alone_of};
 ghost use Rattle.exi_tables.specs.Partitions.{IsName};
 ghost use Rattle.exi_pen.specs.Pages.{StartsAt, ended_page, first_page, fragment_page, resumed_page, spliced_page};
@@ -45,11 +45,10 @@ impl<'a, T: Tables + Drop> Pen<'a, T> {
         head: BitOut,
     ) -> Result<Pen<'a, T>, AllocError>
         requires place { StartsAt start (length head) }
-        requires plain { book.now.schema.known ≡ false }
         requires aligned { IsWholeBytes (align_of book.now.options) head }
         ensures first { IfOk result (λ p. p ≡ first_page book.now start limits head) }
         ensures within { IfOk result (λ p. IsWithinStream limits) }
-        ensures book { IfOk result (λ p. IsPlainBook book.now) }
+        ensures setting { IfOk result (λ p. IsSetting book.now) }
         ensures names { IfOk result (λ p. IsStart book.now.schema.names) }
     {
         let tables = first_tables(alloc, book)?;
@@ -61,7 +60,7 @@ impl<'a, T: Tables + Drop> Pen<'a, T> {
             meter: Meter::new(limits),
             tables,
             elements: Elements::new(alloc),
-            outer: first_outer(book.options(), start),
+            outer: first_outer(book.schema().is_known(), book.options(), start),
             overlay: Overlay::new(alloc),
             after_start: false,
             root: None,

@@ -1,53 +1,65 @@
-ghost use Rattle.std.specs.Prelude.{ℕ, ◌≡◌};
+ghost use Rattle.std.specs.Prelude.{ℕ, ◌≡◌, Some};
 ghost use Rattle.exi_names.specs.Events as event;
 ghost use Rattle.exi_names.specs.Seen.{seen};
 ghost use Rattle.exi_names.specs.Shown.{named};
-ghost use Rattle.exi_reader.specs.declared.rule.Content.TheVariants as Content;
-ghost use Rattle.exi_pen.specs.Pages.{IsReady, Writes, WritesFragment, by_choice};
-ghost use Rattle.exi_choice.specs.Wanted.{place_of};
+ghost use Rattle.exi_choice.specs.Fitting.{fitted};
+ghost use Rattle.exi_pen.specs.Pages.{IsReady, Writes, WritesFragment, by_chosen};
 ghost use Rattle.exi_writing.specs.Pruned.{pruned_name, pruned_value};
 
 use crate::moves::telling;
 use crate::pen::Pen;
 use exi_builtin::Learned;
+use exi_choice::Fit;
+use exi_choice::laws::chosen_suits;
 use exi_names::{NameRef, Txt, Val};
-use exi_reader::Content;
+use exi_reader::{Content, Telling};
 use exi_tables::Tables;
 use exi_toll::PutStop;
+
+/// What is written of a value.
+fn fitted<'e>(fit: &'e Fit, value: &'e Val) -> &'e Val
+    ensures { Some (seen result.now) ≡ fitted (seen value.now) (Some fit.now) }
+{
+    match fit {
+        Fit::Own => value,
+        Fit::Other(other) => other,
+    }
+}
 
 impl<'a, T: Tables + Drop> Pen<'a, T> {
     /// SD.
     pub fn start_document(&mut self) -> Result<(), PutStop>
         requires ready { IsReady self.old }
-        ensures writes { Writes result self.old self.new (by_choice self.old.setting self.old.config Content.StartDocument event.sd) }
+        ensures writes { Writes result self.old self.new (by_chosen self.old.setting self.old.config event.sd) }
     {
         let mut toll = self.toll();
-        let rule = self.begin(Content::StartDocument, &mut toll)?;
+        let rule = self.begin_kind(Content::StartDocument, &mut toll)?;
         self.go_on(toll, rule.to)
     }
 
     /// ED.
     pub fn end_document(&mut self) -> Result<(), PutStop>
         requires ready { IsReady self.old }
-        ensures writes { Writes result self.old self.new (by_choice self.old.setting self.old.config Content.EndDocument event.ed) }
+        ensures writes { Writes result self.old self.new (by_chosen self.old.setting self.old.config event.ed) }
     {
         let mut toll = self.toll();
-        self.begin(Content::EndDocument, &mut toll)?;
+        self.begin_kind(Content::EndDocument, &mut toll)?;
         self.end_on(toll)
     }
 
     /// SE.
     pub fn element(&mut self, name: NameRef<'_>) -> Result<(), PutStop>
         requires ready { IsReady self.old }
-        ensures writes { Writes result self.old self.new (by_choice self.old.setting self.old.config (Content.Element (place_of self.old.config.tables (pruned_name self.old.setting.options (named name.entry)))) (event.se (pruned_name self.old.setting.options (named name.entry)))) }
+        ensures writes { Writes result self.old self.new (by_chosen self.old.setting self.old.config (event.se (pruned_name self.old.setting.options (named name.entry)))) }
     {
         let name = self.kept(name);
         if self.is_other(name) {
+            chosen_suits();
             return Err(PutStop::NotDerived);
         }
         let mut toll = self.toll();
-        let place = self.place_of(name);
-        let rule = self.begin(Content::Element(place), &mut toll)?;
+        let place = self.told_of(name);
+        let rule = self.begin_kind(Content::Element(place), &mut toll)?;
         let told = telling(rule);
         let id = self.put_told(&mut toll, told, name)?;
         self.open_on(toll, rule, id, name)
@@ -56,47 +68,52 @@ impl<'a, T: Tables + Drop> Pen<'a, T> {
     /// EE.
     pub fn end_element(&mut self) -> Result<(), PutStop>
         requires ready { IsReady self.old }
-        ensures writes { Writes result self.old self.new (by_choice self.old.setting self.old.config Content.EndElement event.ee) }
+        ensures writes { Writes result self.old self.new (by_chosen self.old.setting self.old.config event.ee) }
     {
         let mut toll = self.toll();
-        self.begin(Content::EndElement, &mut toll)?;
+        self.begin_kind(Content::EndElement, &mut toll)?;
         self.close_on(toll)
     }
 
     /// AT.
     pub fn attribute(&mut self, name: NameRef<'_>, value: &Val) -> Result<(), PutStop>
         requires ready { IsReady self.old }
-        ensures writes { Writes result self.old self.new (by_choice self.old.setting self.old.config (Content.Attribute (place_of self.old.config.tables (pruned_name self.old.setting.options (named name.entry)))) (event.at (pruned_name self.old.setting.options (named name.entry)) (pruned_value self.old.setting.options (seen value.now)))) }
+        ensures writes { Writes result self.old self.new (by_chosen self.old.setting self.old.config (event.at (pruned_name self.old.setting.options (named name.entry)) (pruned_value self.old.setting.options (seen value.now)))) }
     {
         let name = self.kept(name);
         let mut toll = self.toll();
-        let place = self.place_of(name);
-        let rule = self.begin(Content::Attribute(place), &mut toll)?;
-        let told = telling(rule);
-        let id = self.put_told(&mut toll, told, name)?;
-        self.put_value(&mut toll, id, value)?;
-        self.learn_on(toll, told, Learned::At(id), rule.to)
+        let told = self.told_of(name);
+        let begun = self.begin_attribute(told, name, value, &mut toll)?;
+        let rule = begun.rule;
+        let tells = telling(rule);
+        let id = self.put_told(&mut toll, tells, name)?;
+        let declared = self.declared(rule, told, name);
+        let fit = fitted(&begun.value, value);
+        self.put_declared(&mut toll, declared, id, fit)?;
+        self.attribute_on(toll, rule, declared, id, fit)
     }
 
     /// CH.
     pub fn characters(&mut self, value: &Val) -> Result<(), PutStop>
         requires ready { IsReady self.old }
-        ensures writes { Writes result self.old self.new (by_choice self.old.setting self.old.config Content.Characters (event.ch (pruned_value self.old.setting.options (seen value.now)))) }
+        ensures writes { Writes result self.old self.new (by_chosen self.old.setting self.old.config (event.ch (pruned_value self.old.setting.options (seen value.now)))) }
     {
         let mut toll = self.toll();
-        let rule = self.begin(Content::Characters, &mut toll)?;
+        let begun = self.begin_characters(value, &mut toll)?;
+        let rule = begun.rule;
         let name = self.inside();
-        self.put_text_of(&mut toll, name, value)?;
-        self.learn_on(toll, None, Learned::Ch, rule.to)
+        let fit = fitted(&begun.value, value);
+        self.put_by(&mut toll, rule.datatype, name, fit)?;
+        self.learn_on(toll, Telling::Spelled, Learned::Ch, rule.to)
     }
 
     /// NS.
     pub fn declaration(&mut self, uri: &Txt, prefix: &Txt, element: bool) -> Result<(), PutStop>
         requires ready { IsReady self.old }
-        ensures writes { Writes result self.old self.new (by_choice self.old.setting self.old.config Content.Declaration (event.ns uri.now prefix.now element)) }
+        ensures writes { Writes result self.old self.new (by_chosen self.old.setting self.old.config (event.ns uri.now prefix.now element)) }
     {
         let mut toll = self.toll();
-        let rule = self.begin(Content::Declaration, &mut toll)?;
+        let rule = self.begin_kind(Content::Declaration, &mut toll)?;
         self.put_declaration(&mut toll, uri, prefix, element)?;
         self.go_on(toll, rule.to)
     }
@@ -104,20 +121,20 @@ impl<'a, T: Tables + Drop> Pen<'a, T> {
     /// SC. The fragment begins at the next whole byte, and is not entered yet.
     pub fn self_contained(&mut self) -> Result<(), PutStop>
         requires ready { IsReady self.old }
-        ensures writes { (byte : ℕ) → WritesFragment result self.old self.new (by_choice self.old.setting self.old.config Content.SelfContained (event.sc byte)) }
+        ensures writes { (byte : ℕ) → WritesFragment result self.old self.new (by_chosen self.old.setting self.old.config (event.sc byte)) }
     {
         let mut toll = self.toll();
-        self.begin(Content::SelfContained, &mut toll)?;
+        self.begin_kind(Content::SelfContained, &mut toll)?;
         self.pad_on(toll)
     }
 
     /// CM.
     pub fn comment(&mut self, text: &Txt) -> Result<(), PutStop>
         requires ready { IsReady self.old }
-        ensures writes { Writes result self.old self.new (by_choice self.old.setting self.old.config Content.Comment (event.cm text.now)) }
+        ensures writes { Writes result self.old self.new (by_chosen self.old.setting self.old.config (event.cm text.now)) }
     {
         let mut toll = self.toll();
-        let rule = self.begin(Content::Comment, &mut toll)?;
+        let rule = self.begin_kind(Content::Comment, &mut toll)?;
         self.put_literal(&mut toll, text)?;
         self.go_on(toll, rule.to)
     }
@@ -125,10 +142,10 @@ impl<'a, T: Tables + Drop> Pen<'a, T> {
     /// PI.
     pub fn instruction(&mut self, target: &Txt, text: &Txt) -> Result<(), PutStop>
         requires ready { IsReady self.old }
-        ensures writes { Writes result self.old self.new (by_choice self.old.setting self.old.config Content.Instruction (event.pi target.now text.now)) }
+        ensures writes { Writes result self.old self.new (by_chosen self.old.setting self.old.config (event.pi target.now text.now)) }
     {
         let mut toll = self.toll();
-        let rule = self.begin(Content::Instruction, &mut toll)?;
+        let rule = self.begin_kind(Content::Instruction, &mut toll)?;
         self.put_literal(&mut toll, target)?;
         self.put_literal(&mut toll, text)?;
         self.go_on(toll, rule.to)
@@ -143,10 +160,10 @@ impl<'a, T: Tables + Drop> Pen<'a, T> {
         text: &Txt,
     ) -> Result<(), PutStop>
         requires ready { IsReady self.old }
-        ensures writes { Writes result self.old self.new (by_choice self.old.setting self.old.config Content.DocumentType (event.dt name.now public.now system.now text.now)) }
+        ensures writes { Writes result self.old self.new (by_chosen self.old.setting self.old.config (event.dt name.now public.now system.now text.now)) }
     {
         let mut toll = self.toll();
-        let rule = self.begin(Content::DocumentType, &mut toll)?;
+        let rule = self.begin_kind(Content::DocumentType, &mut toll)?;
         self.put_literal(&mut toll, name)?;
         self.put_literal(&mut toll, public)?;
         self.put_literal(&mut toll, system)?;
@@ -157,10 +174,10 @@ impl<'a, T: Tables + Drop> Pen<'a, T> {
     /// ER.
     pub fn entity(&mut self, name: &Txt) -> Result<(), PutStop>
         requires ready { IsReady self.old }
-        ensures writes { Writes result self.old self.new (by_choice self.old.setting self.old.config Content.Entity (event.er name.now)) }
+        ensures writes { Writes result self.old self.new (by_chosen self.old.setting self.old.config (event.er name.now)) }
     {
         let mut toll = self.toll();
-        let rule = self.begin(Content::Entity, &mut toll)?;
+        let rule = self.begin_kind(Content::Entity, &mut toll)?;
         self.put_literal(&mut toll, name)?;
         self.go_on(toll, rule.to)
     }

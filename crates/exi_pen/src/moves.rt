@@ -1,23 +1,33 @@
 ghost use Rattle.std.specs.Prelude.{◌≡◌, ◌<◌, Ok, OnOk, true};
+ghost use Rattle.exi_names.specs.Seen.{seen};
 ghost use Rattle.exi_names.specs.Shown.{named};
 ghost use Rattle.exi_reader.specs.Changes.{has_level};
-ghost use Rattle.exi_reader.specs.Handing.{HasLevels, alone_of, code_name, root_at, telling_of, terminal_in};
-ghost use Rattle.exi_pen.specs.Pages.{CanGrow, Ends, KeepsLevel, closed_page, ending_page, learned_page, moved_page, opened_page, padded_page};
+ghost use Rattle.exi_reader.specs.Contents.{named_type};
+ghost use Rattle.exi_reader.specs.Stacks.{HaveForm};
+ghost use Rattle.std.specs.Option.{option_copied};
+ghost use Rattle.exi_reader.specs.Handing.{HasLevels, alone_of, root_at, rule_in, telling_of, valuing_in};
+ghost use Rattle.exi_pen.specs.Pages.{CanGrow, Ends, KeepsLevel, attribute_page, closed_page, effected_page, ending_page, learned_page, moved_page, opened_page, padded_page};
+ghost use Rattle.exi_choice.specs.Fitting.{as_type, declaring};
+ghost use Rattle.exi_pen.specs.Told.{IsDeclaredAt, effect_as, told_in, valuing_on};
 
 use crate::pen::Pen;
 use exi_builtin::Learned;
-use exi_names::{NameId, NameRef, QName};
-use exi_reader::{Alone, Asides, Content, Rule, alone_in, close, go_to, learn, learn_name, open};
+use exi_choice::Declared;
+use exi_names::{NameId, NameRef, QName, Val};
+use exi_reader::{
+    Alone, Asides, Content, Rule, Telling, Valuing, alone_in, close, empty_by, go_to, learn,
+    learn_name, open, opener, retype, type_grammar,
+};
 use exi_tables::Tables;
 use exi_toll::{PutStop, Toll};
 use std::alloc::AllocError;
 
 /// How a production tells the name of an element or an attribute.
-pub fn telling(rule: Rule) -> Option<NameId>
-    ensures { result ≡ code_name (terminal_in rule.on) }
+pub fn telling(rule: Rule<'_>) -> Telling
+    ensures { telling_of result ≡ told_in (rule_in rule.entry).on }
 {
     match rule.on {
-        Content::Element(name) | Content::Attribute(name) => name,
+        Content::Element(name) | Content::Attribute(name, _) => name,
         Content::StartDocument
         | Content::EndDocument
         | Content::Characters
@@ -27,8 +37,27 @@ pub fn telling(rule: Rule) -> Option<NameId>
         | Content::Comment
         | Content::Instruction
         | Content::DocumentType
-        | Content::Entity
-        | Content::Informed => None,
+        | Content::Entity => Telling::Spelled,
+    }
+}
+
+/// What a production says of the value of an attribute.
+pub fn valuing(rule: Rule<'_>) -> Valuing
+    ensures { valuing_in result (option_copied rule.entry.datatype) ≡ valuing_on (rule_in rule.entry).on }
+{
+    match rule.on {
+        Content::Attribute(_, valuing) => valuing,
+        Content::StartDocument
+        | Content::EndDocument
+        | Content::Element(_)
+        | Content::Characters
+        | Content::EndElement
+        | Content::Declaration
+        | Content::SelfContained
+        | Content::Comment
+        | Content::Instruction
+        | Content::DocumentType
+        | Content::Entity => Valuing::Untyped,
     }
 }
 
@@ -69,7 +98,7 @@ impl<'a, T: Tables + Drop> Pen<'a, T> {
     pub fn learn_on(
         &mut self,
         toll: Toll,
-        telling: Option<NameId>,
+        telling: Telling,
         used: Learned,
         to: u32,
     ) -> Result<(), PutStop>
@@ -83,16 +112,83 @@ impl<'a, T: Tables + Drop> Pen<'a, T> {
         Ok(())
     }
 
+    /// The same, behind an attribute, which may name the type by which its element goes on, or empty it.
+    pub fn attribute_on(
+        &mut self,
+        toll: Toll,
+        rule: Rule<'_>,
+        declared: Declared<'_>,
+        id: NameId,
+        value: &Val,
+    ) -> Result<(), PutStop>
+        requires room { CanGrow self.old.config }
+        requires forms { HaveForm self.old.config.elements }
+        requires declared { IsDeclaredAt self.old.setting.schema (valuing_on (rule_in rule).on) id (declaring declared) }
+        ensures { Ends result self.new toll (attribute_page (told_in (rule_in rule.entry).on) (valuing_on (rule_in rule.entry).on) (rule_in rule.entry).to id (seen value.now) self.old) }
+    {
+        toll.settle(&mut self.meter)?;
+        self.after_start = false;
+        let told = telling(rule);
+        let used = Learned::At(id);
+        learn_name(&mut self.overlay, &self.elements, self.outer, told, used)?;
+        self.follow(rule, declared, value);
+        Ok(())
+    }
+
+    /// The state behind an attribute whose value is represented so.
+    fn follow(&mut self, rule: Rule<'_>, declared: Declared<'_>, value: &Val)
+        requires forms { HaveForm self.old.config.elements }
+        ensures { self.new ≡ effected_page (effect_as self.old.setting (declaring declared.entry) (valuing_on (rule_in rule.entry).on) (seen value.now)) (rule_in rule.entry).to self.old }
+    {
+        match declared {
+            Declared::Type => self.retype(rule, value),
+            Declared::Nil => empty_by(&mut self.elements, value),
+            Declared::Datatype(_) => go_to(&mut self.elements, &mut self.outer, rule.to),
+        }
+    }
+
+    /// The innermost element goes on with the grammar of the type that a value names, where there is one.
+    fn retype(&mut self, rule: Rule<'_>, value: &Val)
+        ensures { self.new ≡ effected_page (effect_as self.old.setting as_type (valuing_on (rule_in rule.entry).on) (seen value.now)) (rule_in rule.entry).to self.old }
+    {
+        let grammar = self.type_named(value);
+        let valuing = valuing(rule);
+        retype(
+            &mut self.elements,
+            &mut self.outer,
+            valuing,
+            grammar,
+            rule.to,
+        );
+    }
+
+    /// The grammar of the type that a value names, where there is one.
+    pub fn type_named(&self, value: &Val) -> Option<u32>
+        ensures { result ≡ named_type self.now.setting (seen value.now) }
+    {
+        match value {
+            Val::Name(name) => type_grammar(self.book.schema(), name.as_ref()),
+            Val::Text(_)
+            | Val::Bool { .. }
+            | Val::Int(_)
+            | Val::Dec { .. }
+            | Val::Flo { .. }
+            | Val::Mom(_)
+            | Val::Bin { .. }
+            | Val::Items(_) => None,
+        }
+    }
+
     /// The same, where an element of this name is opened.
     pub fn open_on(
         &mut self,
         toll: Toll,
-        rule: Rule,
+        rule: Rule<'_>,
         id: NameId,
         name: NameRef<'_>,
     ) -> Result<(), PutStop>
         requires room { CanGrow self.old.config }
-        ensures { Ends result self.new toll (opened_page (telling_of (code_name (terminal_in rule.on))) rule.to rule.inner (record { id = id; name = named name.entry }) self.old) }
+        ensures { Ends result self.new toll (opened_page (told_in (rule_in rule.entry).on) (rule_in rule.entry).to (rule_in rule.entry).inner (record { id = id; name = named name.entry }) self.old) }
     {
         toll.settle(&mut self.meter)?;
         let alone = alone_in(&self.elements, self.outer);
@@ -106,7 +202,8 @@ impl<'a, T: Tables + Drop> Pen<'a, T> {
             used,
         )?;
         go_to(&mut self.elements, &mut self.outer, rule.to);
-        open(&mut self.overlay, &mut self.elements, id, rule.inner)?;
+        let inner = opener(self.book, name, rule.inner);
+        open(&mut self.overlay, &mut self.elements, id, inner)?;
         self.after_start = alone.is_event();
         Ok(())
     }

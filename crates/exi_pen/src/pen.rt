@@ -1,21 +1,30 @@
-ghost use Rattle.std.specs.Prelude.{◌≡◌, OnOk};
+ghost use Rattle.std.specs.Prelude.{◌≡◌, IfOk, OnOk, true};
+ghost use Rattle.exi_gram.specs.Books.{IsStateOf};
 ghost use Rattle.exi_gram.specs.Codes.{code_bits};
 ghost use Rattle.exi_gram.specs.Laws.{codes};
 ghost use Rattle.exi_gram.specs.Switches.{align_of};
-ghost use Rattle.exi_reader.specs.Configurations.{outer_rules, rules_of};
+ghost use Rattle.exi_reader.specs.Configurations.{alone_rules, outer_rules, rules_of};
 ghost use Rattle.exi_reader.specs.Handing.{AreThere, IsThere, alone_of};
 ghost use Rattle.std.specs.Option.{is_some};
-ghost use Rattle.exi_pen.specs.Pages.{Begins, IsReady, no_element_for, with_bits};
-ghost use Rattle.exi_choice.specs.Choices.{Chooses, IsWay, way_parts};
+ghost use Rattle.exi_pen.specs.Pages.{Begins, BeginsKind, IsReady, attribute_wanted, characters_wanted, no_element_for, with_bits};
+ghost use Rattle.exi_choice.specs.Choices.{Finds, IsWay, wanting, way_parts};
+ghost use Rattle.exi_names.specs.Seen.{seen};
+ghost use Rattle.exi_names.specs.Shown.{named};
 ghost use Rattle.exi_toll.specs.Charges.{charge_event, charge_level};
 
 use exi_bits::BitOut;
 use exi_builtin::{Overlay, Room};
-use exi_choice::{Choice, Way, choose_built_in, choose_in_book, choose_start};
+use exi_choice::laws::chosen_suits;
+use exi_choice::{
+    Fit, Found, Valued, Wanted, Way, find_built_in, find_in_book, find_start, place_told,
+};
 use exi_gram::{Book, write_code};
 use exi_meter::Meter;
-use exi_names::QName;
-use exi_reader::{Alone, Asides, Charges, Content, Elements, Outer, Rule, Start, State, alone_in};
+use exi_names::{NameRef, QName, Val};
+use exi_reader::{
+    Alone, Asides, Charges, Content, Elements, Outer, Rule, Start, State, Telling, Valuing,
+    alone_in,
+};
 use exi_tables::Tables;
 use exi_toll::{PutStop, Toll};
 use std::alloc::{AllocError, Global};
@@ -36,6 +45,15 @@ pub struct Pen<'a, T: Tables + Drop> {
     pub after_start: bool,
     pub root: Option<QName>,
     pub aside: Asides<T>,
+}
+
+/// A production whose code is written.
+#[derive(Drop)]
+pub struct Begun<'a> {
+    /// The production.
+    pub rule: Rule<'a>,
+    /// What is written of the event's value.
+    pub value: Fit,
 }
 
 /// Whether what is no element is refused in the place of a fragment's element.
@@ -94,37 +112,51 @@ impl<'a, T: Tables + Drop> Model for Pen<'a, T> {
 }
 
 impl<'a, T: Tables + Drop> Pen<'a, T> {
-    /// The production that stands for an event outside of all elements.
-    fn choose_outside(&self, wanted: Content) -> Option<Choice>
-        requires there { IsThere self.now.setting self.now.config.outer }
-        ensures { Chooses self.now.setting self.now.config.learned wanted (outer_rules self.now.setting self.now.config.learned self.now.config.outer) result }
+    /// The production that suits an event in the content of a fragment that stands for one element.
+    fn find_alone(&self, wanted: Wanted<'_>) -> Result<Option<Found<'a>>, AllocError>
+        requires there { self.now.setting.schema.known ≡ true → IsStateOf self.now.setting 1 1 }
+        ensures { IfOk result (λ found. Finds self.now.setting self.now.config.learned (wanting wanted.entry) (alone_rules self.now.setting self.now.config.learned) found) }
     {
-        match self.outer {
-            Outer::Book { grammar, state } => {
-                choose_in_book(self.book, &self.overlay, grammar, state, wanted)
-            }
-            Outer::FragmentStart | Outer::AloneStart => choose_start(wanted),
-            Outer::FragmentContent | Outer::AloneFirst | Outer::AloneOver => {
-                choose_built_in(self.book, &self.overlay, Room::Fragment, wanted)
-            }
-            Outer::Ended => None,
+        let (alloc, book) = (self.alloc, self.book);
+        if book.schema().is_known() {
+            find_in_book(alloc, book, 1, 1, wanted)
+        } else {
+            find_built_in(alloc, book, &self.overlay, Room::Fragment, wanted)
         }
     }
 
-    /// The production that stands for an event.
-    fn choose(&self, wanted: Content) -> Option<Choice>
+    /// The production that suits an event outside of all elements.
+    fn find_outside(&self, wanted: Wanted<'_>) -> Result<Option<Found<'a>>, AllocError>
+        requires there { IsThere self.now.setting self.now.config.outer }
+        ensures { IfOk result (λ found. Finds self.now.setting self.now.config.learned (wanting wanted.entry) (outer_rules self.now.setting self.now.config.learned self.now.config.outer) found) }
+    {
+        let (alloc, book) = (self.alloc, self.book);
+        match self.outer {
+            Outer::Book { grammar, state } => { find_in_book(alloc, book, grammar, state, wanted) }
+            Outer::FragmentStart | Outer::AloneStart => Ok(find_start(wanted)),
+            Outer::FragmentContent => {
+                find_built_in(alloc, book, &self.overlay, Room::Fragment, wanted)
+            }
+            Outer::AloneFirst | Outer::AloneOver => self.find_alone(wanted),
+            Outer::Ended => Ok(None),
+        }
+    }
+
+    /// The production that suits an event.
+    fn find(&self, wanted: Wanted<'_>) -> Result<Option<Found<'a>>, AllocError>
         requires there { IsThere self.now.setting self.now.config.outer }
         requires elements { AreThere self.now.setting self.now.config.learned self.now.config.elements }
-        ensures { Chooses self.now.setting self.now.config.learned wanted (rules_of self.now.setting self.now.config) result }
+        ensures { IfOk result (λ found. Finds self.now.setting self.now.config.learned (wanting wanted.entry) (rules_of self.now.setting self.now.config) found) }
     {
+        let (alloc, book) = (self.alloc, self.book);
         match self.elements.innermost() {
             Some(element) => match element.state {
-                State::BuiltIn(room) => choose_built_in(self.book, &self.overlay, room, wanted),
+                State::BuiltIn(room) => find_built_in(alloc, book, &self.overlay, room, wanted),
                 State::Informed { grammar, state, .. } => {
-                    choose_in_book(self.book, &self.overlay, grammar, state, wanted)
+                    find_in_book(alloc, book, grammar, state, wanted)
                 }
             },
-            None => self.choose_outside(wanted),
+            None => self.find_outside(wanted),
         }
     }
 
@@ -148,22 +180,77 @@ impl<'a, T: Tables + Drop> Pen<'a, T> {
         }
     }
 
-    /// Finds the production that stands for an event, and writes its code.
-    pub fn begin(&mut self, wanted: Content, toll: &mut Toll) -> Result<Rule, PutStop>
+    /// Finds the production that suits an event, and writes its code.
+    pub fn begin(&mut self, wanted: Wanted<'_>, toll: &mut Toll) -> Result<Begun<'a>, PutStop>
         requires ready { IsReady self.old }
-        ensures begins { Begins wanted result self.old self.new toll.old toll.new }
+        ensures begins { Begins (wanting wanted.entry) result self.old self.new toll.old toll.new }
         ensures meter { self.new.config.meter ≡ self.old.config.meter }
     {
-        let Some(choice) = self.choose(wanted) else {
+        chosen_suits();
+        let Some(found) = self.find(wanted)? else {
             return Err(PutStop::NotDerived);
         };
+        let Found { choice, value } = found;
         let alone = alone_in(&self.elements, self.outer);
         let charges = Charges::of(choice.rule.on, alone, self.after_start);
-        if charges.barred.is_some() || charges.misplaced.is_some() || is_no_element(wanted, alone) {
+        if charges.barred.is_some()
+            || charges.misplaced.is_some()
+            || is_no_element(wanted.on, alone)
+        {
             return Err(PutStop::NotDerived);
         }
         pay_charges(toll, charges);
         self.put_code(choice.way)?;
-        Ok(choice.rule)
+        Ok(Begun {
+            rule: choice.rule,
+            value,
+        })
+    }
+
+    /// The same, for an event without a value: its production.
+    pub fn begin_kind(&mut self, on: Content, toll: &mut Toll) -> Result<Rule<'a>, PutStop>
+        requires ready { IsReady self.old }
+        ensures begins { BeginsKind on result self.old self.new toll.old toll.new }
+        ensures meter { self.new.config.meter ≡ self.old.config.meter }
+    {
+        let wanted = Wanted {
+            on,
+            valued: Valued::Nothing,
+        };
+        Ok(self.begin(wanted, toll)?.rule)
+    }
+
+    /// The same, for an attribute, of whose name a code can tell so much.
+    pub fn begin_attribute(
+        &mut self,
+        told: Telling,
+        name: NameRef<'_>,
+        value: &Val,
+        toll: &mut Toll,
+    ) -> Result<Begun<'a>, PutStop>
+        requires ready { IsReady self.old }
+        ensures begins { Begins (attribute_wanted told (named name.entry) (seen value.now)) result self.old self.new toll.old toll.new }
+        ensures meter { self.new.config.meter ≡ self.old.config.meter }
+    {
+        let valued = Valued::Attribute {
+            id: place_told(told),
+            name,
+            value,
+        };
+        let on = Content::Attribute(told, Valuing::Untyped);
+        self.begin(Wanted { on, valued }, toll)
+    }
+
+    /// The same, for characters.
+    pub fn begin_characters(&mut self, value: &Val, toll: &mut Toll) -> Result<Begun<'a>, PutStop>
+        requires ready { IsReady self.old }
+        ensures begins { Begins (characters_wanted (seen value.now)) result self.old self.new toll.old toll.new }
+        ensures meter { self.new.config.meter ≡ self.old.config.meter }
+    {
+        let wanted = Wanted {
+            on: Content::Characters,
+            valued: Valued::Characters(value),
+        };
+        self.begin(wanted, toll)
     }
 }

@@ -7,8 +7,7 @@ ghost use Rattle.exi_reader.specs.Plans.{alone_in};
 ghost use Rattle.exi_reader.specs.Runs.{has_ended};
 ghost use Rattle.exi_tables.specs.Partitions.{IsName};
 ghost use Rattle.exi_writing.specs.OneEvent.{written};
-ghost use Rattle.exi_pen.specs.Pages.{IsReady, Writes, by_choice};
-ghost use Rattle.exi_choice.specs.Wanted.{wanted_of};
+ghost use Rattle.exi_pen.specs.Pages.{IsReady, Writes, by_chosen};
 ghost use Rattle.exi_writing.specs.Pruned.{pruned};
 ghost use Rattle.exi_pen.specs.Steps.{StepsAs, begins_fragment, left_of};
 
@@ -137,7 +136,7 @@ impl<'a, T: Tables + Drop> Pen<'a, T> {
     fn plain(&mut self, event: &Event) -> Result<(), PutStop>
         requires ready { IsReady self.old }
         requires plain { begins_fragment (happens event.now) ≡ false }
-        ensures writes { Writes result self.old self.new (by_choice self.old.setting self.old.config (wanted_of self.old.config.tables (left_of self.old.setting.options (happens event.now))) (left_of self.old.setting.options (happens event.now))) }
+        ensures writes { Writes result self.old self.new (by_chosen self.old.setting self.old.config (left_of self.old.setting.options (happens event.now))) }
     {
         match event {
             Event::Sd => self.start_document(),

@@ -1,2 +1,3 @@
 pub mod Names
-pub mod Strings
+pub mod Under
+pub mod ValueCharges

@@ -4,7 +4,7 @@ ghost use Rattle.exi_gram.specs.Switches.{align_of, prefixes};
 ghost use Rattle.exi_names.specs.Shown.{named};
 ghost use Rattle.exi_tables.specs.Growth.{NoneLonger};
 ghost use Rattle.exi_tables.specs.Partitions as tables;
-ghost use Rattle.exi_tables.specs.Partitions.{IsName, uris};
+ghost use Rattle.exi_tables.specs.Partitions.{IsName, least_place, uris};
 ghost use Rattle.exi_typed.specs.Written.{
   after_declaration,
   after_name,
@@ -14,10 +14,12 @@ ghost use Rattle.exi_typed.specs.Written.{
   name_bits,
   prefix_bits,
   string_bits,
+  under_bits,
+  after_local,
 };
 ghost use Rattle.exi_typed.specs.WrittenLaws.{name_units, named_for};
 ghost use Rattle.exi_toll.specs.Charges.{charge};
-ghost use Rattle.exi_writing.specs.Pieces.{can_be_spelled, can_know, can_name};
+ghost use Rattle.exi_writing.specs.Pieces.{can_be_spelled, can_know, can_know_under, can_name, named_under};
 
 use crate::spelled::{can_be_spelled, can_name, can_tell};
 use exi_bits::BitOut;
@@ -26,7 +28,9 @@ use exi_names::{NameId, NameRef, Txt};
 use exi_reader::keeps_prefixes;
 use exi_tables::Tables;
 use exi_toll::Toll;
-use exi_typed::{write_declaration, write_literal, write_name, write_prefix, write_string};
+use exi_typed::{
+    write_declaration, write_literal, write_name, write_name_under, write_prefix, write_string,
+};
 use std::alloc::{AllocError, Global};
 
 /// Charges the texts of a name.
@@ -116,6 +120,49 @@ pub fn put_known<T: Tables>(
     pay_name(toll, name);
     write_prefix(out, keep, name.prefix, options.align(), id.uri, tables)?;
     Ok(true)
+}
+
+/// Writes what is left of a name of which the code tells the URI by its place: its local name and its prefix. Nothing where it
+/// has no spelling.
+pub fn put_under<T: Tables>(
+    alloc: Global,
+    options: &Options,
+    out: &mut BitOut,
+    toll: &mut Toll,
+    tables: &mut T,
+    uri: u32,
+    name: NameRef<'_>,
+) -> Result<Option<NameId>, AllocError>
+    requires uri { least_place (uris (T.held tables.old)) (named name).uri ≡ Some uri }
+    requires few { NoneLonger (2 ^ 31) (T.held tables.old) }
+    requires aligned { IsWholeBytes (align_of options.now) out.old }
+    ensures id { IfOk result (λ o. o ≡ (if can_know_under (prefixes options.now) (T.held tables.old) uri (named name.entry) then Some (named_under (T.held tables.old) uri (named name.entry)).id else None)) }
+    ensures bits { IfOk result (λ o. IfSome o (λ id. out.new ≡ out.old ++ under_bits (prefixes options.now) (align_of options.now) (T.held tables.old) uri (named name.entry).local (named name.entry).prefix)) }
+    ensures tables { IfOk result (λ o. IfSome o (λ id. T.held tables.new ≡ after_local (T.held tables.old) uri (named name.entry).local)) }
+    ensures name { IfOk result (λ o. IfSome o (λ id. IsName (T.held tables.new) id)) }
+    ensures toll { IfOk result (λ o. IfSome o (λ id. toll.new ≡ charge (name_units (named name.entry)) toll.old)) }
+    ensures aligned { IsWholeBytes (align_of options.now) out.new }
+{
+    let keep = keeps_prefixes(options);
+    if !can_be_spelled(name.uri) || !can_be_spelled(name.local) {
+        return Ok(None);
+    }
+    if !can_tell(tables, keep, uri, name.prefix) {
+        return Ok(None);
+    }
+    pay_name(toll, name);
+    let align = options.align();
+    let id = write_name_under(
+        alloc,
+        out,
+        keep,
+        uri,
+        name.local,
+        name.prefix,
+        align,
+        tables,
+    )?;
+    Ok(Some(id))
 }
 
 /// Writes a string value of a name. False where it has no spelling.

@@ -106,3 +106,24 @@ fn nothing_of_a_stream_is_put_where_the_list_ends_early(rt: HostRuntime) -> Resu
     assert_eq!(rt; sink.calls(), 1);
     Ok(())
 }
+
+#[test]
+fn no_stream_is_read_where_the_second_fetch_fails(rt: HostRuntime) -> Result<(), Fail> {
+    let mut shelf = shelf_of_one(rt.alloc())?;
+    shelf.add_file(
+        Txt::of(rt.alloc(), "none.xsd")?,
+        Octets::of(rt.alloc(), b"\x80")?,
+    )?;
+    shelf.fail_at(2)?;
+    let words = [
+        Txt::of(rt.alloc(), "read")?,
+        Txt::of(rt.alloc(), "in.exi")?,
+        Txt::of(rt.alloc(), "--schema=none.xsd")?,
+    ];
+    let mut sink = MemSink::new(rt.alloc());
+    let status = run(&rt, rt.alloc(), &words, &mut shelf, &mut sink, &NoGate);
+    assert_eq!(rt; status, Status::ReadFault);
+    assert_eq!(rt; sink.taken().as_slice(), b"read failed\n".as_slice());
+    assert_eq!(rt; shelf.calls(), 2);
+    Ok(())
+}

@@ -2,18 +2,18 @@
 use Rattle.std.proofs.Common.{◌≡◌, ◌≢◌, ℕ, ◌+◌, ◌-◌, ◌*◌, ◌/◌, ◌≤◌, Bool, true, false, cond, List, [], ◌∷◌, Option, Some, None, Result, Ok, Err, refl, sym, ap, ◌∙◌, subst, arith, All}
 use Rattle.std.proofs.lemmas.List.Elements.{All-head}
 use Rattle.exi_bits.specs.declared.fault.Fault.{Fault}
-use Rattle.exi_gram.specs.Books.{IsPlainBook}
 use Rattle.exi_meter.specs.Metering.{Metering}
 use Rattle.exi_names.specs.Events.{Happening}
 use Rattle.exi_names.specs.Events as event
+use Rattle.exi_names.specs.StartTables.{IsStart}
 use Rattle.exi_typed.specs.ReadStates.{Failure, ReadState}
 use Rattle.exi_typed.proofs.ContextItems.{told}
 use Rattle.exi_reader.specs.Changes.{has_level, innermost, left_level, put_aside, texts_of}
-use Rattle.exi_reader.specs.Configurations.{Body, Config, Setting, reached}
+use Rattle.exi_reader.specs.Configurations.{Body, Config, IsSetting, Setting, reached}
 use Rattle.exi_reader.specs.Metered.{Due, Outcome, due_fits, event, level, limit_of, outcome, paying, text, with_due}
 use Rattle.exi_reader.specs.OneEvent.{behind, one}
 use Rattle.exi_reader.specs.Plans.{Alone, Given, alone_in, at_end, at_first, at_start, nowhere, plan_on, seen_in}
-use Rattle.exi_reader.specs.Rules.{Rule, Terminal, attribute, characters, comment, declaration, document_type, element, end_document, end_element, entity, informed, instruction, self_contained, start_document}
+use Rattle.exi_reader.specs.Rules.{Rule, Terminal, attribute, characters, comment, declaration, document_type, element, end_document, end_element, entity, instruction, self_contained, start_document}
 use Rattle.exi_reader.specs.Runs.{Leads, is_end}
 use Rattle.exi_reader.specs.Sound.{IsSound, IsSoundAside, IsWhereOpen}
 use Rattle.exi_reader.specs.Splices.{AtFragment}
@@ -133,28 +133,27 @@ module _ (g : Setting) (bytes : List ℕ) (a : Alone) (c d : Config) (r : Rule) 
   made_aside start_document p = absurd (not_so (seen_in a event.sd) (ap (λ (z : Given). z.0) p.is) (seen_is a event.sd refl))
   made_aside end_document p = absurd (not_so (seen_in a event.ed) (ap (λ (z : Given). z.0) p.is) (seen_is a event.ed refl))
   made_aside (element y) p = absurd (not_so (seen_in a (event.se p.item.name)) (ap (λ (z : Given). z.0) p.is) (seen_is a (event.se p.item.name) refl))
-  made_aside (attribute y) p = absurd (not_so (Some (event.at p.item.0.name p.item.1)) (ap (λ (z : Given). z.0) p.is) refl)
-  made_aside characters p = absurd (not_so (Some (event.ch p.item)) (ap (λ (z : Given). z.0) p.is) refl)
+  made_aside (attribute y v) p = absurd (not_so (Some (event.at p.item.0.name p.item.1)) (ap (λ (z : Given). z.0) p.is) refl)
+  made_aside (characters e) p = absurd (not_so (Some (event.ch p.item)) (ap (λ (z : Given). z.0) p.is) refl)
   made_aside end_element p = absurd (not_so (Some event.ee) (ap (λ (z : Given). z.0) p.is) refl)
   made_aside declaration p = absurd (not_so (Some (event.ns p.item.uri p.item.prefix p.item.element)) (ap (λ (z : Given). z.0) p.is) refl)
   made_aside comment p = absurd (not_so (Some (event.cm p.item)) (ap (λ (z : Given). z.0) p.is) refl)
   made_aside instruction p = absurd (not_so (Some (event.pi p.item.0 p.item.1)) (ap (λ (z : Given). z.0) p.is) refl)
   made_aside document_type p = absurd (not_so (Some (event.dt p.item.0.0 p.item.0.1 p.item.1.0 p.item.1.1)) (ap (λ (z : Given). z.0) p.is) refl)
   made_aside entity p = absurd (not_so (Some (event.er p.item)) (ap (λ (z : Given). z.0) p.is) refl)
-  made_aside (informed y) p = absurd (not_so None (ap (λ (z : Given). z.0) p.is) refl)
 
 -- ---- what a reader stands at behind SC
-pub at_fragment : (g : Setting) (bytes : List ℕ) (c next : Config) (byte : ℕ) → IsPlainBook g → IsSound c → Deep c.meter → one g bytes c ≡ told (Some (event.sc byte), next) → AtFragment g byte next
+pub at_fragment : (g : Setting) (bytes : List ℕ) (c next : Config) (byte : ℕ) → IsSetting g → IsStart g.schema.names → IsSound g c → Deep c.meter → one g bytes c ≡ told (Some (event.sc byte), next) → AtFragment g byte next
 unfolding Deep
-at_fragment g bytes c next byte book sound deep h =
+at_fragment g bytes c next byte book names sound deep h =
     let u = stepped g bytes c (Some (event.sc byte), next) h in
     let m = made_aside g bytes (alone_in c.elements c.outer) c (at_place c u.spot.place) u.rule byte next u.rule.on u.rest_is in
     let made : Config = put_aside g (reached (behind true m.read_state) (at_place c u.spot.place)) in
-    let s : IsSound next = steps_keep_sound g bytes c next (Some (event.sc byte)) book sound h in
+    let s : IsSound g next = steps_keep_sound g bytes c next (Some (event.sc byte)) book names sound h in
     let stands : next.place ≡ (m.read_state.spot.place + 7) / 8 * 8 = ap (λ (z : Config). z.place) m.is in
     let bodies : next.aside ≡ made.aside = ap (λ (z : Config). z.aside) m.is in
     let b : Body = record { tables = m.read_state.context.tables; learned = c.learned; elements = c.elements; outer = c.outer; name = texts_of m.read_state.context.tables (innermost c.elements) } in
-    let head : IsSoundAside b = All-head IsSoundAside b c.aside (subst (λ (z : List Body). All IsSoundAside z) bodies s.aside) in
+    let head : IsSoundAside g b = All-head (IsSoundAside g) b c.aside (subst (λ (z : List Body). All (IsSoundAside g) z) bodies s.aside) in
     record {
       place = omega (arith, stands, m.byte_is);
       tables = ap (λ (z : Config). z.tables) m.is;
@@ -166,6 +165,6 @@ at_fragment g bytes c next byte book sound deep h =
       bodies = c.aside;
       aside = bodies;
       going = open_goes c.outer (head.body.outside (level_some c.elements c.outer head.level));
-      no_prefixes = sc_without_prefixes g bytes c u.rule u.spot book sound u.code m.on;
+      no_prefixes = sc_without_prefixes g bytes c u.rule u.spot book names sound u.code m.on;
       deepest = given_deep g bytes c (Some (event.sc byte), next) h deep;
     }

@@ -1,21 +1,16 @@
 -- In no state of a book, and in no built-in state, is a group of productions empty.
-use Rattle.std.proofs.Common.{◌≡◌, ℕ, zero, suc, List, [], ◌∷◌, map, get_or, refl, sym, subst, arith, All}
+use Rattle.std.proofs.Common.{ℕ, suc, Bool, true, false, cond, List, [], ◌∷◌, map, refl, arith, All}
 use Rattle.std.proofs.lemmas.List.Elements.{All-nil, All-cons}
 use Rattle.exi_builtin.specs.BuiltIn.{BuiltInRule, is_kept, written_rules}
 use Rattle.exi_builtin.specs.Learning.{Learning}
 use Rattle.exi_builtin.specs.declared.learnable.Room.{Room}
 use Rattle.exi_builtin.specs.declared.learnable.Room.TheVariants as room
-use Rattle.exi_gram.specs.Books.{IsPlainBook, is_kept as is_entry_kept, placed_in, state_at, state_of}
-use Rattle.exi_gram.specs.Codes.{HasMembers, IsClosedUp, Productions, Second, group, kept_seconds, mapped_second, single}
-use Rattle.exi_gram.specs.Naming.{Entry}
-use Rattle.exi_gram.specs.Tables.{no_productions}
-use Rattle.exi_gram.specs.Terminals.{Rule}
-use Rattle.exi_gram.specs.Wholes.{document}
-use Rattle.exi_gram.specs.declared.options.Options.{Options}
+use Rattle.exi_gram.specs.Books.{IsBook, state_at}
+use Rattle.exi_gram.specs.Codes.{HasMembers, IsClosedUp, Second, group, kept_seconds, mapped_second, single}
 use Rattle.exi_gram.proofs.CodeLaws.{pruned_closed}
-use Rattle.exi_reader.specs.Configurations.{Config, Setting, built_in, element_rules, in_book, outer_rules, rules_in, rules_of}
+use Rattle.exi_ways.proofs.Options.{codes_close_up}
+use Rattle.exi_reader.specs.Configurations.{Config, IsSetting, Setting, built_in, element_rules, in_book, outer_rules, rules_in, rules_of}
 use Rattle.exi_reader.specs.Rules.{book_rule, built_in_rule}
-use Rattle.exi_names.specs.StartTables.{Names}
 use Rattle.exi_reader.specs.declared.frames.Element.{Element}
 use Rattle.exi_reader.specs.declared.frames.Outer.{Outer}
 use Rattle.exi_reader.specs.declared.frames.Outer.TheVariants as outer
@@ -34,42 +29,31 @@ mapped_members f (x ∷ xs) h = All-cons HasMembers (mapped_second f x) (map (ma
 built_in_closed : (g : Setting) (l : Learning) (r : Room) → IsClosedUp (built_in g l r)
 built_in_closed g l r = mapped_members built_in_rule (kept_seconds (λ (x : BuiltInRule). is_kept g.options x.on) (written_rules r).seconds) (pruned_closed (λ (x : BuiltInRule). is_kept g.options x.on) (written_rules r))
 
--- ---- the states of a book
-none_closed : IsClosedUp {X = Entry} no_productions
-none_closed = All-nil HasMembers
-
-state_closed : (o : Options) (names : Names) (p : Productions Rule) → IsClosedUp (state_of o names p)
-state_closed o names p = pruned_closed (is_entry_kept o) (placed_in names p)
-
-left_closed : (o : Options) (names : Names) (ps : List (Productions Rule)) (i : ℕ) → IsClosedUp (get_or (map (state_of o names) ps) i no_productions)
-left_closed o names [] i = none_closed
-left_closed o names (p ∷ ps) zero = state_closed o names p
-left_closed o names (p ∷ ps) (suc i) = left_closed o names ps i
-
-in_states : (o : Options) (names : Names) (states : List (List (Productions Entry))) → states ≡ map (state_of o names) (document []) ∷ [] → (i j : ℕ) → IsClosedUp (get_or (get_or states i []) j no_productions)
-in_states o names states h zero j = subst (λ (z : List (List (Productions Entry))). IsClosedUp (get_or (get_or z 0 []) j no_productions)) (sym h) (left_closed o names (document []) j)
-in_states o names states h (suc i) j = subst (λ (z : List (List (Productions Entry))). IsClosedUp (get_or (get_or z (suc i) []) j no_productions)) (sym h) none_closed
-
-book_closed : (g : Setting) → IsPlainBook g → (grammar number : ℕ) → IsClosedUp (in_book g grammar number)
-book_closed g b grammar number = mapped_members book_rule (state_at g grammar number).seconds (in_states g.options g.schema.names g.states b.states grammar number)
+book_closed : (g : Setting) → IsBook g → (grammar number : ℕ) → IsClosedUp (in_book g grammar number)
+book_closed g b grammar number = mapped_members book_rule (state_at g grammar number).seconds (codes_close_up g b grammar number)
 
 -- ---- every state
-outer_closed : (g : Setting) (l : Learning) (o : Outer) → IsPlainBook g → IsClosedUp (outer_rules g l o)
+-- the content of a fragment that stands for one element
+alone_closed : (g : Setting) (l : Learning) → IsBook g → (known : Bool) → IsClosedUp (cond known (in_book g 1 1) (built_in g l room.Fragment))
+alone_closed g l b true = book_closed g b 1 1
+alone_closed g l b false = built_in_closed g l room.Fragment
+
+outer_closed : (g : Setting) (l : Learning) (o : Outer) → IsBook g → IsClosedUp (outer_rules g l o)
 outer_closed g l (outer.Book grammar number) b = book_closed g b grammar number
 outer_closed g l outer.FragmentStart b = All-nil HasMembers
 outer_closed g l outer.FragmentContent b = built_in_closed g l room.Fragment
 outer_closed g l outer.AloneStart b = All-nil HasMembers
-outer_closed g l outer.AloneFirst b = built_in_closed g l room.Fragment
-outer_closed g l outer.AloneOver b = built_in_closed g l room.Fragment
+outer_closed g l outer.AloneFirst b = alone_closed g l b g.schema.known
+outer_closed g l outer.AloneOver b = alone_closed g l b g.schema.known
 outer_closed g l outer.Ended b = All-nil HasMembers
 
-element_closed : (g : Setting) (l : Learning) (s : State) → IsPlainBook g → IsClosedUp (element_rules g l s)
+element_closed : (g : Setting) (l : Learning) (s : State) → IsBook g → IsClosedUp (element_rules g l s)
 element_closed g l (state.BuiltIn r) b = built_in_closed g l r
 element_closed g l (state.Informed grammar number empty) b = book_closed g b grammar number
 
-closed_in : (g : Setting) (l : Learning) (es : List Element) (o : Outer) → IsPlainBook g → IsClosedUp (rules_in g l es o)
+closed_in : (g : Setting) (l : Learning) (es : List Element) (o : Outer) → IsBook g → IsClosedUp (rules_in g l es o)
 closed_in g l [] o b = outer_closed g l o b
 closed_in g l (e ∷ es) o b = element_closed g l e.state b
 
-pub closed_up : (g : Setting) (c : Config) → IsPlainBook g → IsClosedUp (rules_of g c)
-closed_up g c b = closed_in g c.learned c.elements c.outer b
+pub closed_up : (g : Setting) (c : Config) → IsSetting g → IsClosedUp (rules_of g c)
+closed_up g c s = closed_in g c.learned c.elements c.outer s.book

@@ -1,5 +1,5 @@
 -- The production that a code tells, read by its place among those of a state.
-use Rattle.std.proofs.Common.{◌≡◌, ◌<◌, ℕ, zero, suc, ◌+◌, true, false, List, [], ◌∷◌, ◌++◌, length, map, get_or, Option, None, Result, Ok, Err, refl, sym, ap, ◌∙◌, subst, arith}
+use Rattle.std.proofs.Common.{◌≡◌, ◌⊎◌, inl, inr, ◌<◌, ℕ, zero, suc, ◌+◌, true, false, List, [], ◌∷◌, ◌++◌, length, map, get_or, Option, None, Result, Ok, Err, refl, sym, ap, ◌∙◌, subst, arith}
 use Rattle.std.specs.Prelude.{slice_get}
 use Rattle.std.proofs.lemmas.Bool.{le-ltb}
 use Rattle.std.proofs.lemmas.List.{map-append}
@@ -29,9 +29,10 @@ use Rattle.exi_gram.specs.Terminals as gram
 use Rattle.exi_gram.specs.declared.code.Coded.{Coded as Kept}
 use Rattle.exi_gram.specs.Wholes.{listed}
 use Rattle.exi_gram.proofs.CodeLaws.{mapped_read}
-use Rattle.exi_reader.specs.Configurations.{Setting, built_in, in_book}
-use Rattle.exi_reader.specs.Handing.{known_at_code, known_rule, known_terminal}
-use Rattle.exi_reader.specs.Rules.{Rule, Terminal, book_rule, built_in_rule, built_in_terminal, fragment_start, start_document, terminal_of}
+use Rattle.exi_reader.specs.Configurations.{Setting, built_in, in_book, outer_rules}
+use Rattle.exi_reader.specs.declared.frames.Outer.{Outer}
+use Rattle.exi_reader.specs.declared.frames.Outer.TheVariants as outer
+use Rattle.exi_reader.specs.Rules.{Rule, book_rule, built_in_rule, built_in_terminal, fragment_start, rule_of, start_document}
 
 -- ---- what stands at the places from one on
 abbrev Agrees : {X : Type 0} → (ℕ → X) → ℕ → List X → Type 0
@@ -148,69 +149,55 @@ bind_err : {A B : Type 0} (r : Result A Fault) (f : Fault) (k : A → Result B F
 bind_err {A} {B} r f k e = ap (λ (q : Result A Fault). q >>= k) e
 
 -- what a code tells in the place of the productions
-in_book_is : (g : Setting) (grammar state : ℕ) (s : Spot) → known_at_code g (in_book g grammar state) s ≡ (code_at (align_of g.options) (placed (state_at g grammar state)) s >>= λ i. told_rule (known_rule (book_rule (entry_at (state_at g grammar state) i.0)), i.1))
+in_book_is : (g : Setting) (grammar state : ℕ) (s : Spot) → code_at (align_of g.options) (in_book g grammar state) s ≡ (code_at (align_of g.options) (placed (state_at g grammar state)) s >>= λ i. told_rule (book_rule (entry_at (state_at g grammar state) i.0), i.1))
 in_book_is g grammar state s =
     let p : Productions Entry = state_at g grammar state in
     let a : Align = align_of g.options in
-    ap (λ (q : Result (Rule × Spot) Fault). q >>= λ x. told_rule (known_rule x.0, x.1)) (mapped_read book_rule p a s)
-    ∙ (ap (λ (q : Result (Entry × Spot) Fault). (q >>= λ x. told_rule (book_rule x.0, x.1)) >>= λ x. told_rule (known_rule x.0, x.1)) (ap (λ (z : Productions Entry). code_at a z s) (sym (placed_back no_entry p)) ∙ mapped_read (entry_at p) (placed p) a s)
-    ∙ thrice (code_at a (placed p) s) (entry_at p))
+    mapped_read book_rule p a s
+    ∙ (ap (λ (q : Result (Entry × Spot) Fault). q >>= λ x. told_rule (book_rule x.0, x.1)) (ap (λ (z : Productions Entry). code_at a z s) (sym (placed_back no_entry p)) ∙ mapped_read (entry_at p) (placed p) a s)
+    ∙ twice (code_at a (placed p) s) (entry_at p))
   where
-    thrice : (q : Result (ℕ × Spot) Fault) (f : ℕ → Entry) → (((q >>= λ i. told_entry (f i.0, i.1)) >>= λ x. told_rule (book_rule x.0, x.1)) >>= λ x. told_rule (known_rule x.0, x.1)) ≡ (q >>= λ i. told_rule (known_rule (book_rule (f i.0)), i.1))
-    thrice (Ok x) f = refl
-    thrice (Err e) f = refl
+    twice : (q : Result (ℕ × Spot) Fault) (f : ℕ → Entry) → ((q >>= λ i. told_entry (f i.0, i.1)) >>= λ x. told_rule (book_rule x.0, x.1)) ≡ (q >>= λ i. told_rule (book_rule (f i.0), i.1))
+    twice (Ok x) f = refl
+    twice (Err e) f = refl
 
-pub book_told : (g : Setting) (grammar state : ℕ) (s t : Spot) (i : ℕ) → code_at (align_of g.options) (placed (state_at g grammar state)) s ≡ Ok (i, t) → known_at_code g (in_book g grammar state) s ≡ Ok (known_rule (book_rule (entry_at (state_at g grammar state) i)), t)
-book_told g grammar state s t i e = in_book_is g grammar state s ∙ bind_ok (code_at (align_of g.options) (placed (state_at g grammar state)) s) (i, t) (λ i. told_rule (known_rule (book_rule (entry_at (state_at g grammar state) i.0)), i.1)) e
+book_told : (g : Setting) (grammar state : ℕ) (s t : Spot) (i : ℕ) → code_at (align_of g.options) (placed (state_at g grammar state)) s ≡ Ok (i, t) → code_at (align_of g.options) (in_book g grammar state) s ≡ Ok (book_rule (entry_at (state_at g grammar state) i), t)
+book_told g grammar state s t i e = in_book_is g grammar state s ∙ bind_ok (code_at (align_of g.options) (placed (state_at g grammar state)) s) (i, t) (λ i. told_rule (book_rule (entry_at (state_at g grammar state) i.0), i.1)) e
 
-pub book_fails : (g : Setting) (grammar state : ℕ) (s : Spot) (f : Fault) → code_at (align_of g.options) (placed (state_at g grammar state)) s ≡ Err f → known_at_code g (in_book g grammar state) s ≡ Err f
-book_fails g grammar state s f e = in_book_is g grammar state s ∙ bind_err (code_at (align_of g.options) (placed (state_at g grammar state)) s) f (λ i. told_rule (known_rule (book_rule (entry_at (state_at g grammar state) i.0)), i.1)) e
+pub book_fails : (g : Setting) (grammar state : ℕ) (s : Spot) (f : Fault) → code_at (align_of g.options) (placed (state_at g grammar state)) s ≡ Err f → code_at (align_of g.options) (in_book g grammar state) s ≡ Err f
+book_fails g grammar state s f e = in_book_is g grammar state s ∙ bind_err (code_at (align_of g.options) (placed (state_at g grammar state)) s) f (λ i. told_rule (book_rule (entry_at (state_at g grammar state) i.0), i.1)) e
 
 -- ---- a built-in grammar's production
-known_learnable : (x : Learnable) → known_terminal (built_in_terminal x) ≡ built_in_terminal x
-known_learnable (learnable.Known name true) = refl
-known_learnable (learnable.Known name false) = refl
-known_learnable learnable.SeAny = refl
-known_learnable learnable.AtAny = refl
-known_learnable (learnable.Ch one_part) = refl
-known_learnable (learnable.Ee one_part) = refl
-known_learnable learnable.Ed = refl
-known_learnable learnable.Ns = refl
-known_learnable learnable.Sc = refl
-known_learnable learnable.Er = refl
-known_learnable learnable.Cm = refl
-known_learnable learnable.Pi = refl
-
 abbrev told_built : BuiltInRule × Spot → Result (BuiltInRule × Spot) Fault
 told_built z = Ok z
 
-abbrev rule_to : Terminal → ℕ → Rule
-rule_to on to = record { on = on; to = to; inner = None }
+abbrev rule_for : Room → Learnable → Rule
+rule_for r x = record { on = built_in_terminal x; to = state_behind r x; inner = None }
 
-built_in_is : (g : Setting) (l : Learning) (r : Room) (s : Spot) → known_at_code g (built_in g l r) s ≡ (code_at (align_of g.options) (productions g.options l r) s >>= λ x. told_rule (rule_to (built_in_terminal x.0) (state_behind r x.0), x.1))
+built_in_is : (g : Setting) (l : Learning) (r : Room) (s : Spot) → code_at (align_of g.options) (built_in g l r) s ≡ (code_at (align_of g.options) (productions g.options l r) s >>= λ x. told_rule (rule_for r x.0, x.1))
 built_in_is g l r s =
     let a : Align = align_of g.options in
-    ap (λ (z : Productions BuiltInRule). known_at_code g (mapped built_in_rule z) s) (rules_are g.options l r)
-    ∙ (ap (λ (q : Result (Rule × Spot) Fault). q >>= λ x. told_rule (known_rule x.0, x.1)) (mapped_read built_in_rule (mapped (learned_rule l r) (productions g.options l r)) a s)
-    ∙ (ap (λ (q : Result (BuiltInRule × Spot) Fault). (q >>= λ x. told_rule (built_in_rule x.0, x.1)) >>= λ x. told_rule (known_rule x.0, x.1)) (mapped_read (learned_rule l r) (productions g.options l r) a s)
-    ∙ thrice (code_at a (productions g.options l r) s)))
+    ap (λ (z : Productions BuiltInRule). code_at a (mapped built_in_rule z) s) (rules_are g.options l r)
+    ∙ (mapped_read built_in_rule (mapped (learned_rule l r) (productions g.options l r)) a s
+    ∙ (ap (λ (q : Result (BuiltInRule × Spot) Fault). q >>= λ x. told_rule (built_in_rule x.0, x.1)) (mapped_read (learned_rule l r) (productions g.options l r) a s)
+    ∙ twice (code_at a (productions g.options l r) s)))
   where
-    thrice : (q : Result (Learnable × Spot) Fault) → (((q >>= λ x. told_built (learned_rule l r x.0, x.1)) >>= λ x. told_rule (built_in_rule x.0, x.1)) >>= λ x. told_rule (known_rule x.0, x.1)) ≡ (q >>= λ x. told_rule (rule_to (built_in_terminal x.0) (state_behind r x.0), x.1))
-    thrice (Ok x) = ap (λ (t : Terminal). told_rule (rule_to t (state_behind r x.0), x.1)) (known_learnable x.0)
-    thrice (Err e) = refl
+    twice : (q : Result (Learnable × Spot) Fault) → ((q >>= λ x. told_built (learned_rule l r x.0, x.1)) >>= λ x. told_rule (built_in_rule x.0, x.1)) ≡ (q >>= λ x. told_rule (rule_for r x.0, x.1))
+    twice (Ok x) = refl
+    twice (Err e) = refl
 
-pub built_in_told : (g : Setting) (l : Learning) (r : Room) (s t : Spot) (x : Learnable) → code_at (align_of g.options) (productions g.options l r) s ≡ Ok (x, t) → known_at_code g (built_in g l r) s ≡ Ok (record { on = built_in_terminal x; to = state_behind r x; inner = None }, t)
-built_in_told g l r s t x e = built_in_is g l r s ∙ bind_ok (code_at (align_of g.options) (productions g.options l r) s) (x, t) (λ x. told_rule (rule_to (built_in_terminal x.0) (state_behind r x.0), x.1)) e
+built_in_told : (g : Setting) (l : Learning) (r : Room) (s t : Spot) (x : Learnable) → code_at (align_of g.options) (productions g.options l r) s ≡ Ok (x, t) → code_at (align_of g.options) (built_in g l r) s ≡ Ok (rule_for r x, t)
+built_in_told g l r s t x e = built_in_is g l r s ∙ bind_ok (code_at (align_of g.options) (productions g.options l r) s) (x, t) (λ x. told_rule (rule_for r x.0, x.1)) e
 
-pub built_in_fails : (g : Setting) (l : Learning) (r : Room) (s : Spot) (f : Fault) → code_at (align_of g.options) (productions g.options l r) s ≡ Err f → known_at_code g (built_in g l r) s ≡ Err f
-built_in_fails g l r s f e = built_in_is g l r s ∙ bind_err (code_at (align_of g.options) (productions g.options l r) s) f (λ x. told_rule (rule_to (built_in_terminal x.0) (state_behind r x.0), x.1)) e
+pub built_in_fails : (g : Setting) (l : Learning) (r : Room) (s : Spot) (f : Fault) → code_at (align_of g.options) (productions g.options l r) s ≡ Err f → code_at (align_of g.options) (built_in g l r) s ≡ Err f
+built_in_fails g l r s f e = built_in_is g l r s ∙ bind_err (code_at (align_of g.options) (productions g.options l r) s) f (λ x. told_rule (rule_for r x.0, x.1)) e
 
 -- ---- as a reader answers them
 abbrev pub behind_bits : Spot → Spot → Spot
 behind_bits s t = record { bytes = s.bytes; place = t.place }
 
-abbrev answer : Terminal → ℕ → Option ℕ → Spot → Result (Rule × Spot) Fault
-answer on to inner t = Ok (record { on = on; to = to; inner = inner }, t)
+abbrev answer : Rule → Spot → Result (Rule × Spot) Fault
+answer r t = Ok (r, t)
 
 abbrev spot_of : List ℕ → ℕ → Spot
 spot_of b place = record { bytes = b; place = place }
@@ -218,13 +205,16 @@ spot_of b place = record { bytes = b; place = place }
 same_bits : (s t : Spot) → t.bytes ≡ s.bytes → t ≡ behind_bits s t
 same_bits s t h = ap (λ (b : List ℕ). spot_of b t.place) h
 
-pub built_in_picks : (g : Setting) (l : Learning) (r : Room) (s t : Spot) (x : Learnable) (on : Terminal) (to : ℕ) → code_at (align_of g.options) (productions g.options l r) s ≡ Ok (x, t) → on ≡ built_in_terminal x → to ≡ state_behind r x → t.bytes ≡ s.bytes →
-    known_at_code g (built_in g l r) s ≡ Ok (record { on = on; to = to; inner = None }, behind_bits s t)
-built_in_picks g l r s t x on to e a b h =
+abbrev leading : Learnable → ℕ → Rule
+leading x to = record { on = built_in_terminal x; to = to; inner = None }
+
+pub built_in_picks : (g : Setting) (l : Learning) (r : Room) (s t : Spot) (x : Learnable) (to : ℕ) (found : Rule) → code_at (align_of g.options) (productions g.options l r) s ≡ Ok (x, t) → found ≡ leading x to → to ≡ state_behind r x → t.bytes ≡ s.bytes →
+    code_at (align_of g.options) (built_in g l r) s ≡ Ok (found, behind_bits s t)
+built_in_picks g l r s t x to found e a b h =
     built_in_told g l r s t x e
-    ∙ (ap (λ (z : Terminal). answer z (state_behind r x) None t) (sym a)
-    ∙ (ap (λ (z : ℕ). answer on z None t) (sym b)
-    ∙ ap (λ (z : Spot). answer on to None z) (same_bits s t h)))
+    ∙ (ap (λ (z : ℕ). answer (leading x z) t) (sym b)
+    ∙ (ap (λ (z : Rule). answer z t) (sym a)
+    ∙ ap (λ (z : Spot). answer found z) (same_bits s t h)))
 
 get_map : {A B : Type 0} (f : A → B) (xs : List A) (i : ℕ) (d : A) (e : B) → i < length xs → get_or (map f xs) i e ≡ f (get_or xs i d)
 get_map f [] i d e less = absurd (omega (arith, less))
@@ -244,22 +234,35 @@ entry_kept p cs place d h less =
     listed_items p = refl
 
 abbrev of_entry : Entry → Spot → Result (Rule × Spot) Fault
-of_entry z t = Ok (known_rule (book_rule z), t)
+of_entry z t = Ok (book_rule z, t)
 
-pub book_picks : (g : Setting) (grammar state : ℕ) (s t : Spot) (place : ℕ) (cs : List Kept) (d : Kept) (on : Terminal) → code_at (align_of g.options) (placed (state_at g grammar state)) s ≡ Ok (place, t) → map coded_of cs ≡ coded (state_at g grammar state) → place < length cs →
-    on ≡ known_terminal (terminal_of (gram.symbol (get_or cs place d).production.on)) → t.bytes ≡ s.bytes →
-    known_at_code g (in_book g grammar state) s ≡ Ok (record { on = on; to = (get_or cs place d).production.to; inner = (get_or cs place d).production.inner }, behind_bits s t)
-book_picks g grammar state s t place cs d on e h less a b =
-    let c : Kept = get_or cs place d in
+pub book_picks : (g : Setting) (grammar state : ℕ) (s t : Spot) (place : ℕ) (cs : List Kept) (c : Kept) (found : Rule) → code_at (align_of g.options) (placed (state_at g grammar state)) s ≡ Ok (place, t) → map coded_of cs ≡ coded (state_at g grammar state) → place < length cs → c ≡ get_or cs place c →
+    found ≡ rule_of c.named (gram.rule c.production) → t.bytes ≡ s.bytes →
+    code_at (align_of g.options) (in_book g grammar state) s ≡ Ok (found, behind_bits s t)
+book_picks g grammar state s t place cs c found e h less is a b =
     book_told g grammar state s t place e
-    ∙ (ap (λ (z : Entry). of_entry z t) (entry_kept (state_at g grammar state) cs place d h less)
-    ∙ (ap (λ (z : Terminal). answer z c.production.to c.production.inner t) (sym a)
-    ∙ ap (λ (z : Spot). answer on c.production.to c.production.inner z) (same_bits s t b)))
+    ∙ (ap (λ (z : Entry). of_entry z t) (entry_kept (state_at g grammar state) cs place c h less)
+    ∙ (ap (λ (z : Kept). of_entry (kept_entry z) t) (sym is)
+    ∙ (ap (λ (z : Rule). answer z t) (sym a)
+    ∙ ap (λ (z : Spot). answer found z) (same_bits s t b))))
 
 -- ---- the start of a fragment, and behind the last event
-pub start_told : (g : Setting) (s : Spot) → known_at_code g fragment_start s ≡ Ok (record { on = start_document; to = 1; inner = None }, s)
+pub start_told : (g : Setting) (s : Spot) → code_at (align_of g.options) fragment_start s ≡ Ok (record { on = start_document; to = 1; inner = None }, s)
 unfolding code_at part_at
-start_told g s = ap (λ (q : Result (ℕ × Spot) Fault). (q >>= λ first. first_told (align_of g.options) fragment_start.seconds (slice_get fragment_start.firsts first.0) first.1) >>= λ x. told_rule (known_rule x.0, x.1)) (below_one 1 (align_of g.options) kind.NoCode s refl)
+start_told g s = ap (λ (q : Result (ℕ × Spot) Fault). q >>= λ first. first_told (align_of g.options) fragment_start.seconds (slice_get fragment_start.firsts first.0) first.1) (below_one 1 (align_of g.options) kind.NoCode s refl)
+
+-- where a fragment, or one that stands for one element, starts
+abbrev Starts : Outer → Type 0
+Starts o = (o ≡ outer.FragmentStart) ⊎ (o ≡ outer.AloneStart)
+
+start_rules : (g : Setting) (l : Learning) (o : Outer) → Starts o → outer_rules g l o ≡ fragment_start
+start_rules g l o (inl e) = ap (λ (z : Outer). outer_rules g l z) e
+start_rules g l o (inr e) = ap (λ (z : Outer). outer_rules g l z) e
+
+pub outer_starts : (g : Setting) (l : Learning) (o : Outer) (s : Spot) (found : Rule) → Starts o → found ≡ record { on = start_document; to = 1; inner = None } → code_at (align_of g.options) (outer_rules g l o) s ≡ Ok (found, s)
+outer_starts g l o s found e a =
+    ap (λ (z : Productions Rule). code_at (align_of g.options) z s) (start_rules g l o e)
+    ∙ (start_told g s ∙ ap (λ (z : Rule). answer z s) (sym a))
 
 below_none : (a : Align) (k : Kind) (s : Spot) → below_at 0 a k s ≡ fault_at k s
 unfolding below_at field_at number_at width_from value_of le_value
@@ -269,6 +272,6 @@ below_none align.Bytes k s = rw (le-ltb (left s) 0 (omega arith)) refl
 abbrev no_rules : Productions Rule
 no_rules = record { firsts = []; seconds = [] }
 
-pub none_told : (g : Setting) (s : Spot) → known_at_code g no_rules s ≡ Err (record { kind = kind.NoCode; bit = s.place })
+pub none_told : (g : Setting) (s : Spot) → code_at (align_of g.options) no_rules s ≡ Err (record { kind = kind.NoCode; bit = s.place })
 unfolding code_at part_at
-none_told g s = ap (λ (q : Result (ℕ × Spot) Fault). (q >>= λ first. first_told (align_of g.options) no_rules.seconds (slice_get no_rules.firsts first.0) first.1) >>= λ x. told_rule (known_rule x.0, x.1)) (below_none (align_of g.options) kind.NoCode s)
+none_told g s = ap (λ (q : Result (ℕ × Spot) Fault). q >>= λ first. first_told (align_of g.options) no_rules.seconds (slice_get no_rules.firsts first.0) first.1) (below_none (align_of g.options) kind.NoCode s)

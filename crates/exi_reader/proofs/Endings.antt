@@ -2,7 +2,8 @@
 use Rattle.std.proofs.Common.{◌≡◌, ◌⊎◌, inl, inr, ℕ, zero, suc, Bool, true, false, cond, ltb, List, [], ◌∷◌, ◌++◌, length, Option, Some, None, Result, Ok, Err, refl, sym, ap, ◌∙◌, subst}
 use Rattle.std.proofs.lemmas.Bool.{cases_Bool, ltb-false, ltb-true}
 use Rattle.exi_bits.specs.declared.fault.Fault.{Fault}
-use Rattle.exi_bits.specs.declared.fault.Kind.TheVariants as kind
+use Rattle.exi_builtin.specs.declared.learnable.Learned.{Learned}
+use Rattle.exi_builtin.specs.declared.learnable.Learned.TheVariants as used
 use Rattle.exi_gram.specs.Switches.{fragment}
 use Rattle.exi_meter.specs.Metering.{Bounds}
 use Rattle.exi_meter.specs.declared.tally.Tally.{Tally}
@@ -11,12 +12,12 @@ use Rattle.exi_names.specs.Events as happening
 use Rattle.exi_names.specs.declared.names.QName.{QName}
 use Rattle.exi_typed.specs.ReadStates.{Failure}
 use Rattle.exi_typed.proofs.ContextItems.{told}
-use Rattle.exi_reader.specs.Changes.{is_alone, outer_behind, resumed}
+use Rattle.exi_reader.specs.Changes.{Effect, effect_of, effected, emptied, is_alone, leads, learns_name, outer_behind, resumed, retyped, stays}
 use Rattle.exi_reader.specs.Configurations.{Body, Config, Setting, body_outer, reached}
 use Rattle.exi_reader.specs.Laws.{EndIs, EndsAtEd, EndsBehind, EndsIn, IsDone, IsTrailing}
 use Rattle.exi_reader.specs.OneEvent.{behind, one}
 use Rattle.exi_reader.specs.Plans.{Alone, Given, Plan, alone_in, at_end, at_first, at_start, nowhere, plan_of, plan_on}
-use Rattle.exi_reader.specs.Rules.{Rule, Terminal, attribute, characters, comment, declaration, document_type, element, end_document, end_element, entity, informed, instruction, known, self_contained, spelled, start_document}
+use Rattle.exi_reader.specs.Rules.{Rule, Telling, Terminal, attribute, characters, comment, declaration, document_type, element, end_document, end_element, entity, instruction, known, self_contained, spelled, start_document, under}
 use Rattle.exi_reader.specs.Runs.{Job, Leads, closing, ends, failed_end, first, goes, has_ended, is_end, turned_by, whole_bytes}
 use Rattle.exi_reader.specs.declared.end.End.{End}
 use Rattle.exi_reader.specs.declared.end.End.TheVariants as end
@@ -93,6 +94,18 @@ same_leaves k given h e f = record {
   grounded = subst (λ (z : List Body). Grounded given.1.outer z) (sym f) (subst (λ (z : Outer). Grounded z k.aside) (sym e) h.grounded);
 }
 
+-- what an attribute learns is nothing that counts here, and beside it does something in its element alone, or leads on
+learned_going : (s : Telling) (use_of : Learned) (k : Config) → Going k → Going (learns_name s use_of k)
+learned_going spelled use_of k h = record { going = h.going; grounded = h.grounded; body = h.body }
+learned_going (under uri) use_of k h = record { going = h.going; grounded = h.grounded; body = h.body }
+learned_going (known id) use_of k h = h
+
+effect_leaves : (e : Effect) (to : ℕ) (x : Option Happening) (k : Config) → Going k → Leaves (x, effected e to k)
+effect_leaves leads to x k h = on_leaves to k (x, effected leads to k) h refl refl
+effect_leaves (retyped grammar) to x k h = same_leaves k (x, effected (retyped grammar) to k) h refl refl
+effect_leaves emptied to x k h = same_leaves k (x, effected emptied to k) h refl refl
+effect_leaves stays to x k h = same_leaves k (x, effected stays to k) h refl refl
+
 ended_grounded : (o : Outer) (bs : List Body) → Grounded o bs → Grounded outer.Ended bs
 unfolding Grounded
 ended_grounded o [] h = refl
@@ -118,9 +131,6 @@ resumed_leaves (b ∷ bs) k e same alone h =
 
 put_grounded : (k : Config) (bs : List Body) → is_end k.outer ≡ false → Grounded k.outer bs → (is_end k.outer ≡ false) × Grounded k.outer bs
 put_grounded k bs e h = (e, h)
-
-none_some : {X : Type 0} (x : X) → Some x ≡ None → ⊥
-none_some x e = absurd cc
 
 at_start_nowhere : at_start ≡ nowhere → ⊥
 at_start_nowhere e = absurd cc
@@ -150,16 +160,19 @@ module _ (g : Setting) (c : Config) (r : Rule) where
   plan_leaves at_first end_document x k h al b = resumed_leaves k.aside k ((p at_first end_document).make x k).0 refl (is_there k at_first al at_first_nowhere) h.grounded
   plan_leaves at_end end_document x k h al b = resumed_leaves k.aside k ((p at_end end_document).make x k).0 refl (is_there k at_end al at_end_nowhere) h.grounded
   plan_leaves nowhere (element spelled) x k h al b = on_leaves r.to k ((p nowhere (element spelled)).make x k) h refl refl
+  plan_leaves nowhere (element (under uri)) x k h al b = on_leaves r.to k ((p nowhere (element (under uri))).make x k) h refl refl
   plan_leaves nowhere (element (known id)) x k h al b = on_leaves r.to k ((p nowhere (element (known id))).make x k) h refl refl
   plan_leaves at_start (element spelled) x k h al b = on_leaves r.to k ((p at_start (element spelled)).make x k) h refl refl
+  plan_leaves at_start (element (under uri)) x k h al b = on_leaves r.to k ((p at_start (element (under uri))).make x k) h refl refl
   plan_leaves at_start (element (known id)) x k h al b = on_leaves r.to k ((p at_start (element (known id))).make x k) h refl refl
   plan_leaves at_first (element spelled) x k h al b = on_leaves r.to k ((p at_first (element spelled)).make x k) h refl refl
+  plan_leaves at_first (element (under uri)) x k h al b = on_leaves r.to k ((p at_first (element (under uri))).make x k) h refl refl
   plan_leaves at_first (element (known id)) x k h al b = on_leaves r.to k ((p at_first (element (known id))).make x k) h refl refl
   plan_leaves at_end (element spelled) x k h al b = on_leaves r.to k ((p at_end (element spelled)).make x k) h refl refl
+  plan_leaves at_end (element (under uri)) x k h al b = on_leaves r.to k ((p at_end (element (under uri))).make x k) h refl refl
   plan_leaves at_end (element (known id)) x k h al b = on_leaves r.to k ((p at_end (element (known id))).make x k) h refl refl
-  plan_leaves a (attribute spelled) x k h al b = on_leaves r.to k ((p a (attribute spelled)).make x k) h refl refl
-  plan_leaves a (attribute (known id)) x k h al b = on_leaves r.to k ((p a (attribute (known id))).make x k) h refl refl
-  plan_leaves a characters x k h al b = on_leaves r.to k ((p a characters).make x k) h refl refl
+  plan_leaves a (attribute s v) x k h al b = effect_leaves (effect_of g v x.0.id x.1) r.to (Some (happening.at x.0.name x.1)) (learns_name s (used.At x.0.id) k) (learned_going s (used.At x.0.id) k h)
+  plan_leaves a (characters d) x k h al b = on_leaves r.to k ((p a (characters d)).make x k) h refl refl
   plan_leaves a end_element x k h al b = same_leaves k ((p a end_element).make x k) h refl refl
   plan_leaves a declaration x k h al b = on_leaves r.to k ((p a declaration).make x k) h refl refl
   plan_leaves a self_contained x k h al b = record { last = λ t. absurd cc; grounded = (h.going, h.grounded) }
@@ -167,7 +180,6 @@ module _ (g : Setting) (c : Config) (r : Rule) where
   plan_leaves a instruction x k h al b = on_leaves r.to k ((p a instruction).make x k) h refl refl
   plan_leaves a document_type x k h al b = on_leaves r.to k ((p a document_type).make x k) h refl refl
   plan_leaves a entity x k h al b = on_leaves r.to k ((p a entity).make x k) h refl refl
-  plan_leaves a (informed symbol) x k h al b = absurd (none_some kind.NoCode b)
 
 -- ---- one event
 record LeavesBody (given : Given) : Type 0 where
@@ -205,13 +217,14 @@ leads_on : (g : Setting) (bytes : List ℕ) (c last : Config) (turns : List (Opt
 leads_on g bytes c last [] h l = subst (λ (z : Config). Going z) l h
 leads_on g bytes c last (x ∷ turns) h l = leads_on g bytes l.0 last turns (goes_on bytes c (one g bytes c) x l.0 (λ given e. one_leaves g bytes c given h e) l.1) l.2
 
-body_going : (b : Bool) → (is_end (body_outer b) ≡ false) × (is_alone (body_outer b) ≡ false)
-body_going true = (refl, refl)
-body_going false = (refl, refl)
+body_going : (informed b : Bool) → (is_end (body_outer informed b) ≡ false) × (is_alone (body_outer informed b) ≡ false)
+body_going informed false = (refl, refl)
+body_going true true = (refl, refl)
+body_going false true = (refl, refl)
 
 first_going : (j : Job) (limits : Bounds) → Going (first j start.Body limits)
 unfolding Grounded
-first_going j limits = let b = body_going (fragment j.setting.options) in record { going = b.0; grounded = b.1; body = refl }
+first_going j limits = let b = body_going j.setting.schema.known (fragment j.setting.options) in record { going = b.0; grounded = b.1; body = refl }
 
 -- ---- the end
 ends_same : (x y : Option Happening) (d e : End) → ends x d ≡ ends y e → (x ≡ y) × (d ≡ e)

@@ -2,20 +2,20 @@
 use Rattle.std.proofs.Common.{◌≡◌, ℕ, ◌+◌, false, List, [], ◌∷◌, length, Some, None, refl, sym, ap, ◌∙◌, subst}
 use Rattle.exi_bits.specs.declared.fault.Kind.TheVariants as kind
 use Rattle.exi_bits.specs.Bits.{IsAligned, IsBytes, Spot}
-use Rattle.exi_gram.specs.Books.{IsPlainBook}
 use Rattle.exi_gram.specs.Codes.{code_at}
 use Rattle.exi_gram.specs.Switches.{align_of, prefixes}
 use Rattle.exi_gram.proofs.CodeLaws.{spelled_item}
 use Rattle.exi_meter.specs.Metering.{Metering, with_text}
+use Rattle.exi_names.specs.StartTables.{IsStart}
 use Rattle.exi_names.specs.declared.names.QName.{QName}
 use Rattle.exi_typed.specs.ReadStates.{ReadState}
 use Rattle.exi_typed.proofs.ContextItems.{fine, told, told_is, was_taken}
 use Rattle.exi_reader.specs.Changes.{moved_elements, outer_behind, root_in}
-use Rattle.exi_reader.specs.Configurations.{Body, Config, Setting, read_state_in, rules_of, spot_in}
+use Rattle.exi_reader.specs.Configurations.{Body, Config, IsSetting, Setting, read_state_in, rules_of, spot_in}
 use Rattle.exi_reader.specs.Contents.{SpellsTold, told_name_at}
 use Rattle.exi_reader.specs.OneEvent.{one}
 use Rattle.exi_reader.specs.Plans.{Alone, Given, alone_in, at_first, at_start, plan_on}
-use Rattle.exi_reader.specs.Rules.{Rule, Telling, Terminal, attribute, characters, comment, declaration, document_type, element, end_document, end_element, entity, informed, instruction, known, self_contained, spelled, start_document}
+use Rattle.exi_reader.specs.Rules.{Rule, Telling, Terminal, attribute, characters, comment, declaration, document_type, element, end_document, end_element, entity, instruction, known, self_contained, spelled, start_document, under}
 use Rattle.exi_reader.specs.Sound.{FitsContent, FitsIn, FitsStart, IsSound}
 use Rattle.exi_reader.specs.declared.frames.Element.{Element}
 use Rattle.exi_reader.specs.declared.frames.Outer.{Outer}
@@ -78,8 +78,8 @@ module _ (g : Setting) (bytes : List ℕ) where
       }
   start_parted f r end_document place given b fit t = absurd fit
   start_parted f r (element y) place given b fit t = absurd fit
-  start_parted f r (attribute y) place given b fit t = absurd fit
-  start_parted f r characters place given b fit t = absurd fit
+  start_parted f r (attribute y v) place given b fit t = absurd fit
+  start_parted f r (characters d) place given b fit t = absurd fit
   start_parted f r end_element place given b fit t = absurd fit
   start_parted f r declaration place given b fit t = absurd fit
   start_parted f r self_contained place given b fit t = absurd fit
@@ -87,18 +87,17 @@ module _ (g : Setting) (bytes : List ℕ) where
   start_parted f r instruction place given b fit t = absurd fit
   start_parted f r document_type place given b fit t = absurd fit
   start_parted f r entity place given b fit t = absurd fit
-  start_parted f r (informed y) place given b fit t = absurd fit
 
   alone_at : (f : Config) (o : Outer) → f.elements ≡ [] → f.outer ≡ o → alone_in f.elements f.outer ≡ alone_in [] o
   alone_at f o e h = ap (λ (z : List Element). alone_in z f.outer) e ∙ ap (λ (z : Outer). alone_in [] z) h
 
-  fits_at : (f : Config) (o : Outer) (t : Terminal) (to : ℕ) → f.elements ≡ [] → f.outer ≡ o → FitsIn f.tables f.outer f.elements t to → FitsIn f.tables o [] t to
-  fits_at f o t to e h fit = subst (λ (z : Outer). FitsIn f.tables z [] t to) h (subst (λ (z : List Element). FitsIn f.tables f.outer z t to) e fit)
+  fits_at : (f : Config) (o : Outer) (t : Terminal) (to : ℕ) → f.elements ≡ [] → f.outer ≡ o → FitsIn g f.tables f.outer f.elements t to → FitsIn g f.tables o [] t to
+  fits_at f o t to e h fit = subst (λ (z : Outer). FitsIn g f.tables z [] t to) h (subst (λ (z : List Element). FitsIn g f.tables f.outer z t to) e fit)
 
-  pub started : (f : Config) (given : Given) → IsPlainBook g → IsSound f → Begins f → one g bytes f ≡ told given → (place : ℕ) × (rule : Rule) × (spot : Spot) × (code_at (align_of g.options) (rules_of g f) (spot_in bytes f) ≡ fine (rule, spot)) × (place ≡ spot.place) × Started f given place
-  started f given book sound b h =
+  pub started : (f : Config) (given : Given) → IsSetting g → IsStart g.schema.names → IsSound g f → Begins f → one g bytes f ≡ told given → (place : ℕ) × (rule : Rule) × (spot : Spot) × (code_at (align_of g.options) (rules_of g f) (spot_in bytes f) ≡ fine (rule, spot)) × (place ≡ spot.place) × Started f given place
+  started f given book names sound b h =
       let u = stepped g bytes f given h in
-      let fit : FitsStart u.rule.on u.rule.to = fits_at f outer.AloneStart u.rule.on u.rule.to b.elements b.outer_is (codes_fit g bytes f u.rule u.spot book sound u.code).0 in
+      let fit : FitsStart u.rule.on u.rule.to = fits_at f outer.AloneStart u.rule.on u.rule.to b.elements b.outer_is (codes_fit g bytes f u.rule u.spot book names sound u.code).0 in
       let parted : Parted bytes (plan_on g at_start f u.rule u.rule.on) (at_place f u.spot.place) given = subst (λ (z : Alone). Parted bytes (plan_on g z f u.rule u.rule.on) (at_place f u.spot.place) given) (alone_at f outer.AloneStart b.elements b.outer_is) u.rest_is in
       (u.spot.place, u.rule, u.spot, u.code, refl, start_parted f u.rule u.rule.on u.spot.place given b fit parted)
 
@@ -125,23 +124,23 @@ module _ (g : Setting) (bytes : List ℕ) where
   first_parted : (f : Config) (r : Rule) (t : Terminal) (place : ℕ) (given : Given) → IsBytes bytes → prefixes g.options ≡ false → IsAligned (align_of g.options) (spot_in bytes (at_place f place)) → IsFirst f → FitsContent f.tables t r.to → Parted bytes (plan_on g at_first f r t) (at_place f place) given → Rooted f given
   first_parted f r (element spelled) place given octets plain al b fit t = element_rooted f r spelled place given octets plain al b t (ap (λ (z : Given). z.0) t.is) (ap (λ (z : Given). z.1.root) t.is) (ap (λ (z : Given). z.1.outer) t.is) (ap (λ (z : Given). z.1.aside) t.is) (ap (λ (z : Given). z.1.meter) t.is)
   first_parted f r (element (known id)) place given octets plain al b fit t = element_rooted f r (known id) place given octets plain al b t (ap (λ (z : Given). z.0) t.is) (ap (λ (z : Given). z.1.root) t.is) (ap (λ (z : Given). z.1.outer) t.is) (ap (λ (z : Given). z.1.aside) t.is) (ap (λ (z : Given). z.1.meter) t.is)
+  first_parted f r (element (under uri)) place given octets plain al b fit t = element_rooted f r (under uri) place given octets plain al b t (ap (λ (z : Given). z.0) t.is) (ap (λ (z : Given). z.1.root) t.is) (ap (λ (z : Given). z.1.outer) t.is) (ap (λ (z : Given). z.1.aside) t.is) (ap (λ (z : Given). z.1.meter) t.is)
   first_parted f r end_document place given octets plain al b fit t = absurd (none_some kind.ScRoot t.free)
   first_parted f r comment place given octets plain al b fit t = absurd (none_some kind.ScRoot t.free)
   first_parted f r instruction place given octets plain al b fit t = absurd (none_some kind.ScRoot t.free)
   first_parted f r start_document place given octets plain al b fit t = absurd fit
-  first_parted f r (attribute y) place given octets plain al b fit t = absurd fit
-  first_parted f r characters place given octets plain al b fit t = absurd fit
+  first_parted f r (attribute y v) place given octets plain al b fit t = absurd fit
+  first_parted f r (characters d) place given octets plain al b fit t = absurd fit
   first_parted f r end_element place given octets plain al b fit t = absurd fit
   first_parted f r declaration place given octets plain al b fit t = absurd fit
   first_parted f r self_contained place given octets plain al b fit t = absurd fit
   first_parted f r document_type place given octets plain al b fit t = absurd fit
   first_parted f r entity place given octets plain al b fit t = absurd fit
-  first_parted f r (informed y) place given octets plain al b fit t = absurd fit
 
-  pub rooted : (f : Config) (given : Given) → IsBytes bytes → prefixes g.options ≡ false → IsAligned (align_of g.options) (spot_in bytes f) → IsPlainBook g → IsSound f → IsFirst f → one g bytes f ≡ told given → Rooted f given
-  rooted f given octets plain al book sound b h =
+  pub rooted : (f : Config) (given : Given) → IsBytes bytes → prefixes g.options ≡ false → IsAligned (align_of g.options) (spot_in bytes f) → IsSetting g → IsStart g.schema.names → IsSound g f → IsFirst f → one g bytes f ≡ told given → Rooted f given
+  rooted f given octets plain al book names sound b h =
       let u = stepped g bytes f given h in
-      let fit : FitsContent f.tables u.rule.on u.rule.to = fits_at f outer.AloneFirst u.rule.on u.rule.to b.elements b.outer_is (codes_fit g bytes f u.rule u.spot book sound u.code).0 in
+      let fit : FitsContent f.tables u.rule.on u.rule.to = fits_at f outer.AloneFirst u.rule.on u.rule.to b.elements b.outer_is (codes_fit g bytes f u.rule u.spot book names sound u.code).0 in
       let parted : Parted bytes (plan_on g at_first f u.rule u.rule.on) (at_place f u.spot.place) given = subst (λ (z : Alone). Parted bytes (plan_on g z f u.rule u.rule.on) (at_place f u.spot.place) given) (alone_at f outer.AloneFirst b.elements b.outer_is) u.rest_is in
       let k = (spelled_item (rules_of g f) (closed_up g f book) (align_of g.options)).takes u.rule (spot_in bytes f) u.spot octets al u.code in
       let behind_code : IsAligned (align_of g.options) (spot_in bytes (at_place f u.spot.place)) = k.aligned in

@@ -5,22 +5,26 @@ use Rattle.exi_bits.specs.declared.fault.Kind.{Kind}
 use Rattle.exi_bits.specs.declared.fault.Kind.TheVariants as kind
 use Rattle.exi_bits.specs.Bits.{Spot}
 use Rattle.exi_bits.specs.Unsigned.{◌>>=◌}
-use Rattle.exi_gram.specs.Books.{IsPlainBook}
+use Rattle.exi_builtin.specs.declared.learnable.Learned.{Learned}
+use Rattle.exi_builtin.specs.declared.learnable.Learned.TheVariants as used
 use Rattle.exi_gram.specs.Codes.{code_at}
 use Rattle.exi_gram.specs.Switches.{align_of}
 use Rattle.exi_meter.specs.Metering.{Metering, without_level}
 use Rattle.exi_meter.specs.declared.tally.Tally.{Tally}
+use Rattle.exi_names.specs.Events.{Happening}
+use Rattle.exi_names.specs.Events as happening
+use Rattle.exi_names.specs.StartTables.{IsStart}
 use Rattle.exi_names.specs.declared.names.QName.{QName}
 use Rattle.exi_tables.specs.Partitions.{Partitions}
 use Rattle.exi_typed.specs.ReadStates.{Failure, failing}
 use Rattle.exi_typed.specs.Charging.{Unmetered, charging}
 use Rattle.exi_typed.proofs.ContextItems.{context, read_state, told}
-use Rattle.exi_reader.specs.Changes.{enclosing, has_level, is_alone, left_level, outer_behind, resumed, same_texts}
-use Rattle.exi_reader.specs.Configurations.{Body, Config, Setting, read_state_in, reached, rules_of, spot_in}
+use Rattle.exi_reader.specs.Changes.{Effect, effect_of, effected, emptied, enclosing, has_level, is_alone, leads, learns_name, left_level, outer_behind, resumed, retyped, same_texts, stays}
+use Rattle.exi_reader.specs.Configurations.{Body, Config, IsSetting, Setting, read_state_in, reached, rules_of, spot_in}
 use Rattle.exi_reader.specs.Metered.{Outcome, outcome, paying, with_meter}
 use Rattle.exi_reader.specs.OneEvent.{at_event, behind, charge_at, followed, one, remembered, unless}
 use Rattle.exi_reader.specs.Plans.{Alone, Given, Plan, alone_in, at_end, at_first, at_start, element_plan, no_element, nowhere, plan_of, plan_on, wrong_element}
-use Rattle.exi_reader.specs.Rules.{Rule, Telling, Terminal, attribute, characters, comment, declaration, document_type, element, end_document, end_element, entity, informed, instruction, known, self_contained, spelled, start_document}
+use Rattle.exi_reader.specs.Rules.{Rule, Telling, Terminal, attribute, characters, comment, declaration, document_type, element, end_document, end_element, entity, instruction, known, self_contained, spelled, start_document, under}
 use Rattle.exi_reader.specs.Runs.{is_end}
 use Rattle.exi_reader.specs.Sound.{FitsIn, IsSound}
 use Rattle.exi_reader.specs.declared.frames.Element.{Element}
@@ -171,8 +175,8 @@ module _ (base : Config) (b : Body) (bs : List Body) where
       refused_in a start_document xs x = no_element a
       refused_in a end_document xs x = no_element a
       refused_in a (element t) xs x = wrong_element a xs x.name
-      refused_in a (attribute t) xs x = no_element a
-      refused_in a characters xs x = no_element a
+      refused_in a (attribute t v) xs x = no_element a
+      refused_in a (characters d) xs x = no_element a
       refused_in a end_element xs x = no_element a
       refused_in a declaration xs x = no_element a
       refused_in a self_contained xs x = no_element a
@@ -180,7 +184,6 @@ module _ (base : Config) (b : Body) (bs : List Body) where
       refused_in a instruction xs x = no_element a
       refused_in a document_type xs x = no_element a
       refused_in a entity xs x = no_element a
-      refused_in a (informed symbol) xs x = no_element a
 
       first_is : (es : List Element) (o : Outer) → alone_in es o ≡ at_first → o ≡ outer.AloneFirst
       first_is [] (outer.Book grammar number) h = absurd cc
@@ -196,14 +199,33 @@ module _ (base : Config) (b : Body) (bs : List Body) where
       unfolding refused_in shifted Nests
       element_steps nowhere spelled x xs k al nests rt = goes_on None k.meter ((p nowhere (element spelled)).make x (record k { aside = xs })) (nests_moved r.to k.elements k.outer xs nests) (inl rt)
       element_steps nowhere (known id) x xs k al nests rt = goes_on None k.meter ((p nowhere (element (known id))).make x (record k { aside = xs })) (nests_moved r.to k.elements k.outer xs nests) (inl rt)
+      element_steps nowhere (under uri) x xs k al nests rt = goes_on None k.meter ((p nowhere (element (under uri))).make x (record k { aside = xs })) (nests_moved r.to k.elements k.outer xs nests) (inl rt)
       element_steps at_start spelled x xs k al nests rt = goes_on None k.meter ((p at_start (element spelled)).make x (record k { aside = xs })) (nests_moved r.to k.elements k.outer xs nests) (inl rt)
       element_steps at_start (known id) x xs k al nests rt = goes_on None k.meter ((p at_start (element (known id))).make x (record k { aside = xs })) (nests_moved r.to k.elements k.outer xs nests) (inl rt)
+      element_steps at_start (under uri) x xs k al nests rt = goes_on None k.meter ((p at_start (element (under uri))).make x (record k { aside = xs })) (nests_moved r.to k.elements k.outer xs nests) (inl rt)
       element_steps at_end spelled x xs k al nests rt = goes_on None k.meter ((p at_end (element spelled)).make x (record k { aside = xs })) (nests_moved r.to k.elements k.outer xs nests) (inl rt)
       element_steps at_end (known id) x xs k al nests rt = goes_on None k.meter ((p at_end (element (known id))).make x (record k { aside = xs })) (nests_moved r.to k.elements k.outer xs nests) (inl rt)
+      element_steps at_end (under uri) x xs k al nests rt = goes_on None k.meter ((p at_end (element (under uri))).make x (record k { aside = xs })) (nests_moved r.to k.elements k.outer xs nests) (inl rt)
       element_steps at_first spelled x [] k al nests rt = root_steps (same_texts b.name x.name) x.name k.meter ((p at_first (element spelled)).make x (record k { aside = [] })) refl refl refl refl (nests_moved r.to k.elements k.outer [] nests) (subst P (first_is k.elements k.outer al) nests)
       element_steps at_first (known id) x [] k al nests rt = root_steps (same_texts b.name x.name) x.name k.meter ((p at_first (element (known id))).make x (record k { aside = [] })) refl refl refl refl (nests_moved r.to k.elements k.outer [] nests) (subst P (first_is k.elements k.outer al) nests)
+      element_steps at_first (under uri) x [] k al nests rt = root_steps (same_texts b.name x.name) x.name k.meter ((p at_first (element (under uri))).make x (record k { aside = [] })) refl refl refl refl (nests_moved r.to k.elements k.outer [] nests) (subst P (first_is k.elements k.outer al) nests)
       element_steps at_first spelled x (y ∷ ys) k al nests rt = goes_on (refused_in at_first (element spelled) (y ∷ ys) x) k.meter ((p at_first (element spelled)).make x (record k { aside = y ∷ ys })) (nests_moved r.to k.elements k.outer (y ∷ ys) nests) (inl rt)
       element_steps at_first (known id) x (y ∷ ys) k al nests rt = goes_on (refused_in at_first (element (known id)) (y ∷ ys) x) k.meter ((p at_first (element (known id))).make x (record k { aside = y ∷ ys })) (nests_moved r.to k.elements k.outer (y ∷ ys) nests) (inl rt)
+      element_steps at_first (under uri) x (y ∷ ys) k al nests rt = goes_on (refused_in at_first (element (under uri)) (y ∷ ys) x) k.meter ((p at_first (element (under uri))).make x (record k { aside = y ∷ ys })) (nests_moved r.to k.elements k.outer (y ∷ ys) nests) (inl rt)
+
+      -- an attribute, whatever it does beside
+      effect_steps : (o : Option Kind) (e : Option Happening) (f : Effect) (k : Config) → Nests P k.outer k.aside → k.root ≡ old → Step (answer o k.meter (e, effected f r.to k)) (answer o (shifted_meter base.meter k.meter) (e, effected f r.to (shifted k)))
+      unfolding shifted
+      effect_steps o e leads k nests rt = goes_on o k.meter (e, effected leads r.to k) (nests_moved r.to k.elements k.outer k.aside nests) (inl rt)
+      effect_steps o e (retyped grammar) k nests rt = goes_on o k.meter (e, effected (retyped grammar) r.to k) nests (inl rt)
+      effect_steps o e emptied k nests rt = goes_on o k.meter (e, effected emptied r.to k) nests (inl rt)
+      effect_steps o e stays k nests rt = goes_on o k.meter (e, effected stays r.to k) nests (inl rt)
+
+      attribute_steps : (o : Option Kind) (e : Option Happening) (t : Telling) (u : Learned) (f : Effect) (k : Config) → Nests P k.outer k.aside → k.root ≡ old → Step (answer o k.meter (e, effected f r.to (learns_name t u k))) (answer o (shifted_meter base.meter k.meter) (e, effected f r.to (learns_name t u (shifted k))))
+      unfolding shifted
+      attribute_steps o e spelled u f k nests rt = effect_steps o e f (learns_name spelled u k) nests rt
+      attribute_steps o e (under uri) u f k nests rt = effect_steps o e f (learns_name (under uri) u k) nests rt
+      attribute_steps o e (known id) u f k nests rt = effect_steps o e f k nests rt
 
       -- ED stands outside of all elements, in a fragment
       alone_outside : (o : Outer) → is_alone o ≡ true → alone_in [] o ≡ nowhere → ⊥
@@ -215,15 +237,15 @@ module _ (base : Config) (b : Body) (bs : List Body) where
       alone_outside outer.AloneOver h e = absurd cc
       alone_outside outer.Ended h e = absurd cc
 
-      outside_all : (q : Partitions) (es : List Element) (o : Outer) → FitsIn q o es end_document r.to → es ≡ []
+      outside_all : (q : Partitions) (es : List Element) (o : Outer) → FitsIn g q o es end_document r.to → es ≡ []
       outside_all q [] o h = refl
-      outside_all q (e ∷ es) o h = absurd h
+      outside_all q (e ∷ es) o h = absurd h.0
 
-      nowhere_not : (q : Partitions) (es : List Element) (o : Outer) → FitsIn q o es end_document r.to → is_alone o ≡ true → alone_in es o ≡ nowhere → ⊥
+      nowhere_not : (q : Partitions) (es : List Element) (o : Outer) → FitsIn g q o es end_document r.to → is_alone o ≡ true → alone_in es o ≡ nowhere → ⊥
       nowhere_not q [] o h al e = alone_outside o al e
-      nowhere_not q (x ∷ xs) o h al e = absurd h
+      nowhere_not q (x ∷ xs) o h al e = absurd h.0
 
-      plan_steps : (a : Alone) (t : Terminal) (x : (p a t).Item) (k : Config) → alone_in k.elements k.outer ≡ a → FitsIn c.tables k.outer k.elements t r.to → Nests P k.outer k.aside → k.root ≡ old → LevelsOf k → Step (answer (refused_in a t k.aside x) k.meter ((p a t).make x k)) (answer (refused_in a t (k.aside ++ b ∷ bs) x) (shifted_meter base.meter k.meter) ((p a t).make x (shifted k)))
+      plan_steps : (a : Alone) (t : Terminal) (x : (p a t).Item) (k : Config) → alone_in k.elements k.outer ≡ a → FitsIn g c.tables k.outer k.elements t r.to → Nests P k.outer k.aside → k.root ≡ old → LevelsOf k → Step (answer (refused_in a t k.aside x) k.meter ((p a t).make x k)) (answer (refused_in a t (k.aside ++ b ∷ bs) x) (shifted_meter base.meter k.meter) ((p a t).make x (shifted k)))
       unfolding refused_in shifted Nests
       plan_steps nowhere start_document x k al fit nests rt lev = goes_on (no_element nowhere) k.meter ((p nowhere start_document).make x k) (nests_moved r.to k.elements k.outer k.aside nests) (inl rt)
       plan_steps at_start start_document x k al fit nests rt lev = goes_on (no_element at_start) k.meter ((p at_start start_document).make x k) (nests_moved r.to k.elements k.outer k.aside nests) (inl rt)
@@ -234,9 +256,8 @@ module _ (base : Config) (b : Body) (bs : List Body) where
       plan_steps at_first end_document x k al fit nests rt lev = end_steps (no_element at_first) k.aside k (outside_all c.tables k.elements k.outer fit) nests rt lev.behind_it
       plan_steps at_end end_document x k al fit nests rt lev = end_steps (no_element at_end) k.aside k (outside_all c.tables k.elements k.outer fit) nests rt lev.behind_it
       plan_steps a (element t) x k al fit nests rt lev = element_steps a t x k.aside k al nests rt
-      plan_steps a (attribute spelled) x k al fit nests rt lev = goes_on (no_element a) k.meter ((p a (attribute spelled)).make x k) (nests_moved r.to k.elements k.outer k.aside nests) (inl rt)
-      plan_steps a (attribute (known id)) x k al fit nests rt lev = goes_on (no_element a) k.meter ((p a (attribute (known id))).make x k) (nests_moved r.to k.elements k.outer k.aside nests) (inl rt)
-      plan_steps a characters x k al fit nests rt lev = goes_on (no_element a) k.meter ((p a characters).make x k) (nests_moved r.to k.elements k.outer k.aside nests) (inl rt)
+      plan_steps a (attribute t v) x k al fit nests rt lev = attribute_steps (no_element a) (Some (happening.at x.0.name x.1)) t (used.At x.0.id) (effect_of g v x.0.id x.1) k nests rt
+      plan_steps a (characters d) x k al fit nests rt lev = goes_on (no_element a) k.meter ((p a (characters d)).make x k) (nests_moved r.to k.elements k.outer k.aside nests) (inl rt)
       plan_steps a end_element x k al fit nests rt lev =
           let made : Given = (p a end_element).make x k in
           goes_left (no_element a) k.meter made ((p a end_element).make x (shifted k)) nests (inl rt) (ap (λ (z : Metering). (made.0, record (shifted made.1) { meter = z })) (left_shifted (has_level k.elements k.outer) k.meter lev.own))
@@ -246,7 +267,6 @@ module _ (base : Config) (b : Body) (bs : List Body) where
       plan_steps a instruction x k al fit nests rt lev = goes_on (no_element a) k.meter ((p a instruction).make x k) (nests_moved r.to k.elements k.outer k.aside nests) (inl rt)
       plan_steps a document_type x k al fit nests rt lev = goes_on (no_element a) k.meter ((p a document_type).make x k) (nests_moved r.to k.elements k.outer k.aside nests) (inl rt)
       plan_steps a entity x k al fit nests rt lev = goes_on (no_element a) k.meter ((p a entity).make x k) (nests_moved r.to k.elements k.outer k.aside nests) (inl rt)
-      plan_steps a (informed symbol) x k al fit nests rt lev = goes_on (no_element a) k.meter ((p a (informed symbol)).make x k) nests (inl rt)
 
       -- ---- a plan
       as_same : (bytes : List ℕ) (a : Alone) (t : Terminal) (d : Config) → followed bytes bit (p a t) d ≡ followed_as bytes bit (p a t) (refused_in a t c.aside) d
@@ -254,8 +274,8 @@ module _ (base : Config) (b : Body) (bs : List Body) where
       as_same bytes a start_document d = refl
       as_same bytes a end_document d = refl
       as_same bytes a (element t) d = refl
-      as_same bytes a (attribute t) d = refl
-      as_same bytes a characters d = refl
+      as_same bytes a (attribute t v) d = refl
+      as_same bytes a (characters e) d = refl
       as_same bytes a end_element d = refl
       as_same bytes a declaration d = refl
       as_same bytes a self_contained d = refl
@@ -263,7 +283,6 @@ module _ (base : Config) (b : Body) (bs : List Body) where
       as_same bytes a instruction d = refl
       as_same bytes a document_type d = refl
       as_same bytes a entity d = refl
-      as_same bytes a (informed symbol) d = refl
 
       as_element : (bytes : List ℕ) (a : Alone) (t : Telling) (xs : List Body) (d : Config) → followed bytes bit (element_plan g a xs t r) d ≡ followed_as bytes bit (p a (element t)) (refused_in a (element t) xs) d
       unfolding followed followed_as refused_in charge_at
@@ -274,8 +293,8 @@ module _ (base : Config) (b : Body) (bs : List Body) where
       as_other bytes a start_document d = refl
       as_other bytes a end_document d = refl
       as_other bytes a (element t) d = as_element bytes a t (c.aside ++ b ∷ bs) d
-      as_other bytes a (attribute t) d = refl
-      as_other bytes a characters d = refl
+      as_other bytes a (attribute t v) d = refl
+      as_other bytes a (characters e) d = refl
       as_other bytes a end_element d = refl
       as_other bytes a declaration d = refl
       as_other bytes a self_contained d = refl
@@ -283,9 +302,8 @@ module _ (base : Config) (b : Body) (bs : List Body) where
       as_other bytes a instruction d = refl
       as_other bytes a document_type d = refl
       as_other bytes a entity d = refl
-      as_other bytes a (informed symbol) d = refl
 
-      module _ (bytes : List ℕ) (place : ℕ) (tally : Tally) (room : Room base.meter tally) (fit : FitsIn c.tables c.outer c.elements r.on r.to) (nests : Nests P c.outer c.aside) (rt : c.root ≡ old) (lev : LevelsOf c) where
+      module _ (bytes : List ℕ) (place : ℕ) (tally : Tally) (room : Room base.meter tally) (fit : FitsIn g c.tables c.outer c.elements r.on r.to) (nests : Nests P c.outer c.aside) (rt : c.root ≡ old) (lev : LevelsOf c) where
         abbrev a : Alone
         a = alone_in c.elements c.outer
 
@@ -364,11 +382,11 @@ module _ (base : Config) (b : Body) (bs : List Body) where
             (paid_split bit base.meter (h.rest false) (h.rest true) h.dues c.meter now))
 
   -- ---- one event
-  module _ (P : Outer → Type 0) (lasts : Lasts P) (g : Setting) (bytes : List ℕ) (book : IsPlainBook g) (tally : Tally) (room : Room base.meter tally) (c : Config) (sound : IsSound c) (nests : Nests P c.outer c.aside) (lev : LevelsOf c) where
+  module _ (P : Outer → Type 0) (lasts : Lasts P) (g : Setting) (bytes : List ℕ) (book : IsSetting g) (names : IsStart g.schema.names) (tally : Tally) (room : Room base.meter tally) (c : Config) (sound : IsSound g c) (nests : Nests P c.outer c.aside) (lev : LevelsOf c) where
     code_steps : (q : Result (Rule × Spot) Fault) → code_at (align_of g.options) (rules_of g c) (spot_in bytes c) ≡ q → Fair tally (failing c.meter q >>= λ chosen. followed bytes c.place (plan_of g c chosen.0) (at_place c chosen.1.place)) → Step P lasts c.place c.root (failing c.meter q >>= λ chosen. followed bytes c.place (plan_of g c chosen.0) (at_place c chosen.1.place)) (failing (shifted_meter base.meter c.meter) q >>= λ chosen. followed bytes c.place (plan_of g (shifted c) chosen.0) (at_place (shifted c) chosen.1.place))
     unfolding Step shifted
     code_steps (Err e) h fair = refl
-    code_steps (Ok chosen) h fair = followed_steps P lasts c.place c.root g c chosen.0 bytes chosen.1.place tally room (codes_fit g bytes c chosen.0 chosen.1 book sound h).0 nests refl lev fair
+    code_steps (Ok chosen) h fair = followed_steps P lasts c.place c.root g c chosen.0 bytes chosen.1.place tally room (codes_fit g bytes c chosen.0 chosen.1 book names sound h).0 nests refl lev fair
 
     pub one_steps : Fair tally (one g bytes c) → Step P lasts c.place c.root (one g bytes c) (one g bytes (shifted c))
     unfolding one shifted
@@ -377,7 +395,7 @@ module _ (base : Config) (b : Body) (bs : List Body) where
     code_splits : Room base.meter c.meter.used → (q : Result (Rule × Spot) Fault) → code_at (align_of g.options) (rules_of g c) (spot_in bytes c) ≡ q → Passes c.place base.meter (failing (shifted_meter base.meter c.meter) q >>= λ chosen. followed bytes c.place (plan_of g (shifted c) chosen.0) (at_place (shifted c) chosen.1.place)) ⊎ Room base.meter (used_of (failing c.meter q >>= λ chosen. followed bytes c.place (plan_of g c chosen.0) (at_place c chosen.1.place)))
     unfolding shifted used_of
     code_splits now (Err e) h = inr now
-    code_splits now (Ok chosen) h = followed_splits P lasts c.place c.root g c chosen.0 bytes chosen.1.place tally room (codes_fit g bytes c chosen.0 chosen.1 book sound h).0 nests refl lev now
+    code_splits now (Ok chosen) h = followed_splits P lasts c.place c.root g c chosen.0 bytes chosen.1.place tally room (codes_fit g bytes c chosen.0 chosen.1 book names sound h).0 nests refl lev now
 
     pub one_splits : Room base.meter c.meter.used → Passes c.place base.meter (one g bytes (shifted c)) ⊎ Room base.meter (used_of (one g bytes c))
     unfolding one shifted

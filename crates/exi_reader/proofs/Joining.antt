@@ -1,14 +1,13 @@
 -- A reader at a fragment that was read by itself: it can take what came of it, and turns lead to where it is then.
 use Rattle.std.proofs.Common.{◌≡◌, ◌≤◌, ℕ, ◌+◌, ◌*◌, Bool, true, false, cond, List, [], ◌∷◌, ◌++◌, length, Option, Some, None, refl, sym, ap, ◌∙◌, subst, arith}
 use Rattle.exi_bits.specs.Bits.{IsAligned, IsBytes}
-use Rattle.exi_gram.specs.Books.{IsPlainBook}
 use Rattle.exi_gram.specs.Switches.{align_of}
 use Rattle.exi_meter.specs.Metering.{IsWithin}
 use Rattle.exi_names.specs.Events.{Happening}
 use Rattle.exi_names.specs.StartTables.{IsStart}
 use Rattle.exi_names.specs.declared.names.QName.{QName}
 use Rattle.exi_reader.specs.Changes.{innermost, put_aside, same_texts, texts_of}
-use Rattle.exi_reader.specs.Configurations.{Config, Setting, first_config}
+use Rattle.exi_reader.specs.Configurations.{Config, IsSetting, Setting, first_config}
 use Rattle.exi_reader.specs.Handing.{Standing}
 use Rattle.exi_reader.specs.Joins.{CanJoin, CanSplice, IsPlaceBehind, JoinedAs}
 use Rattle.exi_reader.specs.OneEvent.{one}
@@ -28,7 +27,7 @@ use Rattle.exi_reader.proofs.Turning.{reached_sound, reader_name, view}
 use Rattle.exi_reader.proofs.Withins.{run_kept}
 
 -- ---- turns
-leads_in : (g : Setting) (bytes : List ℕ) (turns : List (Option Happening)) (c last : Config) → IsPlainBook g → IsIn g bytes c → Leads g bytes c turns last → IsIn g bytes last
+leads_in : (g : Setting) (bytes : List ℕ) (turns : List (Option Happening)) (c last : Config) → IsSetting g → IsIn g bytes c → Leads g bytes c turns last → IsIn g bytes last
 leads_in g bytes [] c last book at l = subst (λ (z : Config). IsIn g bytes z) l at
 leads_in g bytes (e ∷ turns) c last book at l = leads_in g bytes turns l.0 last book (one_is_spelled g bytes c (e, l.0) book at (by_result bytes c (one g bytes c) e l.0 l.1)).3 l.2
 
@@ -89,7 +88,7 @@ module _ (s : Standing) (e : End) (at : IsReached (view s true)) (out : IsOutcom
     can_splice = record {
       name = reader_name s true (view s true) refl refl at;
       fitting = fit;
-      level = omega (arith, (levels_of c (reached_sound (view s true) at)).behind_it some_aside);
+      level = omega (arith, (levels_of s.setting c (reached_sound (view s true) at)).behind_it some_aside);
       join = can_join (spliced c e) refl goes;
     }
 
@@ -102,7 +101,7 @@ module _ (s : Standing) (e : End) (at : IsReached (view s true)) (out : IsOutcom
         start = at.start;
         limits = at.limits;
         within = at.within;
-        book = subst IsPlainBook (sym a) at.book;
+        book = subst IsSetting (sym a) at.book;
         names = subst (λ (z : Setting). IsStart z.schema.names) (sym a) at.names;
         octets = subst IsBytes (sym b) at.octets;
         turns = at.turns ++ g.0;

@@ -15,6 +15,7 @@ use Rattle.exi_builtin.specs.Learning.{Learning, added_by, after_use, changed_at
 use Rattle.exi_names.specs.declared.names.NameId.{NameId}
 use Rattle.exi_tables.specs.Growth.{KeepsAll}
 use Rattle.exi_tables.specs.Partitions.{Partitions}
+use Rattle.exi_reader.specs.Configurations.{Setting}
 use Rattle.exi_reader.specs.Sound.{HasGrammar, IsElementOfName, IsLeastName, IsOfNames, IsSoundElement, IsSoundGrammar, IsSoundLearning, IsStateOfName}
 use Rattle.exi_reader.specs.declared.frames.Element.{Element}
 use Rattle.exi_reader.specs.declared.frames.State.{State}
@@ -84,14 +85,14 @@ names_added (x ∷ xs) more (suc number) g is = names_added xs more number g is
 has_on : (l m : Learning) (number : ℕ) (name : NameId) → KeepsNames l.grammars m.grammars → HasGrammar l number name → HasGrammar m number name
 has_on l m number name names h = let n = names number h.grammar h.stands in record { grammar = n.0; stands = n.1; same = n.2 ∙ h.same }
 
-state_on : (l m : Learning) (name : NameId) (s : State) → KeepsNames l.grammars m.grammars → IsStateOfName l name s → IsStateOfName m name s
-state_on l m name (state.BuiltIn (room.StartTag number)) names h = has_on l m number name names h
-state_on l m name (state.BuiltIn (room.Content number)) names h = has_on l m number name names h
-state_on l m name (state.BuiltIn room.Fragment) names h = h
-state_on l m name (state.Informed grammar number empty) names h = h
+state_on : (g : Setting) (l m : Learning) (name : NameId) (s : State) → KeepsNames l.grammars m.grammars → IsStateOfName g l name s → IsStateOfName g m name s
+state_on g l m name (state.BuiltIn (room.StartTag number)) names h = has_on l m number name names h
+state_on g l m name (state.BuiltIn (room.Content number)) names h = has_on l m number name names h
+state_on g l m name (state.BuiltIn room.Fragment) names h = h
+state_on g l m name (state.Informed grammar number empty) names h = h
 
-pub open_on : (p q : Partitions) (l m : Learning) → KeepsAll p q → KeepsNames l.grammars m.grammars → (e : Element) → IsSoundElement p l e → IsSoundElement q m e
-open_on p q l m keeps names e s = record { name = name_on p q e.name keeps s.name; state = state_on l m e.name e.state names s.state }
+pub open_on : (g : Setting) (p q : Partitions) (l m : Learning) → KeepsAll p q → KeepsNames l.grammars m.grammars → (e : Element) → IsSoundElement g p l e → IsSoundElement g q m e
+open_on g p q l m keeps names e s = record { name = name_on p q e.name keeps s.name; state = state_on g l m e.name e.state names s.state }
 
 -- ---- a use
 all_changed : (P : ElementGrammar → Type 0) (gs : List ElementGrammar) (place : ℕ) (change : ElementGrammar → ElementGrammar) → ((g : ElementGrammar) → P g → P (change g)) → All P gs → All P (changed_at gs place change)

@@ -5,15 +5,19 @@ mod ClosedUp
 mod CodeParts
 mod CodePlaces
 mod CodeRefusals
+mod Effects
 mod Endings
 mod EventOne
 mod Fewness
 mod FirstTurns
+mod FirstNames
 pub mod Fitting
+mod Handed
 mod InStep
 mod Joining
 mod KeptCodes
 mod Learns
+mod LookUps
 mod Metering
 mod Names
 mod Passing
@@ -33,6 +37,9 @@ mod StepParts
 mod Steppers
 mod Stepping
 mod Steps
+mod ToldNames
 pub mod Turning
+mod UnderNames
+mod TypeValues
 mod Withins
 mod Worked

@@ -5,21 +5,24 @@ use Rattle.exi_bits.specs.declared.fault.Kind.{Kind}
 use Rattle.exi_bits.specs.declared.fault.Kind.TheVariants as kind
 use Rattle.exi_bits.specs.Bits.{Spot}
 use Rattle.exi_bits.specs.Unsigned.{◌>>=◌}
+use Rattle.exi_builtin.specs.declared.learnable.Learned.{Learned}
+use Rattle.exi_builtin.specs.declared.learnable.Learned.TheVariants as used
 use Rattle.exi_gram.specs.Codes.{code_at}
 use Rattle.exi_gram.specs.Switches.{align_of}
 use Rattle.exi_meter.specs.Metering.{Metering, event_fits, level_fits, text_fits, with_event, with_level, with_text}
 use Rattle.exi_names.specs.Events.{Happening}
+use Rattle.exi_names.specs.Events as happening
 use Rattle.exi_tables.specs.Partitions.{Partitions}
 use Rattle.exi_typed.specs.ReadStates.{ReadState, Failure, failing}
 use Rattle.exi_typed.specs.Charging.{Charge, Unmetered, charging}
 use Rattle.exi_typed.specs.Metered.{IsMetered}
 use Rattle.exi_typed.proofs.ContextItems.{context, read_state, told}
-use Rattle.exi_reader.specs.Changes.{has_level, left_level, resumed}
+use Rattle.exi_reader.specs.Changes.{Effect, effect_of, effected, emptied, has_level, leads, learns_name, left_level, resumed, retyped, stays}
 use Rattle.exi_reader.specs.Configurations.{Body, Config, Setting, read_state_in, reached, rules_of, spot_in}
 use Rattle.exi_reader.specs.Metered.{Due, IsPaid, OneIsMetered, Outcome, event, level, outcome, paying, text, with_meter}
 use Rattle.exi_reader.specs.OneEvent.{at_event, behind, charge_at, event_charge, failed, followed, is_start, level_charge, moved_limit, one, remembered, unless}
 use Rattle.exi_reader.specs.Plans.{Alone, Given, Plan, alone_in, at_end, at_first, at_start, nowhere, plan_of, plan_on}
-use Rattle.exi_reader.specs.Rules.{Rule, Terminal, attribute, characters, comment, declaration, document_type, element, end_document, end_element, entity, informed, instruction, known, self_contained, spelled, start_document}
+use Rattle.exi_reader.specs.Rules.{Rule, Telling, Terminal, attribute, characters, comment, declaration, document_type, element, end_document, end_element, entity, instruction, known, self_contained, spelled, start_document, under}
 use Rattle.exi_reader.proofs.EventOne.{at_place}
 use Rattle.exi_reader.proofs.PlanFacts.{plan_reads}
 
@@ -81,6 +84,25 @@ resumed_makes : (e : Option Happening) (bs : List Body) (k : Config) → Makes {
 resumed_makes e [] k = record { made = record { event = e; next = resumed [] k; leaves = false }; is = λ m. refl }
 resumed_makes e (b ∷ bs) k = record { made = record { event = e; next = resumed (b ∷ bs) k; leaves = true }; is = λ m. refl }
 
+-- the meter has no part in what an attribute makes
+learned_metered : (s : Telling) (use_of : Learned) (k : Config) (m : Metering) → learns_name s use_of (with_meter m k) ≡ with_meter m (learns_name s use_of k)
+learned_metered spelled use_of k m = refl
+learned_metered (under uri) use_of k m = refl
+learned_metered (known id) use_of k m = refl
+
+effect_metered : (e : Effect) (to : ℕ) (k : Config) (m : Metering) → effected e to (with_meter m k) ≡ with_meter m (effected e to k)
+effect_metered leads to k m = refl
+effect_metered (retyped grammar) to k m = refl
+effect_metered emptied to k m = refl
+effect_metered stays to k m = refl
+
+abbrev given_by : Option Happening → Config → Given
+given_by h k = (h, k)
+
+attribute_metered : (e : Effect) (to : ℕ) (s : Telling) (use_of : Learned) (h : Option Happening) (k : Config) (m : Metering) → given_by h (effected e to (learns_name s use_of (with_meter m k))) ≡ given_by h (with_meter m (effected e to (learns_name s use_of k)))
+attribute_metered e to s use_of h k m =
+    ap (λ (z : Config). given_by h (effected e to z)) (learned_metered s use_of k m) ∙ ap (λ (z : Config). given_by h z) (effect_metered e to (learns_name s use_of k) m)
+
 module _ (g : Setting) (c : Config) (r : Rule) where
   abbrev p : Alone → Terminal → Plan
   p a t = plan_on g a c r t
@@ -99,16 +121,19 @@ module _ (g : Setting) (c : Config) (r : Rule) where
   makes a start_document x k = kept a start_document x k (λ m. refl)
   makes a end_document x k = end_makes a x k
   makes nowhere (element spelled) x k = kept nowhere (element spelled) x k (λ m. refl)
+  makes nowhere (element (under uri)) x k = kept nowhere (element (under uri)) x k (λ m. refl)
   makes nowhere (element (known id)) x k = kept nowhere (element (known id)) x k (λ m. refl)
   makes at_start (element spelled) x k = kept at_start (element spelled) x k (λ m. refl)
+  makes at_start (element (under uri)) x k = kept at_start (element (under uri)) x k (λ m. refl)
   makes at_start (element (known id)) x k = kept at_start (element (known id)) x k (λ m. refl)
   makes at_first (element spelled) x k = kept at_first (element spelled) x k (λ m. refl)
+  makes at_first (element (under uri)) x k = kept at_first (element (under uri)) x k (λ m. refl)
   makes at_first (element (known id)) x k = kept at_first (element (known id)) x k (λ m. refl)
   makes at_end (element spelled) x k = kept at_end (element spelled) x k (λ m. refl)
+  makes at_end (element (under uri)) x k = kept at_end (element (under uri)) x k (λ m. refl)
   makes at_end (element (known id)) x k = kept at_end (element (known id)) x k (λ m. refl)
-  makes a (attribute spelled) x k = kept a (attribute spelled) x k (λ m. refl)
-  makes a (attribute (known id)) x k = kept a (attribute (known id)) x k (λ m. refl)
-  makes a characters x k = kept a characters x k (λ m. refl)
+  makes a (attribute s v) x k = kept a (attribute s v) x k (λ m. attribute_metered (effect_of g v x.0.id x.1) r.to s (used.At x.0.id) (Some (happening.at x.0.name x.1)) k m)
+  makes a (characters d) x k = kept a (characters d) x k (λ m. refl)
   makes a end_element x k = record { made = record { event = ((p a end_element).make x k).0; next = ((p a end_element).make x k).1; leaves = has_level k.elements k.outer }; is = λ m. refl }
   makes a declaration x k = kept a declaration x k (λ m. refl)
   makes a self_contained x k = kept a self_contained x k (λ m. refl)
@@ -116,7 +141,6 @@ module _ (g : Setting) (c : Config) (r : Rule) where
   makes a instruction x k = kept a instruction x k (λ m. refl)
   makes a document_type x k = kept a document_type x k (λ m. refl)
   makes a entity x k = kept a entity x k (λ m. refl)
-  makes a (informed symbol) x k = kept a (informed symbol) x k (λ m. refl)
 
 -- ---- a plan
 abbrev pub texts : List Charge → List Due

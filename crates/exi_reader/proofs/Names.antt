@@ -1,30 +1,17 @@
--- Names that were read: the tables stay small, and what is read behind them keeps them.
-use Rattle.std.proofs.Common.{◌≡◌, ◌<◌, ◌-◌, ◌^◌, ℕ, Bool, List, [], length, get_or, Option, Some, None, option_map, refl, ap, ◌∙◌, arith}
+-- Names that were read: what is read behind them keeps them.
+use Rattle.std.proofs.Common.{◌≡◌, ◌<◌, ℕ, Bool, List, [], length, get_or, Option, Some, None, option_map, refl, ap, ◌∙◌}
 use Rattle.std.specs.Prelude.{slice_get}
 use Rattle.std.proofs.lemmas.Option.{get_or_from_slice_get, slice_get-get_or, slice_get_within}
 use Rattle.exi_bits.specs.declared.align.Align.{Align}
-use Rattle.exi_tables.specs.Growth.{KeepsAll, KeepsPlaces, NoneLonger}
+use Rattle.exi_tables.specs.Growth.{KeepsAll, KeepsPlaces}
 use Rattle.exi_tables.specs.Partitions.{Partitions, locals, prefixes, uris}
 use Rattle.exi_typed.specs.ReadStates.{ReadState}
 use Rattle.exi_typed.specs.NameValues.{name_value_at}
 use Rattle.exi_typed.specs.Places.{IsNameAt, IsPlaceIn, name_in, text_in}
-use Rattle.exi_typed.specs.Strings.{Named, name_at}
+use Rattle.exi_typed.specs.Strings.{Named}
 use Rattle.exi_typed.specs.declared.names.NameAt.{NameAt}
-use Rattle.exi_typed.proofs.Additions.{few_up, name_up, one_name}
 use Rattle.exi_typed.proofs.ContextItems.{told}
 use Rattle.exi_typed.proofs.Goings.{name_value_goes}
-
-pub name_few : (keep : Bool) (a : Align) (x : Named) (c d : ReadState) → name_at keep a c ≡ told (x, d) → NoneLonger (2 ^ 31 - 2) c.context.tables → NoneLonger (2 ^ 31) d.context.tables
-name_few keep a x c d e few = few_up (2 ^ 31 - 2) 1 (2 ^ 31) one_name c.context.tables d.context.tables (omega arith) (omega arith) (omega arith) (omega arith) (omega arith) (name_up keep a x c d e) few
-
-pub still_few : (p : Partitions) → NoneLonger (2 ^ 31 - 2) p → NoneLonger (2 ^ 31) p
-still_few p few = record {
-  few_uris = omega (arith, few.few_uris);
-  few_locals = λ i. omega (arith, few.few_locals i);
-  few_prefixes = λ i. omega (arith, few.few_prefixes i);
-  few_values = omega (arith, few.few_values);
-  few_own = λ name. omega (arith, few.few_own name);
-}
 
 pub name_value_keeps : (keep : Bool) (a : Align) (x : Named) (c d : ReadState) → name_value_at keep a c ≡ told (x, d) → KeepsAll c.context.tables d.context.tables
 name_value_keeps keep a x c d e = (name_value_goes keep a x c d e).keeps

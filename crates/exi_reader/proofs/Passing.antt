@@ -3,7 +3,6 @@ use Rattle.std.proofs.Common.{◌≡◌, ◌⊎◌, inl, inr, ℕ, ◌+◌, ◌*
 use Rattle.std.proofs.lemmas.Bool.{leb-true, le-leb}
 use Rattle.exi_bits.specs.Bits.{IsBytes}
 use Rattle.exi_bits.specs.declared.fault.Kind.TheVariants as kind
-use Rattle.exi_gram.specs.Books.{IsPlainBook}
 use Rattle.exi_meter.specs.Metering.{Bounds, Metering, nothing_used, tally_fits, text_fits, with_text}
 use Rattle.exi_names.specs.Events.{Happening}
 use Rattle.exi_names.specs.StartTables.{IsStart}
@@ -11,7 +10,7 @@ use Rattle.exi_names.specs.declared.names.QName.{QName}
 use Rattle.exi_typed.specs.ReadStates.{Failure}
 use Rattle.exi_typed.proofs.ContextItems.{told}
 use Rattle.exi_reader.specs.Changes.{same_texts}
-use Rattle.exi_reader.specs.Configurations.{Body, Config, Setting}
+use Rattle.exi_reader.specs.Configurations.{Body, Config, IsSetting, Setting}
 use Rattle.exi_reader.specs.Laws.{IsWithinLimits}
 use Rattle.exi_reader.specs.Metered.{Due, due_fits, limit_of}
 use Rattle.exi_reader.specs.OneEvent.{one}
@@ -40,7 +39,7 @@ IsOver o = o ≡ outer.AloneOver
 not_over : outer.AloneFirst ≡ outer.AloneOver → ⊥
 not_over e = absurd cc
 
-module _ (j : Job) (byte : ℕ) (c : Config) (limits : Bounds) (at : AtFragment j.setting byte c) (octets : IsBytes j.bytes) (book : IsPlainBook j.setting) (names : IsStart j.setting.schema.names) (within : IsWithinLimits c.meter.limits c.meter.used) where
+module _ (j : Job) (byte : ℕ) (c : Config) (limits : Bounds) (at : AtFragment j.setting byte c) (octets : IsBytes j.bytes) (book : IsSetting j.setting) (names : IsStart j.setting.schema.names) (within : IsWithinLimits c.meter.limits c.meter.used) where
   module _ (last : Config) (x : Option Happening) (e : End) (at_end : turn j.setting j.bytes last ≡ ends x e) (much : tally_fits c.meter (tally_of e) ≡ false) where
     abbrev g : Setting
     g = j.setting
@@ -119,17 +118,17 @@ module _ (j : Job) (byte : ℕ) (c : Config) (limits : Bounds) (at : AtFragment 
     unfolding used_of
     next_room f y next h r = (let used : Room c.meter (used_of (told (y, next))) = subst (λ z. Room c.meter (used_of z)) h r in used)
 
-    module _ (P : Outer → Type 0) (lasts : Lasts P) (f : Config) (sound : IsSound f) (nests : Nests P f.outer f.aside) where
+    module _ (P : Outer → Type 0) (lasts : Lasts P) (f : Config) (sound : IsSound g f) (nests : Nests P f.outer f.aside) where
       splits : Room c.meter f.meter.used → Passes f.place c.meter (one g j.bytes (whole f)) ⊎ Room c.meter (used_of (one g j.bytes f))
-      splits now = one_splits c at.body at.bodies P lasts g j.bytes book f.meter.used now f sound nests (levels_of f sound) now
+      splits now = one_splits c at.body at.bodies P lasts g j.bytes book names f.meter.used now f sound nests (levels_of g f sound) now
 
       steps : (y : Option Happening) (next : Config) → one g j.bytes f ≡ told (y, next) → Room c.meter next.meter.used → Step c at.body at.bodies P lasts f.place f.root (told (y, next)) (one g j.bytes (whole f))
       unfolding Fair
-      steps y next h r = step_of g j.bytes byte c at.body at.bodies at.going book P lasts next.meter.used r f sound nests (told (y, next)) h (below_same next.meter.used)
+      steps y next h r = step_of g j.bytes byte c at.body at.bodies at.going book names P lasts next.meter.used r f sound nests (told (y, next)) h (below_same next.meter.used)
 
     -- ---- behind the first element
     abbrev lasts_over : Lasts IsOver
-    lasts_over = over_lasts g j.bytes byte c at.body at.bodies at.going book
+    lasts_over = over_lasts g j.bytes byte c at.body at.bodies at.going book names
 
     late_goes : (f : Config) (y : Option Happening) (next : Config) → turn g j.bytes f ≡ goes y next → is_end next.outer ≡ false → Step c at.body at.bodies IsOver lasts_over f.place f.root (told (y, next)) (one g j.bytes (whole f)) → (Nests IsOver next.outer next.aside → Stops next) → Stops f
     unfolding Step shifted
@@ -137,12 +136,12 @@ module _ (j : Job) (byte : ℕ) (c : Config) (limits : Bounds) (at : AtFragment 
     late_goes f y next h alive (inr (inl q)) more = absurd (true_false (is_end next.outer) (ap (λ (w : Outer). is_end w) q.ended) alive)
     late_goes f y next h alive (inr (inr q)) more = absurd (not_over q.first.there)
 
-    late_stops : (turns : List (Option Happening)) (f : Config) → IsSound f → Nests IsOver f.outer f.aside → f.start ≡ start.Fragment byte → Room c.meter f.meter.used → Leads g j.bytes f turns last → Stops f
+    late_stops : (turns : List (Option Happening)) (f : Config) → IsSound g f → Nests IsOver f.outer f.aside → f.start ≡ start.Fragment byte → Room c.meter f.meter.used → Leads g j.bytes f turns last → Stops f
     late_stops [] f sound nests from now l = or_later f (splits IsOver lasts_over f sound nests now) (λ r. absurd (ended f from r (last_at f l)))
     late_stops (y ∷ turns) f sound nests from now l =
         let n = goes_is g j.bytes f y l.0 l.1 in
         let from_next : l.0.start ≡ start.Fragment byte = one_start g j.bytes f (y, l.0) n.is ∙ from in
-        let sound_next : IsSound l.0 = steps_keep_sound g j.bytes f l.0 y book sound n.is in
+        let sound_next : IsSound g l.0 = steps_keep_sound g j.bytes f l.0 y book names sound n.is in
         or_later f (splits IsOver lasts_over f sound nests now)
         (λ r. late_goes f y l.0 l.1 n.going (steps IsOver lasts_over f sound nests y l.0 n.is (next_room f y l.0 n.is r)) (λ k. late_stops turns l.0 sound_next k from_next (next_room f y l.0 n.is r) l.2))
 
@@ -153,7 +152,7 @@ module _ (j : Job) (byte : ℕ) (c : Config) (limits : Bounds) (at : AtFragment 
     record First (y : Option Happening) (f1 : Config) : Type 0 where
       pub started : Started start_at (y, f1) (8 * byte)
       pub turn_is : turn g j.bytes (whole start_at) ≡ goes y (whole f1)
-      pub sound : IsSound f1
+      pub sound : IsSound g f1
       pub from : f1.start ≡ start.Fragment byte
       pub room : Room c.meter f1.meter.used
       pub nests : Nests IsAlone f1.outer f1.aside
@@ -168,12 +167,12 @@ module _ (j : Job) (byte : ℕ) (c : Config) (limits : Bounds) (at : AtFragment 
     first_turn y f1 h =
         let n = goes_is g j.bytes start_at y f1 h in
         let st = started_there j byte c limits at octets book names (y, f1) n.is in
-        let sound : IsSound start_at = sound0 j byte c limits at octets book names in
+        let sound : IsSound g start_at = sound0 j byte c limits at octets book names in
         let room : Room c.meter f1.meter.used = subst (λ (m : Metering). Room c.meter m.used) (sym st.meter) room_first in
         record {
           started = st;
           turn_is = goes_first y f1 (not_end j byte c limits at octets book names f1.outer outer.AloneFirst st.outer_is refl) st.root (steps IsAlone alone_lasts start_at sound (nests_start j byte c limits at octets book names) y f1 n.is room);
-          sound = steps_keep_sound g j.bytes start_at f1 y book sound n.is;
+          sound = steps_keep_sound g j.bytes start_at f1 y book names sound n.is;
           from = one_start g j.bytes start_at (y, f1) n.is;
           room = room;
           nests = nests_first j byte c limits at octets book names f1 st.outer_is st.aside;
@@ -191,22 +190,22 @@ module _ (j : Job) (byte : ℕ) (c : Config) (limits : Bounds) (at : AtFragment 
       pub is : one g j.bytes f1 ≡ told (z, f2)
       pub taken : Rooted f1 (z, f2)
       pub root : root_of e ≡ f2.root
-      pub sound : IsSound f2
+      pub sound : IsSound g f2
       pub from : f2.start ≡ start.Fragment byte
 
     second_given : (y : Option Happening) (f1 : Config) (given : Given) → First y f1 → one g j.bytes f1 ≡ told given → Rooted f1 given
-    second_given y f1 given st h = rooted g j.bytes f1 given octets at.no_prefixes (aligned_at j byte c limits at octets book names f1 st.started.place_is) book st.sound (record { elements = st.started.elements; outer_is = st.started.outer_is; aside = st.started.aside }) h
+    second_given y f1 given st h = rooted g j.bytes f1 given octets at.no_prefixes (aligned_at j byte c limits at octets book names f1 st.started.place_is) book names st.sound (record { elements = st.started.elements; outer_is = st.started.outer_is; aside = st.started.aside }) h
 
     second_turn : (y : Option Happening) (f1 : Config) (z : Option Happening) (f2 : Config) (rest : List (Option Happening)) → First y f1 → turn g j.bytes f1 ≡ goes z f2 → Leads g j.bytes f2 rest last → Second f1 z f2
     second_turn y f1 z f2 rest st h l =
         let n = goes_is g j.bytes f1 z f2 h in
         let rt = second_given y f1 (z, f2) st n.is in
-        let sound : IsSound f2 = steps_keep_sound g j.bytes f1 f2 z book st.sound n.is in
+        let sound : IsSound g f2 = steps_keep_sound g j.bytes f1 f2 z book names st.sound n.is in
         let from : f2.start ≡ start.Fragment byte = one_start g j.bytes f1 (z, f2) n.is ∙ st.from in
         record {
           is = n.is;
           taken = rt;
-          root = late_root g j.bytes byte wide at.body at.bodies at.going book (tally_of e) wide_room last x e refl at_end rest f2 sound (nests_over j byte c limits at octets book names f2 rt.outer_is rt.aside) from l;
+          root = late_root g j.bytes byte wide at.body at.bodies at.going book names (tally_of e) wide_room last x e refl at_end rest f2 sound (nests_over j byte c limits at octets book names f2 rt.outer_is rt.aside) from l;
           sound = sound;
           from = from;
         }

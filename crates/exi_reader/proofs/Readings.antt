@@ -1,33 +1,40 @@
 -- What stands behind a code: what is read is what is spelled, and it goes onward.
-use Rattle.std.proofs.Common.{◌≡◌, ℕ, Bool, true, false, cond, List, [], ◌++◌, length, Result, Ok, Err, refl, sym, ap, ◌∙◌, subst}
+use Rattle.std.proofs.Common.{◌≡◌, ℕ, Bool, true, false, cond, List, [], ◌∷◌, ◌++◌, length, Result, Ok, Err, refl, sym, ap, ◌∙◌, subst}
 use Rattle.exi_bits.specs.declared.align.Align.{Align}
 use Rattle.exi_bits.specs.declared.fault.Kind.TheVariants as kind
 use Rattle.exi_bits.specs.Bits.{Spot, IsAligned, IsBytes, moved, rest}
 use Rattle.exi_bits.specs.Unsigned.{◌>>=◌}
 use Rattle.exi_gram.specs.Switches.{align_of, prefixes}
+use Rattle.exi_names.specs.Datatypes.{Representation}
 use Rattle.exi_names.specs.declared.names.NameId.{NameId}
 use Rattle.exi_names.specs.Seen.{Value}
-use Rattle.exi_meter.specs.Metering.{Metering}
+use Rattle.exi_meter.specs.Metering.{Metering, text_fits, with_text}
 use Rattle.exi_tables.specs.Partitions.{Partitions}
 use Rattle.exi_typed.specs.Charging.{Charge, charging, later}
 use Rattle.exi_typed.specs.ReadStates.{Context, ReadState, ContextReader, Failure}
-use Rattle.exi_typed.specs.Items.{SpellsItem, item_at, string}
 use Rattle.exi_typed.specs.Laws.{Spelling}
 use Rattle.exi_typed.specs.Metered.{IsMetered}
 use Rattle.exi_typed.specs.Continues.{ReadsOn, Continues}
-use Rattle.exi_typed.specs.Refused.{IsRefusal, Refusing, RefusesDeclaration, RefusesItem, RefusesNext, wrong}
+use Rattle.exi_typed.specs.Refused.{IsRefusal, Refusing, RefusesDeclaration, RefusesNext, wrong}
 use Rattle.exi_typed.specs.Spelled.{Follows, SpellsDeclaration}
 use Rattle.exi_typed.specs.Strings.{Declaration, Named, declaration_at, no_growth}
 use Rattle.exi_typed.proofs.ContextItems.{Chained, ContextItem, IsPure, MadeInContext, Went, bind_told, chained, context, read_state, in_words, made, pure, told, told_is}
 use Rattle.exi_typed.proofs.Goings.{chained_goes, declaration_goes, known_goes, literal_goes, name_goes, same_keeps, told_goes}
-use Rattle.exi_typed.proofs.ItemLaws.{item_goes, item_item}
-use Rattle.exi_typed.proofs.Meters.{bind_metered, declaration_metered, item_metered, known_metered, literal_metered, name_metered, pure_metered}
+use Rattle.exi_typed.proofs.Meters.{bind_metered, declaration_metered, known_metered, literal_metered, name_metered, pure_metered}
 use Rattle.exi_typed.proofs.NameItems.{item_declaration, item_known, item_name}
-use Rattle.exi_typed.proofs.Refusals.{declaration_refusal, fails, item_refusal, known_refusal, literal_refusal, name_refusal, next_refusal, start_refusal, told_refusal}
+use Rattle.exi_typed.proofs.Refusals.{declaration_refusal, fails, known_refusal, literal_refusal, name_refusal, next_refusal, start_refusal, told_refusal}
 use Rattle.exi_typed.proofs.Texts.{item_literal}
+use Rattle.exi_values.specs.Refused.{RefusesValued}
+use Rattle.exi_values.specs.Spelled.{SpellsValued}
+use Rattle.exi_values.specs.Valued.{valued_at}
+use Rattle.exi_values.proofs.Goings.{values_go_on}
+use Rattle.exi_values.proofs.Meters.{values_are_metered}
+use Rattle.exi_values.proofs.Refusals.{values_refused}
+use Rattle.exi_values.proofs.Values.{item_valued}
 use Rattle.exi_reader.specs.Configurations.{Setting}
 use Rattle.exi_reader.specs.Contents.{RefusesAttribute, RefusesAttributeValue, RefusesCharacters, RefusesFourTexts, RefusesNothing, RefusesText, RefusesTold, RefusesTwoTexts, SpellsAttribute, SpellsAttributeValue, SpellsBoth, SpellsCharacters, SpellsFourTexts, SpellsNothing, SpellsText, SpellsTold, SpellsTwoTexts, attribute_at, attribute_value_at, both_at, characters_at, four_texts_at, is_missing, nothing_at, represented_by, text_at, told_name_at, two_texts_at}
-use Rattle.exi_reader.specs.Rules.{Telling, known, spelled}
+use Rattle.exi_reader.specs.Rules.{Telling, Valuing, known, spelled, under}
+use Rattle.exi_reader.proofs.UnderNames.{under_goes_on, under_is_metered, under_item, under_refused}
 
 -- what is known of a reading
 pub record Reads {X : Type 0} (a : Align) (read : ContextReader X) (Spells : Spelling X) (Refuses : Refusing) : Type 0 where
@@ -101,21 +108,32 @@ module _ {X Y : Type 0} (a : Align) (one : ContextReader X) (two : X → Context
 -- ---- names
 pub name_reads : (g : Setting) (t : Telling) → Reads {X = Named} (align_of g.options) (told_name_at g t) (SpellsTold g t) (RefusesTold g t)
 name_reads g spelled = record { refusal = name_refusal (align_of g.options) (prefixes g.options); item = item_name (prefixes g.options) (align_of g.options); goes = name_goes (prefixes g.options) (align_of g.options); metered = name_metered (prefixes g.options) (align_of g.options) }
+name_reads g (under uri) = record { refusal = under_refused (prefixes g.options) (align_of g.options) uri; item = under_item (prefixes g.options) (align_of g.options) uri; goes = under_goes_on (prefixes g.options) (align_of g.options) uri; metered = under_is_metered (prefixes g.options) (align_of g.options) uri }
 name_reads g (known id) = record { refusal = known_refusal (align_of g.options) (prefixes g.options) id; item = item_known (prefixes g.options) (align_of g.options) id; goes = known_goes (prefixes g.options) (align_of g.options) id; metered = known_metered (prefixes g.options) (align_of g.options) id }
 
 -- ---- values
+-- of every datatype, under a name
+valued_reads : (r : Representation) (a : Align) (name : NameId) → Reads {X = Value} a (valued_at r a name) (SpellsValued r a name) (RefusesValued r a name)
+valued_reads r a name = record { refusal = values_refused r a name; item = item_valued r a name; goes = values_go_on r a name; metered = values_are_metered r a name }
+
 failure_is : (e f : Failure) → fails {X = Value × ReadState} e ≡ fails f → e ≡ f
 failure_is e f h = cc
 
 no_value : (x : Value × ReadState) (e : Failure) → told x ≡ fails e → ⊥
 no_value x e h = cc
 
-module _ (g : Setting) (name : NameId) where
+module _ (g : Setting) (v : Valuing) (name : Named) where
   abbrev a : Align
   a = align_of g.options
 
+  abbrev shape : Representation
+  shape = represented_by g v name
+
   abbrev item : ContextReader Value
-  item c = item_at (represented_by g name) a name c
+  item c = valued_at shape a name.id c
+
+  abbrev missing : Value → Bool
+  missing found = is_missing g v name.id found
 
   no_type : ReadState → Value × ReadState → Result (Value × ReadState) Failure
   no_type c found = Err (record { fault = record { kind = kind.BadType; bit = c.spot.place }; meter = found.1.context.meter })
@@ -125,20 +143,30 @@ module _ (g : Setting) (name : NameId) where
   lax true c p q e = absurd cc
   lax false c p q e = (refl, told_is p q e)
 
-  told_again : (r : Result (Value × ReadState) Failure) → (r >>= λ found. told found) ≡ r
-  told_again (Ok x) = refl
-  told_again (Err f) = refl
+  abbrev stopped : Charge → Metering → Result (Value × ReadState) Failure
+  stopped k m = Err (record { fault = record { kind = kind.TextLimit; bit = k.bit }; meter = m })
 
-  value_item : ContextItem {X = Value} a (attribute_value_at g name) (SpellsAttributeValue g name)
-  unfolding attribute_value_at no_type
-  value_item = record { takes = taking; again = reading; whole = λ x w v ks text h. (item_item (represented_by g name) a name).whole x w v ks text h.spelled }
+  -- of a type that is there nothing more is charged or refused
+  there_again : (c : ReadState) (x : Value) (t : Spot) (q : Partitions) (ks : List Charge) (m : Metering) → missing x ≡ false
+      → (charging ks m (Ok (x, (t, q))) >>= λ found. cond (missing found.0) (no_type c found) (told found)) ≡ charging ks m (Ok (x, (t, q)))
+  there_again c x t q [] m h = rw h refl
+  there_again c x t q (k ∷ ks) m h = by_fit (there_again c x t q ks (with_text m k.units) h) (text_fits m k.units)
     where
-      taking : (x : Value) (c d : ReadState) → IsBytes c.spot.bytes → IsAligned a c.spot → attribute_value_at g name c ≡ told (x, d) → Went a (SpellsAttributeValue g name x) c d
+      by_fit : (charging ks (with_text m k.units) (Ok (x, (t, q))) >>= λ found. cond (missing found.0) (no_type c found) (told found)) ≡ charging ks (with_text m k.units) (Ok (x, (t, q)))
+          → (b : Bool) → (cond b (charging ks (with_text m k.units) (Ok (x, (t, q)))) (stopped k m) >>= λ found. cond (missing found.0) (no_type c found) (told found)) ≡ cond b (charging ks (with_text m k.units) (Ok (x, (t, q)))) (stopped k m)
+      by_fit e true = e
+      by_fit e false = refl
+
+  value_item : ContextItem {X = Value} a (attribute_value_at g v name) (SpellsAttributeValue g v name)
+  unfolding attribute_value_at no_type
+  value_item = record { takes = taking; again = reading; whole = λ x w v ks text h. (item_valued shape a name.id).whole x w v ks text h.spelled }
+    where
+      taking : (x : Value) (c d : ReadState) → IsBytes c.spot.bytes → IsAligned a c.spot → attribute_value_at g v name c ≡ told (x, d) → Went a (SpellsAttributeValue g v name x) c d
       taking x c d fits al r =
-          let u = bind_told (item c) (λ (found : Value × ReadState). cond (is_missing g name) (no_type c found) (told found)) (x, d) r in
-          let e = lax (is_missing g name) c u.0 (x, d) u.2 in
-          let k = (item_item (represented_by g name) a name).takes u.0.0 c u.0.1 fits al u.1 in
-          subst (λ (z : Value × ReadState). Went a (SpellsAttributeValue g name z.0) c z.1) e.1 (record {
+          let u = bind_told (item c) (λ (found : Value × ReadState). cond (missing found.0) (no_type c found) (told found)) (x, d) r in
+          let e = lax (missing u.0.0) c u.0 (x, d) u.2 in
+          let k = (item_valued shape a name.id).takes u.0.0 c u.0.1 fits al u.1 in
+          subst (λ (z : Value × ReadState). Went a (SpellsAttributeValue g v name z.0) c z.1) e.1 (record {
             text = k.text;
             charges = k.charges;
             spelled = record { there = e.0; spelled = k.spelled };
@@ -147,55 +175,56 @@ module _ (g : Setting) (name : NameId) where
             fits = k.fits;
           })
 
-      reading : (x : Value) (s : Spot) (w v : Partitions) (ks : List Charge) (text more : List Bool) → IsBytes s.bytes → IsAligned a s → SpellsAttributeValue g name x w v ks text → rest s ≡ text ++ more
-          → (m : Metering) → attribute_value_at g name (read_state s (context m w)) ≡ charging (later s.place ks) m (Ok (x, (moved s (length text), v)))
-      reading x s w v ks text more fits al h e m =
-          let r = (item_item (represented_by g name) a name).again x s w v ks text more fits al h.spelled e m in
-          rw h.there (ap (λ (z : Result (Value × ReadState) Failure). z >>= λ found. told found) r ∙ told_again (charging (later s.place ks) m (Ok (x, (moved s (length text), v)))))
+      reading : (x : Value) (s : Spot) (p q : Partitions) (ks : List Charge) (text more : List Bool) → IsBytes s.bytes → IsAligned a s → SpellsAttributeValue g v name x p q ks text → rest s ≡ text ++ more
+          → (m : Metering) → attribute_value_at g v name (read_state s (context m p)) ≡ charging (later s.place ks) m (Ok (x, (moved s (length text), q)))
+      reading x s p q ks text more fits al h e m =
+          let r = (item_valued shape a name.id).again x s p q ks text more fits al h.spelled e m in
+          ap (λ (z : Result (Value × ReadState) Failure). z >>= λ found. cond (missing found.0) (no_type (read_state s (context m p)) found) (told found)) r
+          ∙ there_again (read_state s (context m p)) x (moved s (length text)) q (later s.place ks) m h.there
 
-  value_goes : ReadsOn {X = Value} (attribute_value_at g name)
+  value_goes : ReadsOn {X = Value} (attribute_value_at g v name)
   unfolding attribute_value_at no_type
   value_goes x c d r =
-      let u = bind_told (item c) (λ (found : Value × ReadState). cond (is_missing g name) (no_type c found) (told found)) (x, d) r in
-      let e = lax (is_missing g name) c u.0 (x, d) u.2 in
-      subst (λ (z : Value × ReadState). Continues c z.1) e.1 (item_goes (represented_by g name) a name u.0.0 c u.0.1 u.1)
+      let u = bind_told (item c) (λ (found : Value × ReadState). cond (missing found.0) (no_type c found) (told found)) (x, d) r in
+      let e = lax (missing u.0.0) c u.0 (x, d) u.2 in
+      subst (λ (z : Value × ReadState). Continues c z.1) e.1 (values_go_on shape a name.id u.0.0 c u.0.1 u.1)
 
-  value_metered : IsMetered {X = Value} (attribute_value_at g name)
-  unfolding attribute_value_at no_type
-  value_metered s p = bind_metered (item) (λ found k. cond (is_missing g name) (Err (record { fault = record { kind = kind.BadType; bit = s.place }; meter = k.context.meter })) (told {X = Value × ReadState} (found, k))) (item_metered (represented_by g name) a name) (λ found. by_missing found (is_missing g name)) s p
+  -- the type is not there
+  none_there : Spot → Value → ContextReader Value
+  none_there s found k = cond (missing found) (Err (record { fault = record { kind = kind.BadType; bit = s.place }; meter = k.context.meter })) (told {X = Value × ReadState} (found, k))
+
+  value_metered : IsMetered {X = Value} (attribute_value_at g v name)
+  unfolding attribute_value_at none_there
+  value_metered s p = bind_metered item (none_there s) (values_are_metered shape a name.id) (λ found. by_missing found (missing found)) s p
     where
       by_missing : (found : Value) (b : Bool) → IsMetered {X = Value} (λ k. cond b (Err (record { fault = record { kind = kind.BadType; bit = s.place }; meter = k.context.meter })) (told {X = Value × ReadState} (found, k)))
       by_missing found true t q = record { charges = []; rest = Err (record { kind = kind.BadType; bit = s.place }); is = λ m. refl }
       by_missing found false t q = pure_metered found t q
 
-  -- the type is not there
-  none_there : Spot → Value → ContextReader Value
-  none_there s found k = cond (is_missing g name) (Err (record { fault = record { kind = kind.BadType; bit = s.place }; meter = k.context.meter })) (told {X = Value × ReadState} (found, k))
+  abbrev NoneThere : Spot → Value → Refusing
+  NoneThere s found u t f = (missing found ≡ true) × (f ≡ wrong kind.BadType s.place u.meter)
 
-  abbrev NoneThere : Spot → Refusing
-  NoneThere s v t f = (is_missing g name ≡ true) × (f ≡ wrong kind.BadType s.place v.meter)
-
-  none_refused : (s : Spot) (found : Value) → IsRefusal {X = Value} a (none_there s found) (NoneThere s)
+  none_refused : (s : Spot) (found : Value) → IsRefusal {X = Value} a (none_there s found) (NoneThere s found)
   unfolding none_there
-  none_refused s found = record { fails = λ v t f octets al h. by_missing v t f (is_missing g name) refl h; again = λ v t f octets al h. rw h.0 (ap (λ (z : Failure). fails z) (sym h.1)) }
+  none_refused s found = record { fails = λ u t f octets al h. by_missing u t f (missing found) refl h; again = λ u t f octets al h. rw h.0 (ap (λ (z : Failure). fails z) (sym h.1)) }
     where
-      by_missing : (v : Context) (t : Spot) (f : Failure) (b : Bool) → is_missing g name ≡ b → cond b (Err (wrong kind.BadType s.place v.meter)) (told {X = Value × ReadState} (found, read_state t v)) ≡ fails f → NoneThere s v t f
-      by_missing v t f true e h = (e, sym (failure_is (wrong kind.BadType s.place v.meter) f h))
-      by_missing v t f false e h = absurd (no_value (found, read_state t v) f h)
+      by_missing : (u : Context) (t : Spot) (f : Failure) (b : Bool) → missing found ≡ b → cond b (Err (wrong kind.BadType s.place u.meter)) (told {X = Value × ReadState} (found, read_state t u)) ≡ fails f → NoneThere s found u t f
+      by_missing u t f true e h = (e, sym (failure_is (wrong kind.BadType s.place u.meter) f h))
+      by_missing u t f false e h = absurd (no_value (found, read_state t u) f h)
 
-  value_refused : IsRefusal {X = Value} a (attribute_value_at g name) (RefusesAttributeValue g name)
+  value_refused : IsRefusal {X = Value} a (attribute_value_at g v name) (RefusesAttributeValue g v name)
   unfolding attribute_value_at none_there
-  value_refused = start_refusal a (λ s w c. item c >>= λ found. none_there s found.0 found.1) (λ s w. RefusesNext (RefusesItem (represented_by g name) a name) (SpellsItem (represented_by g name) a name) (λ found. NoneThere s))
-      (λ s w. next_refusal a item (none_there s) (RefusesItem (represented_by g name) a name) (SpellsItem (represented_by g name) a name) (λ found. NoneThere s) (item_refusal a (represented_by g name) name) (item_item (represented_by g name) a name) (none_refused s))
+  value_refused = start_refusal a (λ s w c. item c >>= λ found. none_there s found.0 found.1) (λ s w. RefusesNext (RefusesValued shape a name.id) (SpellsValued shape a name.id) (NoneThere s))
+      (λ s w. next_refusal a item (none_there s) (RefusesValued shape a name.id) (SpellsValued shape a name.id) (NoneThere s) (values_refused shape a name.id) (item_valued shape a name.id) (none_refused s))
 
-  pub value_reads : Reads {X = Value} a (attribute_value_at g name) (SpellsAttributeValue g name) (RefusesAttributeValue g name)
+  pub value_reads : Reads {X = Value} a (attribute_value_at g v name) (SpellsAttributeValue g v name) (RefusesAttributeValue g v name)
   value_reads = record { refusal = value_refused; item = value_item; goes = value_goes; metered = value_metered }
 
-pub attribute_reads : (g : Setting) (t : Telling) → Reads {X = Named × Value} (align_of g.options) (attribute_at g t) (SpellsAttribute g t) (RefusesAttribute g t)
-attribute_reads g t = both_reads (align_of g.options) (told_name_at g t) (λ name. attribute_value_at g name.id) (SpellsTold g t) (λ name. SpellsAttributeValue g name.id) (RefusesTold g t) (λ name. RefusesAttributeValue g name.id) (name_reads g t) (λ name. value_reads g name.id)
+pub attribute_reads : (g : Setting) (t : Telling) (v : Valuing) → Reads {X = Named × Value} (align_of g.options) (attribute_at g t v) (SpellsAttribute g t v) (RefusesAttribute g t v)
+attribute_reads g t v = both_reads (align_of g.options) (told_name_at g t) (λ name. attribute_value_at g v name) (SpellsTold g t) (λ name. SpellsAttributeValue g v name) (RefusesTold g t) (λ name. RefusesAttributeValue g v name) (name_reads g t) (λ name. value_reads g v name)
 
-pub characters_reads : (g : Setting) (name : NameId) → Reads {X = Value} (align_of g.options) (characters_at g name) (SpellsCharacters g name) (RefusesCharacters g name)
-characters_reads g name = record { refusal = item_refusal (align_of g.options) string name; item = item_item string (align_of g.options) name; goes = item_goes string (align_of g.options) name; metered = item_metered string (align_of g.options) name }
+pub characters_reads : (g : Setting) (r : Representation) (name : NameId) → Reads {X = Value} (align_of g.options) (characters_at g r name) (SpellsCharacters g r name) (RefusesCharacters g r name)
+characters_reads g r name = valued_reads r (align_of g.options) name
 
 pub declaration_reads : (a : Align) → Reads {X = Declaration} a (declaration_at a) (SpellsDeclaration a) (RefusesDeclaration a)
 declaration_reads a = record { refusal = declaration_refusal a; item = item_declaration a; goes = declaration_goes a; metered = declaration_metered a }

@@ -6,14 +6,13 @@ use Rattle.exi_bits.specs.declared.fault.Kind.{Kind}
 use Rattle.exi_bits.specs.declared.fault.Kind.TheVariants as kind
 use Rattle.exi_bits.specs.Bits.{Spot, IsAligned, IsBytes, moved, rest}
 use Rattle.exi_bits.specs.Unsigned.{◌>>=◌}
-use Rattle.exi_gram.specs.Books.{IsPlainBook}
 use Rattle.exi_gram.specs.Codes.{code_at}
 use Rattle.exi_gram.specs.Switches.{align_of}
 use Rattle.exi_gram.proofs.CodeLaws.{spelled_item}
 use Rattle.exi_meter.specs.Metering.{Metering, event_fits, level_fits, with_event, with_level}
 use Rattle.exi_typed.specs.ReadStates.{Context, ReadState, Failure, failing}
 use Rattle.exi_typed.proofs.ContextItems.{fine, told, told_is, was_taken, where_taken}
-use Rattle.exi_reader.specs.Configurations.{Config, Setting, read_state_in, reached, rules_of, spot_in}
+use Rattle.exi_reader.specs.Configurations.{Config, IsSetting, Setting, read_state_in, reached, rules_of, spot_in}
 use Rattle.exi_reader.specs.OneEvent.{at_event, behind, charge_at, event_charge, followed, level_charge, moved_limit, one, remembered, unless}
 use Rattle.exi_reader.specs.Plans.{Given, Plan, alone_in, plan_of}
 use Rattle.exi_reader.specs.Refused.{FaultIsRefused, HasOne, HasRefusal, IsBehindCode, IsPlanRefused, IsRefusedBefore, OneSpelledOrOneFault, RefusedIsFault, failure_of}
@@ -181,7 +180,7 @@ refused_is_fault g bytes c e book at (inr h) =
 mixed : (r : Result Given Failure) (given : Given) (e : Failure) → r ≡ told given → r ≡ fails e → ⊥
 mixed r given e p q = no_told given e (sym p ∙ q)
 
-one_of_results : (g : Setting) (bytes : List ℕ) (c : Config) → IsPlainBook g → IsIn g bytes c → (r : Result Given Failure) → one g bytes c ≡ r → HasOne g bytes c ⊎ HasRefusal g bytes c
+one_of_results : (g : Setting) (bytes : List ℕ) (c : Config) → IsSetting g → IsIn g bytes c → (r : Result Given Failure) → one g bytes c ≡ r → HasOne g bytes c ⊎ HasRefusal g bytes c
 one_of_results g bytes c book at (Ok given) h =
     let u = one_is_spelled g bytes c given book at h in
     inl (record {

@@ -4,14 +4,15 @@ use Rattle.exi_bits.specs.declared.align.Align.{Align}
 use Rattle.exi_gram.specs.Switches.{align_of, prefixes}
 use Rattle.exi_meter.specs.Metering.{Metering, with_text}
 use Rattle.exi_names.specs.declared.names.NameId.{NameId}
-use Rattle.exi_tables.specs.Partitions.{Partitions, uris, with_uri}
+use Rattle.exi_tables.specs.Partitions.{Partitions, live_at, uris, with_uri}
 use Rattle.exi_typed.specs.Charging.{Charge, IsTaken, later, one_charge}
 use Rattle.exi_typed.proofs.ContextItems.{sum_of}
+use Rattle.exi_typed.specs.Refused.{SpellsPlaced}
 use Rattle.exi_typed.specs.Spelled.{Follows, OneSpelling, SpellsIndexed, SpellsKnown, SpellsLocal, SpellsName, SpellsNameUnder, SpellsPrefix, SpellsUri}
 use Rattle.exi_typed.specs.Strings.{Growth, Named, place_in}
 use Rattle.exi_reader.specs.Configurations.{Setting}
-use Rattle.exi_reader.specs.Contents.{SpellsTold}
-use Rattle.exi_reader.specs.Rules.{Telling, known, spelled}
+use Rattle.exi_reader.specs.Contents.{SpellsTold, SpellsUnder}
+use Rattle.exi_reader.specs.Rules.{Telling, known, spelled, under}
 
 sum_later : (n : ℕ) (ks : List Charge) → sum_of (later n ks) ≡ sum_of ks
 sum_later n [] = refl
@@ -67,6 +68,15 @@ name_text a n p q ks text h =
     (indexed_text a (uris p) with_uri n.name.uri p h.between h.paid h.first h.front)
     (under_text a (place_in (uris h.between) n.name.uri) n h.between q h.owed h.second h.behind.spelled)
 
+-- under a URI that the code told, whose text is charged
+told_uri_text : (a : Align) (uri : ℕ) (n : Named) (p q : Partitions) (ks : List Charge) (text : List Bool) → SpellsUnder false a uri n p q ks text → sum_of ks ≡ length n.name.uri + length n.name.local
+told_uri_text a uri n p q ks text h =
+    let f = h.spelled in
+    let same : length n.name.uri ≡ length h.space = ap (λ (x : List ℕ). length x) f.behind.space_is in
+    let space : sum_of f.paid ≡ length h.space = sum_one (length h.space) 0 f.paid f.front.charged.charges in
+    let k = follows_sum (SpellsPlaced (live_at (uris p) uri) h.space) (SpellsNameUnder false a uri h.space n) (length h.space) (length n.name.local) p q ks text f space (under_text a uri n f.between q f.owed f.second f.behind.spelled) in
+    omega (arith, k, same)
+
 known_text : (a : Align) (id : NameId) (n : Named) (p q : Partitions) (ks : List Charge) (text : List Bool) → SpellsKnown false a id n p q ks text → sum_of ks ≡ length n.name.uri + length n.name.local
 known_text a id n p q ks text h =
     let f = h.spelled in
@@ -78,6 +88,7 @@ known_text a id n p q ks text h =
 
 told_by : (g : Setting) (t : Telling) (keep : Bool) (n : Named) (p q : Partitions) (ks : List Charge) (text : List Bool) → keep ≡ false → prefixes g.options ≡ keep → SpellsTold g t n p q ks text → sum_of ks ≡ length n.name.uri + length n.name.local
 told_by g spelled keep n p q ks text e f h = name_text (align_of g.options) n p q ks text (subst (λ (z : Bool). SpellsName z (align_of g.options) n p q ks text) (f ∙ e) h)
+told_by g (under uri) keep n p q ks text e f h = told_uri_text (align_of g.options) uri n p q ks text (subst (λ (z : Bool). SpellsUnder z (align_of g.options) uri n p q ks text) (f ∙ e) h)
 told_by g (known id) keep n p q ks text e f h = known_text (align_of g.options) id n p q ks text (subst (λ (z : Bool). SpellsKnown z (align_of g.options) id n p q ks text) (f ∙ e) h)
 
 pub told_text : (g : Setting) (t : Telling) (n : Named) (p q : Partitions) (ks : List Charge) (text : List Bool) (m v : Metering) → prefixes g.options ≡ false → SpellsTold g t n p q ks text → IsTaken ks m v → v ≡ with_text m (length n.name.uri + length n.name.local)

@@ -205,11 +205,12 @@ one_sequence j start limits es fs d e m n p q =
     )
 
 pub first_weight : (j : Job) (s : Start) (limits : Bounds) → weights (first j s limits) ≤ 3 * fragments_at s
-first_weight j start.Body limits = body_weight (fragment j.setting.options)
+first_weight j start.Body limits = body_weight j.setting.schema.known (fragment j.setting.options)
   where
-    body_weight : (b : Bool) → weight (body_outer b) + 0 ≤ 0
-    body_weight true = omega arith
-    body_weight false = omega arith
+    body_weight : (known b : Bool) → weight (body_outer known b) + 0 ≤ 0
+    body_weight known false = omega arith
+    body_weight true true = omega arith
+    body_weight false true = omega arith
 first_weight j (start.Fragment byte) limits = omega arith
 
 more_fragments : (before : List (Option Happening)) (x : Option Happening) → fragments_in (events_of before) ≤ fragments_in (events_of (before ++ x ∷ []))

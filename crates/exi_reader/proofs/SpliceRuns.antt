@@ -7,7 +7,6 @@ use Rattle.exi_bits.specs.declared.fault.Kind.TheVariants as kind
 use Rattle.exi_bits.specs.Bits.{IsAligned, IsBytes, Spot, bits, le_bytes, number_bits}
 use Rattle.exi_bits.specs.Widths.{width_from}
 use Rattle.exi_builtin.specs.Learning.{Learning, nothing_learned}
-use Rattle.exi_gram.specs.Books.{IsPlainBook}
 use Rattle.exi_gram.specs.Codes.{Coded, code_at, code_bits}
 use Rattle.exi_gram.specs.Laws.{SpellsCode, codes}
 use Rattle.exi_gram.specs.Switches.{align_of}
@@ -21,7 +20,7 @@ use Rattle.exi_tables.specs.Partitions.{Partitions}
 use Rattle.exi_typed.specs.ReadStates.{Failure}
 use Rattle.exi_typed.proofs.ContextItems.{fine, told}
 use Rattle.exi_reader.specs.Changes.{is_alone, resumed, same_texts}
-use Rattle.exi_reader.specs.Configurations.{Body, Config, Setting, rules_in, rules_of, spot_in}
+use Rattle.exi_reader.specs.Configurations.{Body, Config, IsSetting, Setting, rules_in, rules_of, spot_in}
 use Rattle.exi_reader.specs.OneEvent.{one}
 use Rattle.exi_reader.specs.Plans.{Given}
 use Rattle.exi_reader.specs.Rules.{Rule, fragment_start, start_document}
@@ -65,7 +64,7 @@ start_text a r (suc place) parts text h e = absurd cc
 start_bits : (a : Align) (r : Rule) (text : List Bool) → SpellsCode fragment_start a r text → text ≡ []
 start_bits a r text h = start_text a r h.place h.parts text h.there h.bits
 
-module _ (g : Setting) (bytes : List ℕ) (book : IsPlainBook g) (octets : IsBytes bytes) where
+module _ (g : Setting) (bytes : List ℕ) (book : IsSetting g) (octets : IsBytes bytes) where
   starts_there : (f : Config) (r : Rule) (s : Spot) → IsAligned (align_of g.options) (spot_in bytes f) → Begins f → code_at (align_of g.options) (rules_of g f) (spot_in bytes f) ≡ fine (r, s) → s.place ≡ f.place
   starts_there f r s al b h =
       let k = (spelled_item (rules_of g f) (closed_up g f book) (align_of g.options)).takes r (spot_in bytes f) s octets al h in
@@ -109,14 +108,14 @@ module _ (j : Job) (byte : ℕ) (c : Config) (limits : Bounds) (at : AtFragment 
       ∙ ap (λ (z : Bool). made_of c.place c.meter c.tables c.elements c.outer c.learned z (at.body ∷ at.bodies)) (sym at.after_start)
       ∙ ap (λ (z : List Body). made_of c.place c.meter c.tables c.elements c.outer c.learned c.after_start z) (sym at.aside)
 
-  module _ (octets : IsBytes j.bytes) (book : IsPlainBook j.setting) (names : IsStart j.setting.schema.names) where
+  module _ (octets : IsBytes j.bytes) (book : IsSetting j.setting) (names : IsStart j.setting.schema.names) where
     abbrev pub g : Setting
     g = j.setting
 
     abbrev pub whole : Config → Config
     whole f = shifted c at.body at.bodies f
 
-    pub sound0 : IsSound f0
+    pub sound0 : IsSound g f0
     sound0 = first_is_sound j (start.Fragment byte) limits names
 
     pub begins0 : Begins f0
@@ -158,12 +157,12 @@ module _ (j : Job) (byte : ℕ) (c : Config) (limits : Bounds) (at : AtFragment 
 
     pub started_there : (given : Given) → one g j.bytes f0 ≡ told given → Started f0 given (8 * byte)
     started_there given h =
-        let s = started g j.bytes f0 given book sound0 begins0 h in
+        let s = started g j.bytes f0 given book names sound0 begins0 h in
         subst (λ (w : ℕ). Started f0 given w) (s.4 ∙ starts_there g j.bytes book octets f0 s.1 s.2 (aligned_at f0 refl) begins0 s.3) s.5
 
     module _ (e : End) (no_limit : ends_by_limit e ≡ false) (room : Room c.meter (tally_of e)) where
       -- as the definition says it
-      concluded : (d : End) (turns : List (Option Happening)) → Concludes g j.bytes byte c at.body at.bodies at.going book d f0 turns → GoesAs g j.bytes c (events_of turns) (on_behind c d)
+      concluded : (d : End) (turns : List (Option Happening)) → Concludes g j.bytes byte c at.body at.bodies at.going book names d f0 turns → GoesAs g j.bytes c (events_of turns) (on_behind c d)
       unfolding Concludes
       concluded (end.Done bit tally root) turns h =
           let k : Leads g j.bytes c turns (resumed (at.body ∷ at.bodies) (record c { place = bit; meter = with_tally c.meter tally; after_start = false })) = subst (λ (z : Config). Leads g j.bytes z turns (resumed (at.body ∷ at.bodies) (record c { place = bit; meter = with_tally c.meter tally; after_start = false }))) starts h in
@@ -191,9 +190,9 @@ module _ (j : Job) (byte : ℕ) (c : Config) (limits : Bounds) (at : AtFragment 
         Alone f y next = Step c at.body at.bodies IsAlone alone_lasts f.place f.root (told (y, next)) (one g j.bytes (whole f))
 
         -- a fault at one of the first two turns
-        early_fault : (f : Config) (sound : IsSound f) (nests : Nests IsAlone f.outer f.aside) → f.root ≡ None → LastDone g j.bytes f x e ⊎ LastFault g j.bytes f x e → ((given : Given) → one g j.bytes f ≡ told given → is_end given.1.outer ≡ false) → Concludes g j.bytes byte c at.body at.bodies at.going book e f (x ∷ []) × (root_of e ≡ None)
+        early_fault : (f : Config) (sound : IsSound g f) (nests : Nests IsAlone f.outer f.aside) → f.root ≡ None → LastDone g j.bytes f x e ⊎ LastFault g j.bytes f x e → ((given : Given) → one g j.bytes f ≡ told given → is_end given.1.outer ≡ false) → Concludes g j.bytes byte c at.body at.bodies at.going book names e f (x ∷ []) × (root_of e ≡ None)
         early_fault f sound nests none (inl d) alive = absurd (true_false (is_end d.given.1.outer) d.over (alive d.given d.is))
-        early_fault f sound nests none (inr q) alive = (fault_concludes g j.bytes byte c at.body at.bodies at.going book IsAlone alone_lasts tally room f sound nests x e q refl no_limit, ap (λ (z : End). root_of z) q.end_is ∙ none)
+        early_fault f sound nests none (inr q) alive = (fault_concludes g j.bytes byte c at.body at.bodies at.going book names IsAlone alone_lasts tally room f sound nests x e q refl no_limit, ap (λ (z : End). root_of z) q.end_is ∙ none)
 
         only_goes : (f : Config) (y : Option Happening) (next : Config) → is_end next.outer ≡ false → next.root ≡ None → Alone f y next → (turn g j.bytes (whole f) ≡ goes y (whole next)) × Nests IsAlone next.outer next.aside
         unfolding Step shifted
@@ -201,18 +200,18 @@ module _ (j : Job) (byte : ℕ) (c : Config) (limits : Bounds) (at : AtFragment 
         only_goes f y next alive none (inr (inl q)) = absurd (true_false (is_end next.outer) (ap (λ (w : Outer). is_end w) q.ended) alive)
         only_goes f y next alive none (inr (inr q)) = absurd (some_none q.first.name (sym q.first.root ∙ none))
 
-        same_root : (y z : Option Happening) (f1 f2 : Config) (rest : List (Option Happening)) (name : QName) → turn g j.bytes (whole f0) ≡ goes y (whole f1) → turn g j.bytes (whole f1) ≡ goes z (whole f2) → f2.root ≡ Some name → same_texts at.body.name name ≡ true → f2.outer ≡ outer.AloneOver → f2.aside ≡ [] → IsSound f2 → f2.start ≡ start.Fragment byte → Leads g j.bytes f2 rest last → GoesAs g j.bytes c (events_of (y ∷ z ∷ (rest ++ x ∷ []))) (spliced c e)
+        same_root : (y z : Option Happening) (f1 f2 : Config) (rest : List (Option Happening)) (name : QName) → turn g j.bytes (whole f0) ≡ goes y (whole f1) → turn g j.bytes (whole f1) ≡ goes z (whole f2) → f2.root ≡ Some name → same_texts at.body.name name ≡ true → f2.outer ≡ outer.AloneOver → f2.aside ≡ [] → IsSound g f2 → f2.start ≡ start.Fragment byte → Leads g j.bytes f2 rest last → GoesAs g j.bytes c (events_of (y ∷ z ∷ (rest ++ x ∷ []))) (spliced c e)
         same_root y z f1 f2 rest name one_turn two_turn root same out aside sound2 from2 l =
             let nests = nests_over f2 out aside in
-            let later = late g j.bytes byte c at.body at.bodies at.going book tally room last x e refl at_end no_limit rest f2 sound2 nests from2 l in
-            let two = in_front g j.bytes byte c at.body at.bodies at.going book e f1 f2 z (rest ++ x ∷ []) two_turn later in
-            let both = in_front g j.bytes byte c at.body at.bodies at.going book e f0 f1 y (z ∷ (rest ++ x ∷ [])) one_turn two in
-            let root_is = late_root g j.bytes byte c at.body at.bodies at.going book tally room last x e refl at_end rest f2 sound2 nests from2 l in
+            let later = late g j.bytes byte c at.body at.bodies at.going book names tally room last x e refl at_end no_limit rest f2 sound2 nests from2 l in
+            let two = in_front g j.bytes byte c at.body at.bodies at.going book names e f1 f2 z (rest ++ x ∷ []) two_turn later in
+            let both = in_front g j.bytes byte c at.body at.bodies at.going book names e f0 f1 y (z ∷ (rest ++ x ∷ [])) one_turn two in
+            let root_is = late_root g j.bytes byte c at.body at.bodies at.going book names tally room last x e refl at_end rest f2 sound2 nests from2 l in
             rooted_as [] name true (events_of (y ∷ z ∷ (rest ++ x ∷ []))) (root_is ∙ root) same (concluded e (y ∷ z ∷ (rest ++ x ∷ [])) both)
 
-        other_name : (y z : Option Happening) (f1 f2 : Config) (rest : List (Option Happening)) (name : QName) → turn g j.bytes (whole f0) ≡ goes y (whole f1) → y ≡ None → f1.place ≡ 8 * byte → f1.meter ≡ nothing_used limits → f2.meter ≡ with_text f1.meter (length name.uri + length name.local) → one g j.bytes (whole f1) ≡ Err (record { fault = record { kind = kind.ScRoot; bit = f1.place }; meter = shifted_meter c.meter f2.meter }) → f2.root ≡ Some name → same_texts at.body.name name ≡ false → f2.outer ≡ outer.AloneOver → f2.aside ≡ [] → IsSound f2 → f2.start ≡ start.Fragment byte → Leads g j.bytes f2 rest last → (es : List Happening) → GoesAs g j.bytes c es (spliced c e)
+        other_name : (y z : Option Happening) (f1 f2 : Config) (rest : List (Option Happening)) (name : QName) → turn g j.bytes (whole f0) ≡ goes y (whole f1) → y ≡ None → f1.place ≡ 8 * byte → f1.meter ≡ nothing_used limits → f2.meter ≡ with_text f1.meter (length name.uri + length name.local) → one g j.bytes (whole f1) ≡ Err (record { fault = record { kind = kind.ScRoot; bit = f1.place }; meter = shifted_meter c.meter f2.meter }) → f2.root ≡ Some name → same_texts at.body.name name ≡ false → f2.outer ≡ outer.AloneOver → f2.aside ≡ [] → IsSound g f2 → f2.start ≡ start.Fragment byte → Leads g j.bytes f2 rest last → (es : List Happening) → GoesAs g j.bytes c es (spliced c e)
         other_name y z f1 f2 rest name one_turn none_y place meter text fails root same out aside sound2 from2 l es =
-            let root_is = late_root g j.bytes byte c at.body at.bodies at.going book tally room last x e refl at_end rest f2 sound2 (nests_over f2 out aside) from2 l in
+            let root_is = late_root g j.bytes byte c at.body at.bodies at.going book names tally room last x e refl at_end rest f2 sound2 (nests_over f2 out aside) from2 l in
             let failure : Failure = record { fault = record { kind = kind.ScRoot; bit = f1.place }; meter = shifted_meter c.meter f2.meter } in
             let ends_so : turn g j.bytes (whole f1) ≡ ends None (other_root c name) = turn_fails g j.bytes (whole f1) failure fails ∙ ap (λ (w : End). ends None w) (other_end f1 f2 name place meter text) in
             let run : IsRun g j.bytes (whole f0) (y ∷ None ∷ []) (other_root c name) = record { before = y ∷ []; reached = whole f1; leads = (whole f1, one_turn, refl); event = None; at_end = ends_so; all = refl } in
@@ -220,7 +219,7 @@ module _ (j : Job) (byte : ℕ) (c : Config) (limits : Bounds) (at : AtFragment 
             rooted_as [] name false es (root_is ∙ root) same (y ∷ None ∷ [], from_c, ap (λ (w : Option Happening). events_of (w ∷ None ∷ [])) none_y)
 
         -- the second turn
-        by_second : (y z : Option Happening) (f1 f2 : Config) (rest : List (Option Happening)) → turn g j.bytes (whole f0) ≡ goes y (whole f1) → y ≡ None → z ≡ None → f1.place ≡ 8 * byte → f1.root ≡ None → f1.meter ≡ nothing_used limits → Rooted f1 (z, f2) → IsSound f2 → f2.start ≡ start.Fragment byte → Leads g j.bytes f2 rest last → Alone f1 z f2 → GoesAs g j.bytes c (events_of (y ∷ z ∷ (rest ++ x ∷ []))) (spliced c e)
+        by_second : (y z : Option Happening) (f1 f2 : Config) (rest : List (Option Happening)) → turn g j.bytes (whole f0) ≡ goes y (whole f1) → y ≡ None → z ≡ None → f1.place ≡ 8 * byte → f1.root ≡ None → f1.meter ≡ nothing_used limits → Rooted f1 (z, f2) → IsSound g f2 → f2.start ≡ start.Fragment byte → Leads g j.bytes f2 rest last → Alone f1 z f2 → GoesAs g j.bytes c (events_of (y ∷ z ∷ (rest ++ x ∷ []))) (spliced c e)
         unfolding Step shifted
         by_second y z f1 f2 rest one_turn none_y none_z place none meter rt sound2 from2 l (inl q) = by_root q.rooted
           where
@@ -233,18 +232,18 @@ module _ (j : Job) (byte : ℕ) (c : Config) (limits : Bounds) (at : AtFragment 
             let text : f2.meter ≡ with_text f1.meter (length q.first.name.uri + length q.first.name.local) = rt.meter ∙ ap (λ (w : QName). with_text f1.meter (length w.uri + length w.local)) name_is in
             other_name y z f1 f2 rest q.first.name one_turn none_y place meter text q.is q.first.root q.other rt.outer_is rt.aside sound2 from2 l (events_of (y ∷ z ∷ (rest ++ x ∷ [])))
 
-        from_first : (y : Option Happening) (f1 : Config) (rest : List (Option Happening)) → turn g j.bytes (whole f0) ≡ goes y (whole f1) → y ≡ None → Started f0 (y, f1) (8 * byte) → IsSound f1 → f1.start ≡ start.Fragment byte → Leads g j.bytes f1 rest last → GoesAs g j.bytes c (events_of (y ∷ (rest ++ x ∷ []))) (spliced c e)
+        from_first : (y : Option Happening) (f1 : Config) (rest : List (Option Happening)) → turn g j.bytes (whole f0) ≡ goes y (whole f1) → y ≡ None → Started f0 (y, f1) (8 * byte) → IsSound g f1 → f1.start ≡ start.Fragment byte → Leads g j.bytes f1 rest last → GoesAs g j.bytes c (events_of (y ∷ (rest ++ x ∷ []))) (spliced c e)
         from_first y f1 [] one_turn none_y st sound1 from1 l =
-            let alive : (given : Given) → one g j.bytes f1 ≡ told given → is_end given.1.outer ≡ false = λ given h. not_end given.1.outer outer.AloneOver (rooted g j.bytes f1 given octets at.no_prefixes (aligned_at f1 st.place_is) book sound1 (record { elements = st.elements; outer_is = st.outer_is; aside = st.aside }) h).outer_is refl in
+            let alive : (given : Given) → one g j.bytes f1 ≡ told given → is_end given.1.outer ≡ false = λ given h. not_end given.1.outer outer.AloneOver (rooted g j.bytes f1 given octets at.no_prefixes (aligned_at f1 st.place_is) book names sound1 (record { elements = st.elements; outer_is = st.outer_is; aside = st.aside }) h).outer_is refl in
             let k = early_fault f1 sound1 (nests_first f1 st.outer_is st.aside) st.root (last_is g j.bytes f1 x e (subst (λ (w : Config). turn g j.bytes w ≡ ends x e) (sym l) at_end)) alive in
-            without_root (y ∷ x ∷ []) k.1 (concluded e (y ∷ x ∷ []) (in_front g j.bytes byte c at.body at.bodies at.going book e f0 f1 y (x ∷ []) one_turn k.0))
+            without_root (y ∷ x ∷ []) k.1 (concluded e (y ∷ x ∷ []) (in_front g j.bytes byte c at.body at.bodies at.going book names e f0 f1 y (x ∷ []) one_turn k.0))
         from_first y f1 (z ∷ rest) one_turn none_y st sound1 from1 l =
             let n = goes_is g j.bytes f1 z l.0 l.1 in
-            let rt = rooted g j.bytes f1 (z, l.0) octets at.no_prefixes (aligned_at f1 st.place_is) book sound1 (record { elements = st.elements; outer_is = st.outer_is; aside = st.aside }) n.is in
+            let rt = rooted g j.bytes f1 (z, l.0) octets at.no_prefixes (aligned_at f1 st.place_is) book names sound1 (record { elements = st.elements; outer_is = st.outer_is; aside = st.aside }) n.is in
             let from2 : l.0.start ≡ start.Fragment byte = one_start g j.bytes f1 (z, l.0) n.is ∙ from1 in
-            let sound2 : IsSound l.0 = steps_keep_sound g j.bytes f1 l.0 z book sound1 n.is in
-            let fair = fair_goes g j.bytes byte c at.body at.bodies at.going book tally room last x e refl at_end f1 z l.0 rest from2 l.2 in
-            by_second y z f1 l.0 rest one_turn none_y rt.none st.place_is st.root st.meter rt sound2 from2 l.2 (step_of g j.bytes byte c at.body at.bodies at.going book IsAlone alone_lasts tally room f1 sound1 (nests_first f1 st.outer_is st.aside) (told (z, l.0)) n.is fair)
+            let sound2 : IsSound g l.0 = steps_keep_sound g j.bytes f1 l.0 z book names sound1 n.is in
+            let fair = fair_goes g j.bytes byte c at.body at.bodies at.going book names tally room last x e refl at_end f1 z l.0 rest from2 l.2 in
+            by_second y z f1 l.0 rest one_turn none_y rt.none st.place_is st.root st.meter rt sound2 from2 l.2 (step_of g j.bytes byte c at.body at.bodies at.going book names IsAlone alone_lasts tally room f1 sound1 (nests_first f1 st.outer_is st.aside) (told (z, l.0)) n.is fair)
 
         from_start : (before : List (Option Happening)) → Leads g j.bytes f0 before last → GoesAs g j.bytes c (events_of (before ++ x ∷ [])) (spliced c e)
         from_start [] l =
@@ -255,9 +254,9 @@ module _ (j : Job) (byte : ℕ) (c : Config) (limits : Bounds) (at : AtFragment 
             let n = goes_is g j.bytes f0 y l.0 l.1 in
             let st = started_there (y, l.0) n.is in
             let from1 : l.0.start ≡ start.Fragment byte = one_start g j.bytes f0 (y, l.0) n.is in
-            let sound1 : IsSound l.0 = steps_keep_sound g j.bytes f0 l.0 y book sound0 n.is in
-            let fair = fair_goes g j.bytes byte c at.body at.bodies at.going book tally room last x e refl at_end f0 y l.0 rest from1 l.2 in
-            let s = only_goes f0 y l.0 (not_end l.0.outer outer.AloneFirst st.outer_is refl) st.root (step_of g j.bytes byte c at.body at.bodies at.going book IsAlone alone_lasts tally room f0 sound0 nests_start (told (y, l.0)) n.is fair) in
+            let sound1 : IsSound g l.0 = steps_keep_sound g j.bytes f0 l.0 y book names sound0 n.is in
+            let fair = fair_goes g j.bytes byte c at.body at.bodies at.going book names tally room last x e refl at_end f0 y l.0 rest from1 l.2 in
+            let s = only_goes f0 y l.0 (not_end l.0.outer outer.AloneFirst st.outer_is refl) st.root (step_of g j.bytes byte c at.body at.bodies at.going book names IsAlone alone_lasts tally room f0 sound0 nests_start (told (y, l.0)) n.is fair) in
             from_first y l.0 rest s.0 st.none st sound1 from1 l.2
 
 -- ---- the law

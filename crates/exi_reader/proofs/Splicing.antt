@@ -3,14 +3,14 @@ use Rattle.std.proofs.Common.{◌≡◌, ◌≢◌, ◌⊎◌, inl, inr, ℕ, �
 use Rattle.std.specs.Prelude.{All}
 use Rattle.std.proofs.lemmas.List.Elements.{All-head}
 use Rattle.exi_bits.specs.declared.fault.Fault.{Fault}
-use Rattle.exi_gram.specs.Books.{IsPlainBook}
 use Rattle.exi_meter.specs.Metering.{Metering, with_tally, without_level}
 use Rattle.exi_meter.specs.declared.tally.Tally.{Tally}
 use Rattle.exi_names.specs.Events.{Happening}
+use Rattle.exi_names.specs.StartTables.{IsStart}
 use Rattle.exi_typed.specs.ReadStates.{Failure}
 use Rattle.exi_typed.proofs.ContextItems.{told}
 use Rattle.exi_reader.specs.Changes.{is_alone, outer_behind, resumed, same_texts}
-use Rattle.exi_reader.specs.Configurations.{Body, Config, Setting, reached}
+use Rattle.exi_reader.specs.Configurations.{Body, Config, IsSetting, Setting, reached}
 use Rattle.exi_reader.specs.Metered.{Due, Outcome, due_fits, limit_of, outcome, paying, with_due}
 use Rattle.exi_reader.specs.OneEvent.{behind, is_start, one}
 use Rattle.exi_reader.specs.Plans.{Given, alone_in, plan_of}
@@ -151,18 +151,18 @@ module _ (g : Setting) (bytes : List ℕ) where
       below_then c.meter.used l.0.meter.used (tally_of e) k (end_used byte l.0 last turns x e (one_start c (y, l.0) n.is ∙ s) l.2 h)
 
 -- ---- what is sound has entered the levels that it leaves
-some_levels : (xs : List Body) → All IsSoundAside xs → xs ≢ [] → 1 ≤ levels_aside xs
-some_levels [] all some = absurd (some refl)
-some_levels (x ∷ xs) all some = omega (arith, levels_closed x.elements x.outer (All-head IsSoundAside x xs all).level)
+some_levels : (g : Setting) (xs : List Body) → All (IsSoundAside g) xs → xs ≢ [] → 1 ≤ levels_aside xs
+some_levels g [] all some = absurd (some refl)
+some_levels g (x ∷ xs) all some = omega (arith, levels_closed x.elements x.outer (All-head (IsSoundAside g) x xs all).level)
 
-pub levels_of : (c : Config) → IsSound c → LevelsOf c
-levels_of c s = record {
+pub levels_of : (g : Setting) (c : Config) → IsSound g c → LevelsOf c
+levels_of g c s = record {
   own = λ h. omega (arith, s.level, levels_closed c.elements c.outer h);
-  behind_it = λ h. omega (arith, s.level, some_levels c.aside s.aside h);
+  behind_it = λ h. omega (arith, s.level, some_levels g c.aside s.aside h);
 }
 
 -- ---- behind the first element of the fragment
-module _ (g : Setting) (bytes : List ℕ) (byte : ℕ) (base : Config) (b : Body) (bs : List Body) (going : is_end b.outer ≡ false) (book : IsPlainBook g) where
+module _ (g : Setting) (bytes : List ℕ) (byte : ℕ) (base : Config) (b : Body) (bs : List Body) (going : is_end b.outer ≡ false) (book : IsSetting g) (names : IsStart g.schema.names) where
   abbrev IsOver : Outer → Type 0
   IsOver o = o ≡ outer.AloneOver
 
@@ -193,15 +193,15 @@ module _ (g : Setting) (bytes : List ℕ) (byte : ℕ) (base : Config) (b : Body
   taken_is d h k = ap (λ (z : Metering). record (taken_up base b bs d) { meter = z }) (level_none d.meter h) ∙ ap (λ (z : Bool). record (goes_on_at d.place d.meter.used) { after_start = z }) k
 
   -- nothing is open at the end
-  end_level : (d : Config) → IsSound d → d.elements ≡ [] → d.aside ≡ [] → d.meter.level ≡ 0
+  end_level : (d : Config) → IsSound g d → d.elements ≡ [] → d.aside ≡ [] → d.meter.level ≡ 0
   end_level d s e f =
       let n : levels_in d.elements d.outer ≡ 0 = ap (λ (z : List Element). levels_in z d.outer) e ∙ levels_none d.outer in
       let k : levels_aside d.aside ≡ 0 = ap (λ (z : List Body). levels_aside z) f in
       omega (arith, s.level, n, k)
 
-  module _ (P : Outer → Type 0) (lasts : Lasts P) (tally : Tally) (room : Room base.meter tally) (f : Config) (sound : IsSound f) (nests : Nests P f.outer f.aside) where
+  module _ (P : Outer → Type 0) (lasts : Lasts P) (tally : Tally) (room : Room base.meter tally) (f : Config) (sound : IsSound g f) (nests : Nests P f.outer f.aside) where
     pub step_of : (r : Result Given Failure) → one g bytes f ≡ r → Fair tally r → Step base b bs P lasts f.place f.root r (one g bytes (shifted base b bs f))
-    step_of r h fair = subst (λ (z : Result Given Failure). Step base b bs P lasts f.place f.root z (one g bytes (shifted base b bs f))) h (one_steps base b bs P lasts g bytes book tally room f sound nests (levels_of f sound) (subst (λ (z : Result Given Failure). Fair tally z) (sym h) fair))
+    step_of r h fair = subst (λ (z : Result Given Failure). Step base b bs P lasts f.place f.root z (one g bytes (shifted base b bs f))) h (one_steps base b bs P lasts g bytes book names tally room f sound nests (levels_of g f sound) (subst (λ (z : Result Given Failure). Fair tally z) (sym h) fair))
 
     -- a fault of the fragment
     pub fault_concludes : (x : Option Happening) (e : End) → LastFault g bytes f x e → tally ≡ tally_of e → ends_by_limit e ≡ false → Concludes e f (x ∷ [])
@@ -219,7 +219,7 @@ module _ (g : Setting) (bytes : List ℕ) (byte : ℕ) (base : Config) (b : Body
         let next : Config = taken_up base b bs given.1 in
         let on_there : turn g bytes (shifted base b bs f) ≡ goes None next = turn_goes g bytes (shifted base b bs f) (None, next) q.is going in
         let turns_so : turn g bytes (shifted base b bs f) ≡ goes x next = on_there ∙ ap (λ (z : Option Happening). goes z next) (sym (event ∙ q.none)) in
-        let level : given.1.meter.level ≡ 0 = end_level given.1 (steps_keep_sound g bytes f given.1 given.0 book sound is) q.elements q.level in
+        let level : given.1.meter.level ≡ 0 = end_level given.1 (steps_keep_sound g bytes f given.1 given.0 book names sound is) q.elements q.level in
         let after : given.1.after_start ≡ false = one_after g bytes f given is ∙ ap (λ (z : Option Happening). is_start z) q.none in
         (next, turns_so, taken_is given.1 level after)
 
@@ -272,7 +272,7 @@ module _ (g : Setting) (bytes : List ℕ) (byte : ℕ) (base : Config) (b : Body
     root_ends d given over (inr (inl q)) = q.root
     root_ends d given over (inr (inr q)) = absurd (first_not_over q.first.there)
 
-    last_root : (f : Config) → IsSound f → Nests IsOver f.outer f.aside → f.start ≡ start.Fragment byte → LastDone g bytes f x e ⊎ LastFault g bytes f x e → root_of e ≡ f.root
+    last_root : (f : Config) → IsSound g f → Nests IsOver f.outer f.aside → f.start ≡ start.Fragment byte → LastDone g bytes f x e ⊎ LastFault g bytes f x e → root_of e ≡ f.root
     unfolding Fair
     last_root f sound nests from (inl d) =
         let k : e ≡ done d.given.1 = d.end_is ∙ fragment_end g bytes byte d.given.1 (one_start g bytes f d.given d.is ∙ from) in
@@ -281,18 +281,18 @@ module _ (g : Setting) (bytes : List ℕ) (byte : ℕ) (base : Config) (b : Body
         ap (λ (z : End). root_of z) k ∙ root_ends f d.given d.over (step_of IsOver over_lasts tally room f sound nests (told d.given) d.is fair)
     last_root f sound nests from (inr q) = ap (λ (z : End). root_of z) q.end_is
 
-    pub late_root : (turns : List (Option Happening)) (f : Config) → IsSound f → Nests IsOver f.outer f.aside → f.start ≡ start.Fragment byte → Leads g bytes f turns last → root_of e ≡ f.root
+    pub late_root : (turns : List (Option Happening)) (f : Config) → IsSound g f → Nests IsOver f.outer f.aside → f.start ≡ start.Fragment byte → Leads g bytes f turns last → root_of e ≡ f.root
     late_root [] f sound nests from l = last_root f sound nests from (last_is g bytes f x e (subst (λ (z : Config). turn g bytes z ≡ ends x e) (sym l) at_end))
     late_root (y ∷ turns) f sound nests from l =
         let n = goes_is g bytes f y l.0 l.1 in
         let start_next : l.0.start ≡ start.Fragment byte = one_start g bytes f (y, l.0) n.is ∙ from in
-        let sound_next : IsSound l.0 = steps_keep_sound g bytes f l.0 y book sound n.is in
+        let sound_next : IsSound g l.0 = steps_keep_sound g bytes f l.0 y book names sound n.is in
         let s = root_goes y f l.0 n.going (step_of IsOver over_lasts tally room f sound nests (told (y, l.0)) n.is (fair_goes f y l.0 turns start_next l.2)) in
         late_root turns l.0 sound_next s.1 start_next l.2 ∙ s.0
 
     -- the events, and the end
     module _ (no_limit : ends_by_limit e ≡ false) where
-      pub late_end : (f : Config) → IsSound f → Nests IsOver f.outer f.aside → f.start ≡ start.Fragment byte → LastDone g bytes f x e ⊎ LastFault g bytes f x e → Concludes e f (x ∷ [])
+      pub late_end : (f : Config) → IsSound g f → Nests IsOver f.outer f.aside → f.start ≡ start.Fragment byte → LastDone g bytes f x e ⊎ LastFault g bytes f x e → Concludes e f (x ∷ [])
       late_end f sound nests from (inl d) = over_concludes IsOver over_lasts tally room f sound nests x e from first_not_over d same
       late_end f sound nests from (inr q) = fault_concludes IsOver over_lasts tally room f sound nests x e q same no_limit
 
@@ -302,10 +302,10 @@ module _ (g : Setting) (bytes : List ℕ) (byte : ℕ) (base : Config) (b : Body
       late_step z d next rest alive (inr (inl q)) more = absurd (true_false (is_end next.outer) (ap (λ (w : Outer). is_end w) q.ended) alive)
       late_step z d next rest alive (inr (inr q)) more = absurd (first_not_over q.first.there)
 
-      pub late : (turns : List (Option Happening)) (f : Config) → IsSound f → Nests IsOver f.outer f.aside → f.start ≡ start.Fragment byte → Leads g bytes f turns last → Concludes e f (turns ++ x ∷ [])
+      pub late : (turns : List (Option Happening)) (f : Config) → IsSound g f → Nests IsOver f.outer f.aside → f.start ≡ start.Fragment byte → Leads g bytes f turns last → Concludes e f (turns ++ x ∷ [])
       late [] f sound nests from l = late_end f sound nests from (last_is g bytes f x e (subst (λ (z : Config). turn g bytes z ≡ ends x e) (sym l) at_end))
       late (y ∷ turns) f sound nests from l =
           let n = goes_is g bytes f y l.0 l.1 in
           let start_next : l.0.start ≡ start.Fragment byte = one_start g bytes f (y, l.0) n.is ∙ from in
-          let sound_next : IsSound l.0 = steps_keep_sound g bytes f l.0 y book sound n.is in
+          let sound_next : IsSound g l.0 = steps_keep_sound g bytes f l.0 y book names sound n.is in
           late_step y f l.0 turns n.going (step_of IsOver over_lasts tally room f sound nests (told (y, l.0)) n.is (fair_goes f y l.0 turns start_next l.2)) (λ k. late turns l.0 sound_next k start_next l.2)

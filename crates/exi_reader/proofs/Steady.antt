@@ -1,35 +1,31 @@
 -- What a step needs holds wherever turns lead from a job's first place.
-use Rattle.std.proofs.Common.{◌≡◌, ◌≢◌, ◌⊎◌, inl, inr, ◌<◌, ◌≤◌, ◌^◌, ◌-◌, ℕ, ◌+◌, ◌*◌, true, List, [], ◌∷◌, length, map, get_or, Option, Some, None, Ok, refl, sym, ap, ◌∙◌, subst, arith}
+use Rattle.std.proofs.Common.{◌≡◌, ◌≢◌, ◌⊎◌, inl, inr, ◌<◌, ◌≤◌, ◌^◌, ◌-◌, ℕ, zero, suc, ◌+◌, ◌*◌, true, List, [], ◌∷◌, length, Option, Some, None, refl, sym, subst, arith}
 use Rattle.std.specs.Prelude.{All, slice_get}
 use Rattle.std.proofs.lemmas.List.Elements.{All-head}
 use Rattle.std.proofs.lemmas.Option.{slice_get_within, get_or_from_slice_get}
-use Rattle.exi_bits.specs.Bits.{Spot}
 use Rattle.exi_builtin.specs.declared.element_grammar.ElementGrammar.{ElementGrammar}
 use Rattle.exi_builtin.specs.declared.learnable.Learnable.{Learnable}
 use Rattle.exi_builtin.specs.declared.learnable.Room.{Room}
 use Rattle.exi_builtin.specs.declared.learnable.Room.TheVariants as room
 use Rattle.exi_builtin.specs.Learning.{IsRoom, Learning, learned_in}
-use Rattle.exi_gram.specs.declared.options.Options.{Options}
-use Rattle.exi_gram.specs.Books.{IsPlainBook, IsStateOf, state_of}
-use Rattle.exi_gram.specs.Wholes.{document}
-use Rattle.exi_gram.specs.Codes.{Productions, code_at}
-use Rattle.exi_gram.specs.Naming.{Entry}
-use Rattle.exi_gram.specs.Switches.{align_of}
-use Rattle.exi_meter.specs.Metering.{Bounds, IsWithinStream}
+use Rattle.exi_gram.specs.Books.{IsStateOf}
+use Rattle.exi_meter.specs.Metering.{Bounds, IsWithinStream, stream_bounds}
 use Rattle.exi_names.specs.declared.names.NameId.{NameId}
 use Rattle.exi_names.specs.Events.{Happening, at, ch, cm, dt, ed, ee, er, ns, pi, sc, sd, se}
-use Rattle.exi_names.specs.StartTables.{IsStart, Names}
+use Rattle.exi_names.specs.StartTables.{IsStart}
 use Rattle.exi_tables.specs.Growth.{NoneLonger}
 use Rattle.exi_tables.specs.Partitions.{IsName, Partitions, locals, uris}
-use Rattle.exi_typed.proofs.ContextItems.{bind_fine, fine_is}
+use Rattle.exi_values.proofs.Growths.{few_more as more_places}
+use Rattle.exi_ways.proofs.Forms.{grammars_stand}
+use Rattle.exi_ways.proofs.Wholes.{documents_lead, fragments_lead}
 use Rattle.exi_reader.specs.Changes.{has_level, innermost, outer_room, room_in, state_room}
-use Rattle.exi_reader.specs.Configurations.{Body, Config, Setting, rules_of, spot_in}
+use Rattle.exi_reader.specs.Configurations.{Body, Config, IsSetting, Setting}
 use Rattle.exi_reader.specs.Fews.{Few, FewGrammars, FewLearned}
 use Rattle.exi_reader.specs.Fragments.{fragments_at, fragments_in}
-use Rattle.exi_reader.specs.Handing.{AreThere, HasNames, IsSteady, IsThere, IsThereIn, code_name, known_at_code, known_rule, known_terminal}
-use Rattle.exi_reader.specs.Rules.{Rule, Terminal, attribute, characters, comment, declaration, document_type, element, end_document, end_element, entity, informed, instruction, known, self_contained, spelled, start_document}
+use Rattle.exi_reader.specs.Handing.{AreThere, HasNames, IsSteady, IsThere, IsThereIn, StandsIn}
+use Rattle.exi_reader.specs.Rules.{Telling, Terminal, attribute, characters, comment, declaration, document_type, element, end_document, end_element, entity, instruction, known, self_contained, spelled, start_document, under}
 use Rattle.exi_reader.specs.Runs.{Job, Leads, events_of, first}
-use Rattle.exi_reader.specs.Sound.{FitsContent, FitsDocument, FitsIn, FitsInside, FitsOutside, FitsStart, IsLeastName, IsOuter, IsSound, IsSoundAside, IsSoundElement, IsStateOfName, levels_aside, levels_in}
+use Rattle.exi_reader.specs.Sound.{FitsIn, FitsTelling, IsLeastName, IsOuter, IsSound, IsSoundAside, IsSoundElement, IsStateOfName, levels_aside, levels_in}
 use Rattle.exi_reader.specs.declared.frames.Element.{Element}
 use Rattle.exi_reader.specs.declared.frames.Outer.{Outer}
 use Rattle.exi_reader.specs.declared.frames.Outer.TheVariants as outer
@@ -42,6 +38,8 @@ use Rattle.exi_reader.proofs.Fewness.{few_after_turns}
 use Rattle.exi_reader.proofs.Fitting.{codes_fit}
 use Rattle.exi_reader.proofs.Reached.{reached_are_sound}
 use Rattle.exi_reader.proofs.Sequences.{first_weight, leads_count}
+use Rattle.exi_reader.proofs.Soundness.{attribute_tells, characters_outside, element_tells, inside_only}
+use Rattle.exi_reader.proofs.Withins.{Within, leads_kept}
 
 -- ---- how many turns there are
 few_fragments : (es : List Happening) → fragments_in es ≤ length es
@@ -69,14 +67,21 @@ few_led j s limits turns c within l =
     omega (arith, n.0, n.1, first_weight j s limits, few_fragments (events_of turns), one_at_start s, within.events)
 
 -- ---- what is not much
-few_tables : (n : ℕ) (p : Partitions) → n ≤ 2 ^ 26 + 3 → NoneLonger (2 ^ 30 + 2 * n) p → NoneLonger (2 ^ 31 - 2) p
-few_tables n p le f = record {
-  few_uris = omega (arith, le, f.few_uris);
-  few_locals = λ uri. omega (arith, le, f.few_locals uri);
-  few_prefixes = λ uri. omega (arith, le, f.few_prefixes uri);
-  few_values = omega (arith, le, f.few_values);
-  few_own = λ name. omega (arith, le, f.few_own name);
-}
+text_limit : stream_bounds.text ≡ 2 ^ 28
+text_limit = refl
+
+few_tables : (n units : ℕ) (p : Partitions) → n ≤ 2 ^ 26 + 3 → units ≤ 2 ^ 28 → NoneLonger (2 ^ 30 + 2 * n + units) p → NoneLonger (2 ^ 31 - 2) p
+few_tables n units p le few f = more_places (2 ^ 30 + 2 * n + units) (2 ^ 31 - 2) p (omega (arith, le, few)) f
+
+-- and there is room for what may still be charged
+roomy_tables : (n units : ℕ) (p : Partitions) → n ≤ 2 ^ 26 + 3 → NoneLonger (2 ^ 30 + 2 * n + units) p → NoneLonger (2 ^ 31 - 2 ^ 28 - 2 + units) p
+roomy_tables n units p le f = more_places (2 ^ 30 + 2 * n + units) (2 ^ 31 - 2 ^ 28 - 2 + units) p (omega (arith, le)) f
+
+-- no more text is used than the limit
+used_led : (j : Job) (s : Start) (limits : Bounds) (turns : List (Option Happening)) (c : Config) → IsWithinStream limits → Leads j.setting j.bytes (first j s limits) turns c → c.meter.used.text ≤ 2 ^ 28
+used_led j s limits turns c within l =
+    let k : Within limits c.meter = leads_kept j.setting j.bytes limits (first j s limits) c turns (record { same = refl; kept = record { events = omega arith; text = omega arith; depth = omega arith } }) l in
+    omega (arith, k.kept.text, within.text, text_limit)
 
 abbrev start_tag_of : Option ElementGrammar → List Learnable
 start_tag_of None = []
@@ -103,15 +108,19 @@ few_in n l f le (room.Content number) = content_few n l.grammars number (slice_g
 few_in n l f le room.Fragment = omega (arith, f.fragment, le)
 
 -- ---- what stands
-state_there : (l : Learning) (name : NameId) (s : State) → IsStateOfName l name s → (g : Setting) → IsThereIn g l s
-state_there l name (state.BuiltIn (room.StartTag number)) h g = slice_get_within l.grammars number h.grammar h.stands
-state_there l name (state.BuiltIn (room.Content number)) h g = slice_get_within l.grammars number h.grammar h.stands
-state_there l name (state.BuiltIn room.Fragment) h g = absurd h
-state_there l name (state.Informed grammar number empty) h g = absurd h
+-- a grammar of the schema, and its empty form, have numbers of 32 bits
+has_form : (g : Setting) → IsSetting g → (grammar number : ℕ) → g.schema.known ≡ true → IsStateOf g grammar number → grammar + 1 < 2 ^ 32
+has_form g setting grammar number is_known h = let n = grammars_stand g setting.book setting.schema is_known in omega (arith, h.grammar_is, n.0, setting.schema.small.grammars)
 
-elements_there : (g : Setting) (p : Partitions) (l : Learning) (es : List Element) → All (IsSoundElement p l) es → AreThere g l es
-elements_there g p l [] all = tt
-elements_there g p l (e ∷ es) all = state_there l e.name e.state (All-head (IsSoundElement p l) e es all).state g
+state_there : (g : Setting) → IsSetting g → (l : Learning) (name : NameId) (s : State) → IsStateOfName g l name s → IsThereIn g l s
+state_there g setting l name (state.BuiltIn (room.StartTag number)) h = slice_get_within l.grammars number h.grammar h.stands
+state_there g setting l name (state.BuiltIn (room.Content number)) h = slice_get_within l.grammars number h.grammar h.stands
+state_there g setting l name (state.BuiltIn room.Fragment) h = absurd h
+state_there g setting l name (state.Informed grammar number empty) h = (h.there, has_form g setting grammar number h.known h.there)
+
+elements_there : (g : Setting) → IsSetting g → (p : Partitions) (l : Learning) (es : List Element) → All (IsSoundElement g p l) es → AreThere g l es
+elements_there g setting p l [] all = tt
+elements_there g setting p l (e ∷ es) all = state_there g setting l e.name e.state (All-head (IsSoundElement g p l) e es all).state
 
 some_is : {X : Type 0} (x y : X) → Some x ≡ Some y → x ≡ y
 some_is x y e = cc
@@ -136,33 +145,42 @@ rooms_in : (g : Setting) (l : Learning) (es : List Element) (o : Outer) → AreT
 rooms_in g l [] o h r e = outer_learns l o r e
 rooms_in g l (x ∷ es) o h r e = state_learns g l x.state r h e
 
-three_there : (o : Options) (names : Names) (states : List (List (Productions Entry))) → states ≡ map (state_of o names) (document []) ∷ [] → (number : ℕ) → (number ≡ 0) ⊎ (number ≡ 1) ⊎ (number ≡ 2) → (0 < length states) × (number < length (get_or states 0 []))
-three_there o names states h number k = subst (λ (z : List (List (Productions Entry))). (0 < length z) × (number < length (get_or z 0 []))) (sym h) (omega arith, below number k)
-  where
-    below : (n : ℕ) → (n ≡ 0) ⊎ (n ≡ 1) ⊎ (n ≡ 2) → n < 3
-    below n (inl e) = omega (arith, e)
-    below n (inr (inl e)) = omega (arith, e)
-    below n (inr (inr e)) = omega (arith, e)
+below_three : (n : ℕ) → (n ≡ 0) ⊎ (n ≡ 1) ⊎ (n ≡ 2) → n < 3
+below_three n (inl e) = omega (arith, e)
+below_three n (inr (inl e)) = omega (arith, e)
+below_three n (inr (inr e)) = omega (arith, e)
 
-outer_there : (g : Setting) → IsPlainBook g → (o : Outer) → IsOuter o → IsThere g o
-outer_there g b (outer.Book grammar number) h =
-    let k = three_there g.options g.schema.names g.states b.states number h.1 in
-    subst (λ (z : ℕ). IsStateOf g z number) (sym h.0) (record { grammar_is = k.0; state_is = k.1 })
-outer_there g b outer.FragmentStart h = tt
-outer_there g b outer.FragmentContent h = tt
-outer_there g b outer.AloneStart h = tt
-outer_there g b outer.AloneFirst h = tt
-outer_there g b outer.AloneOver h = tt
-outer_there g b outer.Ended h = tt
+below_two : (n : ℕ) → (n ≡ 0) ⊎ (n ≡ 1) → n < 2
+below_two n (inl e) = omega (arith, e)
+below_two n (inr e) = omega (arith, e)
+
+document_there : (g : Setting) → IsSetting g → (number : ℕ) → (number ≡ 0) ⊎ (number ≡ 1) ⊎ (number ≡ 2) → IsStateOf g 0 number
+document_there g setting number n = let d = documents_lead g setting.book setting.schema in record { grammar_is = d.there; state_is = omega (arith, d.count, below_three number n) }
+
+fragment_there : (g : Setting) → IsSetting g → g.schema.known ≡ true → (number : ℕ) → number < 2 → IsStateOf g 1 number
+fragment_there g setting is_known number n = let f = fragments_lead g setting.book setting.schema is_known in record { grammar_is = f.there; state_is = omega (arith, f.count, n) }
+
+book_there : (g : Setting) → IsSetting g → (grammar number : ℕ) → IsOuter g (outer.Book grammar number) → IsStateOf g grammar number
+book_there g setting zero number h = document_there g setting number h
+book_there g setting (suc grammar) number h = subst (λ (z : ℕ). IsStateOf g (suc z) number) (sym h.0) (fragment_there g setting h.1 number (below_two number h.2))
+
+outer_there : (g : Setting) → IsSetting g → (o : Outer) → IsOuter g o → IsThere g o
+outer_there g setting (outer.Book grammar number) h = book_there g setting grammar number h
+outer_there g setting outer.FragmentStart h = tt
+outer_there g setting outer.FragmentContent h = tt
+outer_there g setting outer.AloneStart h = tt
+outer_there g setting outer.AloneFirst h = λ is_known. fragment_there g setting is_known 1 (omega arith)
+outer_there g setting outer.AloneOver h = λ is_known. fragment_there g setting is_known 1 (omega arith)
+outer_there g setting outer.Ended h = tt
 
 -- ---- levels
 level_open : (es : List Element) (o : Outer) → has_level es o ≡ true → 1 ≤ levels_in es o
 level_open es o h = let e = levels_closed es o h in omega (arith, e)
 
-aside_levels : (bs : List Body) → All IsSoundAside bs → bs ≢ [] → 1 ≤ levels_aside bs
-aside_levels [] all some = absurd (some refl)
-aside_levels (b ∷ bs) all some =
-    let s : IsSoundAside b = All-head IsSoundAside b bs all in
+aside_levels : (g : Setting) (bs : List Body) → All (IsSoundAside g) bs → bs ≢ [] → 1 ≤ levels_aside bs
+aside_levels g [] all some = absurd (some refl)
+aside_levels g (b ∷ bs) all some =
+    let s : IsSoundAside g b = All-head (IsSoundAside g) b bs all in
     omega (arith, level_open b.elements b.outer s.level)
 
 -- ---- names
@@ -172,167 +190,49 @@ name_there p id h = record {
   within_locals = slice_get_within (locals p id.uri) id.local h.local h.least_local.found;
 }
 
-pub open_name : (p : Partitions) (l : Learning) (es : List Element) → All (IsSoundElement p l) es → es ≢ [] → IsName p (innermost es)
-open_name p l [] all some = absurd (some refl)
-open_name p l (e ∷ es) all some = name_there p e.name (All-head (IsSoundElement p l) e es all).name
+pub open_name : (g : Setting) (p : Partitions) (l : Learning) (es : List Element) → All (IsSoundElement g p l) es → es ≢ [] → IsName p (innermost es)
+open_name g p l [] all some = absurd (some refl)
+open_name g p l (e ∷ es) all some = name_there p e.name (All-head (IsSoundElement g p l) e es all).name
 
-known_inside : (p : Partitions) (t : Terminal) (id : NameId) → FitsInside p t → code_name t ≡ Some id → IsLeastName p id
-known_inside p (element (known name)) id h e = subst (IsLeastName p) (some_is name id e) h
-known_inside p (attribute (known name)) id h e = subst (IsLeastName p) (some_is name id e) h
-known_inside p start_document id h e = absurd cc
-known_inside p end_document id h e = absurd cc
-known_inside p (element spelled) id h e = absurd cc
-known_inside p (attribute spelled) id h e = absurd cc
-known_inside p characters id h e = absurd cc
-known_inside p end_element id h e = absurd cc
-known_inside p declaration id h e = absurd cc
-known_inside p self_contained id h e = absurd cc
-known_inside p comment id h e = absurd cc
-known_inside p instruction id h e = absurd cc
-known_inside p document_type id h e = absurd cc
-known_inside p entity id h e = absurd cc
-known_inside p (informed symbol) id h e = absurd cc
+telling_there : (p : Partitions) (t : Telling) → FitsTelling p t → StandsIn p t
+telling_there p spelled h = tt
+telling_there p (under uri) h = slice_get_within (uris p) uri h.0 h.1.found
+telling_there p (known id) h = name_there p id h
 
-known_document : (p : Partitions) (n : ℕ) (t : Terminal) (to : ℕ) (id : NameId) → FitsDocument n t to → code_name t ≡ Some id → IsLeastName p id
-known_document p n start_document to id h e = absurd cc
-known_document p n end_document to id h e = absurd cc
-known_document p n (element spelled) to id h e = absurd cc
-known_document p n (element (known name)) to id h e = absurd h
-known_document p n (attribute spelled) to id h e = absurd h
-known_document p n (attribute (known name)) to id h e = absurd h
-known_document p n characters to id h e = absurd cc
-known_document p n end_element to id h e = absurd cc
-known_document p n declaration to id h e = absurd cc
-known_document p n self_contained to id h e = absurd cc
-known_document p n comment to id h e = absurd cc
-known_document p n instruction to id h e = absurd cc
-known_document p n document_type to id h e = absurd cc
-known_document p n entity to id h e = absurd cc
-known_document p n (informed symbol) to id h e = absurd cc
-
-known_content : (p : Partitions) (t : Terminal) (to : ℕ) (id : NameId) → FitsContent p t to → code_name t ≡ Some id → IsLeastName p id
-known_content p (element (known name)) to id h e = subst (IsLeastName p) (some_is name id e) h.1
-known_content p start_document to id h e = absurd cc
-known_content p end_document to id h e = absurd cc
-known_content p (element spelled) to id h e = absurd cc
-known_content p (attribute spelled) to id h e = absurd h
-known_content p (attribute (known name)) to id h e = absurd h
-known_content p characters to id h e = absurd cc
-known_content p end_element to id h e = absurd cc
-known_content p declaration to id h e = absurd cc
-known_content p self_contained to id h e = absurd cc
-known_content p comment to id h e = absurd cc
-known_content p instruction to id h e = absurd cc
-known_content p document_type to id h e = absurd cc
-known_content p entity to id h e = absurd cc
-known_content p (informed symbol) to id h e = absurd cc
-
-known_start : (p : Partitions) (t : Terminal) (to : ℕ) (id : NameId) → FitsStart t to → code_name t ≡ Some id → IsLeastName p id
-known_start p start_document to id h e = absurd cc
-known_start p end_document to id h e = absurd cc
-known_start p (element spelled) to id h e = absurd h
-known_start p (element (known name)) to id h e = absurd h
-known_start p (attribute spelled) to id h e = absurd h
-known_start p (attribute (known name)) to id h e = absurd h
-known_start p characters to id h e = absurd cc
-known_start p end_element to id h e = absurd cc
-known_start p declaration to id h e = absurd cc
-known_start p self_contained to id h e = absurd cc
-known_start p comment to id h e = absurd cc
-known_start p instruction to id h e = absurd cc
-known_start p document_type to id h e = absurd cc
-known_start p entity to id h e = absurd cc
-known_start p (informed symbol) to id h e = absurd cc
-
-known_outside : (p : Partitions) (o : Outer) (t : Terminal) (to : ℕ) (id : NameId) → FitsOutside p o t to → code_name t ≡ Some id → IsLeastName p id
-known_outside p (outer.Book grammar number) t to id h e = known_document p number t to id h e
-known_outside p outer.FragmentStart t to id h e = known_start p t to id h e
-known_outside p outer.FragmentContent t to id h e = known_content p t to id h e
-known_outside p outer.AloneStart t to id h e = known_start p t to id h e
-known_outside p outer.AloneFirst t to id h e = known_content p t to id h e
-known_outside p outer.AloneOver t to id h e = known_content p t to id h e
-known_outside p outer.Ended t to id h e = absurd h
-
-known_fits : (p : Partitions) (o : Outer) (es : List Element) (t : Terminal) (to : ℕ) (id : NameId) → FitsIn p o es t to → code_name t ≡ Some id → IsLeastName p id
-known_fits p o [] t to id h e = known_outside p o t to id h e
-known_fits p o (x ∷ es) t to id h e = known_inside p t id h e
-
--- characters stand in an element
-no_characters : (p : Partitions) (o : Outer) (to : ℕ) → FitsOutside p o characters to → ⊥
-no_characters p (outer.Book grammar number) to h = h
-no_characters p outer.FragmentStart to h = h
-no_characters p outer.FragmentContent to h = h
-no_characters p outer.AloneStart to h = h
-no_characters p outer.AloneFirst to h = h
-no_characters p outer.AloneOver to h = h
-no_characters p outer.Ended to h = h
-
-some_open : (p : Partitions) (o : Outer) (es : List Element) (to : ℕ) → FitsIn p o es characters to → es ≢ []
-some_open p o [] to h = absurd (no_characters p o to h)
-some_open p o (x ∷ es) to h = λ e. absurd cc
-
--- what only a schema has is no other production
-same_name : (t : Terminal) → code_name (known_terminal t) ≡ code_name t
-same_name start_document = refl
-same_name end_document = refl
-same_name (element t) = refl
-same_name (attribute t) = refl
-same_name characters = refl
-same_name end_element = refl
-same_name declaration = refl
-same_name self_contained = refl
-same_name comment = refl
-same_name instruction = refl
-same_name document_type = refl
-same_name entity = refl
-same_name (informed sort) = refl
-
-same_characters : (t : Terminal) → known_terminal t ≡ characters → t ≡ characters
-same_characters start_document e = absurd cc
-same_characters end_document e = absurd cc
-same_characters (element t) e = absurd cc
-same_characters (attribute t) e = absurd cc
-same_characters characters e = refl
-same_characters end_element e = absurd cc
-same_characters declaration e = absurd cc
-same_characters self_contained e = absurd cc
-same_characters comment e = absurd cc
-same_characters instruction e = absurd cc
-same_characters document_type e = absurd cc
-same_characters entity e = absurd cc
-same_characters (informed sort) e = absurd cc
-
-names_of : (g : Setting) (bytes : List ℕ) (c : Config) → IsPlainBook g → IsSound c → (r : Rule) (t : Spot) → known_at_code g (rules_of g c) (spot_in bytes c) ≡ Ok (r, t) → HasNames c r.on
-names_of g bytes c b s r t e =
-    let k = bind_fine (code_at (align_of g.options) (rules_of g c) (spot_in bytes c)) (λ x. Ok (known_rule x.0, x.1)) (r, t) e in
-    let same : known_rule k.0.0 ≡ r = ap (λ (z : Rule × Spot). z.0) (fine_is (known_rule k.0.0, k.0.1) (r, t) k.2) in
-    let on : known_terminal k.0.0.on ≡ r.on = ap (λ (z : Rule). z.on) same in
-    let fit = (codes_fit g bytes c k.0.0 k.0.1 b s k.1).0 in
-    record {
-      known = λ id h. name_there c.tables id (known_fits c.tables c.outer c.elements k.0.0.on k.0.0.to id fit (sym (same_name k.0.0.on) ∙ (ap code_name on ∙ h)));
-      inside = λ h.
-          let it : k.0.0.on ≡ characters = same_characters k.0.0.on (on ∙ h) in
-          open_name c.tables c.learned c.elements s.body.elements (some_open c.tables c.outer c.elements k.0.0.to (subst (λ (z : Terminal). FitsIn c.tables c.outer c.elements z k.0.0.to) it fit));
-    }
+-- the names that a production needs
+names_fit : (g : Setting) (c : Config) (t : Terminal) (to : ℕ) → IsSound g c → FitsIn g c.tables c.outer c.elements t to → HasNames c t
+names_fit g c (element t) to s h = telling_there c.tables t (element_tells g c.tables c.outer c.elements t to h)
+names_fit g c (attribute t v) to s h = telling_there c.tables t (attribute_tells g c.tables c.outer c.elements t v to h)
+names_fit g c (characters d) to s h = open_name g c.tables c.learned c.elements s.body.elements (inside_only g c.tables c.outer (characters d) to (characters_outside c.tables c.outer d to) c.elements h)
+names_fit g c start_document to s h = tt
+names_fit g c end_document to s h = tt
+names_fit g c end_element to s h = tt
+names_fit g c declaration to s h = tt
+names_fit g c self_contained to s h = tt
+names_fit g c comment to s h = tt
+names_fit g c instruction to s h = tt
+names_fit g c document_type to s h = tt
+names_fit g c entity to s h = tt
 
 -- ---- all of it
-pub steady : (j : Job) (s : Start) (limits : Bounds) (turns : List (Option Happening)) (c : Config) → IsWithinStream limits → IsPlainBook j.setting → IsStart j.setting.schema.names → Leads j.setting j.bytes (first j s limits) turns c → IsSteady (record { setting = j.setting; bytes = j.bytes; config = c })
-steady j s limits turns c within b names l =
-    let sound : IsSound c = reached_are_sound j s limits turns c b names l in
+pub steady : (j : Job) (s : Start) (limits : Bounds) (turns : List (Option Happening)) (c : Config) → IsWithinStream limits → IsSetting j.setting → IsStart j.setting.schema.names → Leads j.setting j.bytes (first j s limits) turns c → IsSteady (record { setting = j.setting; bytes = j.bytes; config = c })
+steady j s limits turns c within setting names l =
+    let sound : IsSound j.setting c = reached_are_sound j s limits turns c setting names l in
     let few : Few (length turns) c = few_after_turns j s limits turns c names l in
     let count : length turns ≤ 2 ^ 26 + 3 = few_led j s limits turns c within l in
-    let there : AreThere j.setting c.learned c.elements = elements_there j.setting c.tables c.learned c.elements sound.body.elements in
+    let there : AreThere j.setting c.learned c.elements = elements_there j.setting setting c.tables c.learned c.elements sound.body.elements in
     record {
-      there = outer_there j.setting b c.outer sound.body.outer_is;
+      there = outer_there j.setting setting c.outer sound.body.outer_is;
       elements = there;
       room = record {
-        few = few_tables (length turns) c.tables count few.tables;
+        few = few_tables (length turns) c.meter.used.text c.tables count (used_led j s limits turns c within l) few.tables;
+        roomy = roomy_tables (length turns) c.meter.used.text c.tables count few.tables;
         learns = record { there = rooms_in j.setting c.learned c.elements c.outer there; few = few_in (length turns) c.learned few.learned count };
         grammars = omega (arith, few.learned.grammars, count);
       };
       levels = record {
-        aside = λ some. omega (arith, sound.level, aside_levels c.aside sound.aside some);
+        aside = λ some. omega (arith, sound.level, aside_levels j.setting c.aside sound.aside some);
         inside = λ h. omega (arith, sound.level, level_open c.elements c.outer h);
       };
-      names = names_of j.setting j.bytes c b sound;
+      names = λ r t e. names_fit j.setting c r.on r.to sound (codes_fit j.setting j.bytes c r t setting names sound e).0;
     }

@@ -3,6 +3,8 @@
 use Rattle.std.proofs.Common.{◌≡◌, ℕ, zero, suc, ◌+◌, ◌*◌, ◌/◌, ◌≤◌, Bool, true, false, List, [], ◌∷◌, Option, Some, None, refl, sym, ap, ◌∙◌, subst, arith}
 use Rattle.std.proofs.lemmas.Bool.{leb-true}
 use Rattle.exi_bits.specs.declared.fault.Kind.TheVariants as kind
+use Rattle.exi_builtin.specs.declared.learnable.Learned.{Learned}
+use Rattle.exi_builtin.specs.declared.learnable.Learned.TheVariants as used
 use Rattle.exi_gram.specs.Switches.{align_of}
 use Rattle.exi_meter.specs.Metering.{Metering, event_fits, with_text}
 use Rattle.exi_meter.specs.declared.tally.Tally.{Tally}
@@ -11,12 +13,12 @@ use Rattle.exi_names.specs.Events as happening
 use Rattle.exi_typed.specs.ReadStates.{ReadState}
 use Rattle.exi_typed.specs.Continues.{Continues}
 use Rattle.exi_typed.proofs.ContextItems.{told}
-use Rattle.exi_reader.specs.Changes.{outer_behind, resumed}
+use Rattle.exi_reader.specs.Changes.{Effect, effect_of, effected, emptied, leads, learns_name, outer_behind, resumed, retyped, stays}
 use Rattle.exi_reader.specs.Configurations.{Body, Config, Setting, read_state_in, reached, rules_of, spot_in}
 use Rattle.exi_reader.specs.Fragments.{begins}
 use Rattle.exi_reader.specs.OneEvent.{behind, one, remembered}
 use Rattle.exi_reader.specs.Plans.{Alone, Given, Plan, alone_in, at_end, at_first, at_start, ended_in, nowhere, plan_of, plan_on}
-use Rattle.exi_reader.specs.Rules.{Rule, Terminal, attribute, characters, comment, declaration, document_type, element, end_document, end_element, entity, informed, instruction, known, self_contained, spelled, start_document}
+use Rattle.exi_reader.specs.Rules.{Rule, Telling, Terminal, attribute, characters, comment, declaration, document_type, element, end_document, end_element, entity, instruction, known, self_contained, spelled, start_document, under}
 use Rattle.exi_reader.specs.Spelled.{IsCharged, counted_by, entered_by}
 use Rattle.exi_reader.specs.declared.frames.Element.{Element}
 use Rattle.exi_reader.specs.declared.frames.Outer.{Outer}
@@ -106,6 +108,18 @@ own_gives to k d less h i =
     let m : weights_in d.aside ≡ weights_in k.aside = ap (λ (z : List Body). weights_in z) i in
     (refl, omega (arith, less, n, m, moved_weight to k.elements k.outer))
 
+-- what an attribute does leaves the weights, or leads on
+effect_weight : (e : Effect) (to : ℕ) (k : Config) → weights (effected e to k) ≤ weights k
+effect_weight leads to k = omega (arith, moved_weight to k.elements k.outer)
+effect_weight (retyped grammar) to k = omega arith
+effect_weight emptied to k = omega arith
+effect_weight stays to k = omega arith
+
+learned_weight : (t : Telling) (u : Learned) (k : Config) → weights (learns_name t u k) ≡ weights k
+learned_weight spelled u k = refl
+learned_weight (under uri) u k = refl
+learned_weight (known id) u k = refl
+
 one_fewer : (a b : Alone) → a ≡ b → 1 ≤ fewer b → 1 ≤ fewer a
 one_fewer a b h le = subst (λ (z : Alone). 1 ≤ fewer z) (sym h) le
 
@@ -126,15 +140,17 @@ module _ (g : Setting) (c : Config) (r : Rule) where
   plan_gives at_first end_document x k h b f = (refl, ended_weight at_first k (subst (λ (z : Alone). ends_less z ≤ weight k.outer) h (alone_weight k.elements k.outer)))
   plan_gives at_end end_document x k h b f = (refl, ended_weight at_end k (subst (λ (z : Alone). ends_less z ≤ weight k.outer) h (alone_weight k.elements k.outer)))
   plan_gives nowhere (element spelled) x k h b f = plain_gives r.to k ((p nowhere (element spelled)).make x k).1 (happening.se x.name) refl refl
+  plan_gives nowhere (element (under uri)) x k h b f = plain_gives r.to k ((p nowhere (element (under uri))).make x k).1 (happening.se x.name) refl refl
   plan_gives nowhere (element (known id)) x k h b f = plain_gives r.to k ((p nowhere (element (known id))).make x k).1 (happening.se x.name) refl refl
   plan_gives at_start (element spelled) x k h b f = own_gives r.to k ((p at_start (element spelled)).make x k).1 (one_fewer (alone_in k.elements k.outer) at_start h (omega arith)) refl refl
+  plan_gives at_start (element (under uri)) x k h b f = own_gives r.to k ((p at_start (element (under uri))).make x k).1 (one_fewer (alone_in k.elements k.outer) at_start h (omega arith)) refl refl
   plan_gives at_start (element (known id)) x k h b f = own_gives r.to k ((p at_start (element (known id))).make x k).1 (one_fewer (alone_in k.elements k.outer) at_start h (omega arith)) refl refl
   plan_gives at_first (element spelled) x k h b f = own_gives r.to k ((p at_first (element spelled)).make x k).1 (one_fewer (alone_in k.elements k.outer) at_first h (omega arith)) refl refl
+  plan_gives at_first (element (under uri)) x k h b f = own_gives r.to k ((p at_first (element (under uri))).make x k).1 (one_fewer (alone_in k.elements k.outer) at_first h (omega arith)) refl refl
   plan_gives at_first (element (known id)) x k h b f = own_gives r.to k ((p at_first (element (known id))).make x k).1 (one_fewer (alone_in k.elements k.outer) at_first h (omega arith)) refl refl
   plan_gives at_end (element t) x k h b f = absurd (none_some kind.ScNotOne b)
-  plan_gives a (attribute spelled) x k h b f = plain_gives r.to k ((p a (attribute spelled)).make x k).1 (happening.at x.0.name x.1) refl refl
-  plan_gives a (attribute (known id)) x k h b f = plain_gives r.to k ((p a (attribute (known id))).make x k).1 (happening.at x.0.name x.1) refl refl
-  plan_gives a characters x k h b f = plain_gives r.to k ((p a characters).make x k).1 (happening.ch x) refl refl
+  plan_gives a (attribute t v) x k h b f = (happening.at x.0.name x.1, refl, omega (arith, effect_weight (effect_of g v x.0.id x.1) r.to (learns_name t (used.At x.0.id) k), learned_weight t (used.At x.0.id) k))
+  plan_gives a (characters d) x k h b f = plain_gives r.to k ((p a (characters d)).make x k).1 (happening.ch x) refl refl
   plan_gives a end_element x k h b f = (happening.ee, refl, omega arith)
   plan_gives a declaration x k h b f = plain_gives r.to k ((p a declaration).make x k).1 (happening.ns x.uri x.prefix x.element) refl refl
   plan_gives a self_contained x k h b f = (happening.sc (k.place / 8), refl, omega arith)
@@ -142,7 +158,6 @@ module _ (g : Setting) (c : Config) (r : Rule) where
   plan_gives a instruction x k h b f = plain_gives r.to k ((p a instruction).make x k).1 (happening.pi x.0 x.1) refl refl
   plan_gives a document_type x k h b f = plain_gives r.to k ((p a document_type).make x k).1 (happening.dt x.0.0 x.0.1 x.1.0 x.1.1) refl refl
   plan_gives a entity x k h b f = plain_gives r.to k ((p a entity).make x k).1 (happening.er x) refl refl
-  plan_gives a (informed symbol) x k h b f = absurd (none_some kind.NoCode b)
 
 -- ---- one event
 abbrev pub events : Config → ℕ

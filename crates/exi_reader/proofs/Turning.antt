@@ -5,7 +5,6 @@ use Rattle.std.proofs.lemmas.List.Elements.{All-head}
 use Rattle.std.specs.Result.{IsErrOf}
 use Rattle.exi_bits.specs.Bits.{IsBytes}
 use Rattle.exi_bits.specs.declared.fault.Fault.{Fault}
-use Rattle.exi_gram.specs.Books.{IsPlainBook}
 use Rattle.exi_meter.specs.Metering.{Bounds, IsWithinStream}
 use Rattle.exi_names.specs.Events.{Happening}
 use Rattle.exi_names.specs.Events as event
@@ -13,7 +12,7 @@ use Rattle.exi_names.specs.StartTables.{IsStart}
 use Rattle.exi_typed.specs.ReadStates.{Failure}
 use Rattle.exi_tables.specs.Partitions.{IsName}
 use Rattle.exi_reader.specs.Changes.{innermost, put_aside, texts_of}
-use Rattle.exi_reader.specs.Configurations.{Body, Config, Setting, first_config}
+use Rattle.exi_reader.specs.Configurations.{Body, Config, IsSetting, Setting, first_config}
 use Rattle.exi_reader.specs.Handing.{Hands, HandsAny, HandsFragment, IsSteady, Standing, fragment_in, listed, push_halt}
 use Rattle.exi_reader.specs.OneEvent.{at_event, moved_limit, one}
 use Rattle.exi_reader.specs.Plans.{Given}
@@ -35,33 +34,6 @@ use Rattle.exi_reader.proofs.Sequences.{a_run_is_there, front_of_run}
 use Rattle.exi_reader.specs.Sound.{IsSound, IsSoundAside}
 use Rattle.exi_reader.proofs.Reached.{reached_are_sound}
 use Rattle.exi_reader.proofs.Steady.{few_led, open_name, steady}
-
--- ---- what is handed on behind a code
-module _ {T : Type 0} (took : T → List Happening → T → Type 0) (broke : T → Happening → T → Type 0) (bit : ℕ) (made read : Result Given Failure) (is : read ≡ at_event bit made) (before after : T) where
-  pub hands_none : (c : Config) → Hands took broke (Ok tt) c made before after → Hands took broke (Ok tt) c read before after
-  hands_none c h = (h.0, is ∙ ap (at_event bit) h.1, h.2)
-
-  pub hands_some : (byte : ℕ) (s : Standing) → HandsFragment took broke (Ok byte) s made before after → HandsFragment took broke (Ok byte) s read before after
-  hands_some byte s h = (is ∙ ap (at_event bit) h.0, h.1)
-
-  pub hands_ok : (x : Option ℕ) (s : Standing) → HandsAny took broke (Ok x) s made before after → HandsAny took broke (Ok x) s read before after
-  hands_ok None s h = hands_none s.config h
-  hands_ok (Some byte) s h = hands_some byte s h
-
-  pub hands_fault : (f : Fault) (c : Config) → Hands took broke (Err (halt.Fault f)) c made before after → Hands took broke (Err (halt.Fault (moved_limit bit f))) c read before after
-  hands_fault f c h = (is ∙ ap (at_event bit) h.0, h.1)
-
-  pub hands_memory : (c : Config) → Hands took broke (Err halt.Memory) c made before after → Hands took broke (Err halt.Memory) c read before after
-  hands_memory c (inl t) = inl t
-  hands_memory c (inr h) = inr (h.0, h.1, is ∙ ap (at_event bit) h.2, h.3)
-
-  pub hands_stopped : (c : Config) → Hands took broke (Err halt.Stopped) c made before after → Hands took broke (Err halt.Stopped) c read before after
-  hands_stopped c h = (h.0, h.1, is ∙ ap (at_event bit) h.2, h.3)
-
--- what takes the events stopped, at this event
-pub see_stops : {T : Type 0} (took : T → List Happening → T → Type 0) (broke : T → Happening → T → Type 0) (e : PushStop) (s : Standing) (read : Result Given Failure) (event_is : Happening) (next : Config) (before after : T) → read ≡ Ok (Some event_is, next) → (IsErrOf {T = Unit {0}} (Err e) push.Memory → took before [] after) → (IsErrOf {T = Unit {0}} (Err e) push.Stopped → broke before event_is after) → HandsAny took broke (Err (push_halt e)) s read before after
-see_stops took broke push.Memory s read event_is next before after is m b = inl (m refl)
-see_stops took broke push.Stopped s read event_is next before after is m b = (event_is, next, is, b refl)
 
 -- ---- one turn
 abbrev given_by : Option Happening → Config → Result Given Failure
@@ -232,7 +204,7 @@ module _ {T : Type 0} (took : T → List Happening → T → Type 0) (broke : T 
 true_no_false : {X : Type 0} → true ≡ false → X
 true_no_false e = absurd cc
 
-pub reached_first : (j : Job) (s : Start) (limits : Bounds) (r : Reading) → r ≡ record { setting = j.setting; bytes = j.bytes; config = first j s limits; waits = false } → IsWithinStream limits → IsPlainBook j.setting → IsStart j.setting.schema.names → IsBytes j.bytes → IsReached r
+pub reached_first : (j : Job) (s : Start) (limits : Bounds) (r : Reading) → r ≡ record { setting = j.setting; bytes = j.bytes; config = first j s limits; waits = false } → IsWithinStream limits → IsSetting j.setting → IsStart j.setting.schema.names → IsBytes j.bytes → IsReached r
 reached_first j s limits r e within b names octets = subst IsReached (sym e) (record { body = j.body; start = s; limits = limits; within = within; book = b; names = names; octets = octets; turns = []; leads = refl; fragment = λ k. true_no_false (sym k) })
 
 abbrev waits_at : Reading → Type 0
@@ -244,7 +216,7 @@ reached_same r q e at h a b f = record {
   start = at.start;
   limits = at.limits;
   within = at.within;
-  book = subst IsPlainBook (sym a) at.book;
+  book = subst IsSetting (sym a) at.book;
   names = subst (λ (z : Setting). IsStart z.schema.names) (sym a) at.names;
   octets = subst IsBytes (sym b) at.octets;
   turns = at.turns ++ e ∷ [];
@@ -257,7 +229,7 @@ reached_deep : (r : Reading) → IsReached r → Deep r.config.meter
 unfolding Deep
 reached_deep r at = led_deep r.setting r.bytes at.turns (first_config r.setting at.body at.start at.limits) r.config at.leads (omega arith)
 
-pub reached_sound : (r : Reading) → IsReached r → IsSound r.config
+pub reached_sound : (r : Reading) → IsReached r → IsSound r.setting r.config
 reached_sound r at = reached_are_sound (record { setting = r.setting; bytes = r.bytes; body = at.body }) at.start at.limits at.turns r.config at.book at.names at.leads
 
 -- ---- a reader's turn
@@ -277,7 +249,7 @@ reader_steady s false r e h k =
     steady (record { setting = s.setting; bytes = s.bytes; body = at.body }) at.start at.limits at.turns s.config at.within at.book at.names at.leads
 
 stands_at : (byte : ℕ) (s new : Standing) → IsReached (view s false) → one s.setting s.bytes s.config ≡ Ok (Some (event.sc byte), put_aside new.setting new.config) → new.setting ≡ s.setting → AtFragment new.setting byte (put_aside new.setting new.config)
-stands_at byte s new from h a = subst (λ (z : Setting). AtFragment z byte (put_aside new.setting new.config)) (sym a) (at_fragment s.setting s.bytes s.config (put_aside new.setting new.config) byte from.book (reached_sound (view s false) from) (reached_deep (view s false) from) h)
+stands_at byte s new from h a = subst (λ (z : Setting). AtFragment z byte (put_aside new.setting new.config)) (sym a) (at_fragment s.setting s.bytes s.config (put_aside new.setting new.config) byte from.book from.names (reached_sound (view s false) from) (reached_deep (view s false) from) h)
 
 pub place_fragment : (byte : ℕ) (s new : Standing) (w : Bool) (r : Reading) → view s w ≡ r → r.waits ≡ false → IsReached r → one s.setting s.bytes s.config ≡ Ok (Some (event.sc byte), put_aside new.setting new.config) → new.setting ≡ s.setting → (view new true).config.place ≡ 8 * byte
 place_fragment byte s new true r e g at h a = true_no_false (going s true r e g)
@@ -297,8 +269,8 @@ fragment_name : (s : Standing) → IsReached (view s true) → IsName s.config.t
 fragment_name s at =
     let sound = reached_are_sound (record { setting = s.setting; bytes = s.bytes; body = at.body }) at.start at.limits at.turns (put_aside s.setting s.config) at.book at.names at.leads in
     let b : Body = record { tables = s.config.tables; learned = s.config.learned; elements = s.config.elements; outer = s.config.outer; name = texts_of s.config.tables (innermost s.config.elements) } in
-    let head : IsSoundAside b = All-head IsSoundAside b s.config.aside sound.aside in
-    open_name s.config.tables s.config.learned s.config.elements head.body.elements (level_some s.config.elements s.config.outer head.level)
+    let head : IsSoundAside s.setting b = All-head (IsSoundAside s.setting) b s.config.aside sound.aside in
+    open_name s.setting s.config.tables s.config.learned s.config.elements head.body.elements (level_some s.config.elements s.config.outer head.level)
 
 pub reader_name : (s : Standing) (w : Bool) (r : Reading) → view s w ≡ r → r.waits ≡ true → IsReached r → IsName s.config.tables (innermost s.config.elements)
 reader_name s true r e h k = fragment_name s (subst IsReached (sym e) k)

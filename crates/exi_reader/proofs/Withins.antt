@@ -153,7 +153,7 @@ turn_kept : (limits : Bounds) (bytes : List ℕ) (c : Config) (r : Result Given 
 turn_kept limits bytes c (Ok given) x next h k = goes_kept (has_ended given.1) limits bytes given x next h k
 turn_kept limits bytes c (Err e) x next h k = absurd cc
 
-leads_kept : (g : Setting) (bytes : List ℕ) (limits : Bounds) (c last : Config) (turns : List (Option Happening)) → Within limits c.meter → Leads g bytes c turns last → Within limits last.meter
+pub leads_kept : (g : Setting) (bytes : List ℕ) (limits : Bounds) (c last : Config) (turns : List (Option Happening)) → Within limits c.meter → Leads g bytes c turns last → Within limits last.meter
 leads_kept g bytes limits c last [] w l = subst (λ (z : Config). Within limits z.meter) l w
 leads_kept g bytes limits c last (x ∷ turns) w l = leads_kept g bytes limits l.0 last turns (turn_kept limits bytes c (one g bytes c) x l.0 l.1 (one_kept g bytes limits c w)) l.2
 

@@ -21,6 +21,7 @@ use Rattle.exi_names.specs.StartTables.{first_names}
 use Rattle.exi_names.specs.declared.names.QName.{QName}
 use Rattle.exi_text.specs.Literals.{chars_at, code_at as char_code_at, in_set_at}
 use Rattle.exi_typed.specs.Items.{item_at}
+use Rattle.exi_values.specs.Valued.{valued_at}
 use Rattle.exi_typed.specs.NameValues.{name_value_at}
 use Rattle.exi_typed.specs.Strings.{charged_at, declaration_at, declared_under, hit_at, indexed_at, known_at, literal_at, local_at, missed_at, name_at, name_under, value_at}
 use Rattle.exi_reader.specs.Configurations.{Config, Setting, first_config}
@@ -303,7 +304,7 @@ pub record Streams : Type 0 where
   pub spliced_fault : read_spliced 4 4 7 (0x80 ∷ 0x40 ∷ 0x98 ∷ 0x5A ∷ 0x04 ∷ 0xC4 ∷ 0x80 ∷ 0x20 ∷ 0x4C ∷ []) ≡ reached [] (wrong kind.Short 67 4 3 2)
 
 streams : Streams
-unfolding one followed charge_at item_at both_at attribute_value_at declaration_at declared_under name_value_at name_at name_under known_at local_at indexed_at literal_at missed_at hit_at charged_at value_at chars_at in_set_at char_code_at is_xml_char text_charge code_at second_at member_at part_at times below_at field_at unsigned_at narrow_groups_at groups_at number_at value_of bits number_bits le_value width_from
+unfolding one followed charge_at valued_at item_at both_at attribute_value_at declaration_at declared_under name_value_at name_at name_under known_at local_at indexed_at literal_at missed_at hit_at charged_at value_at chars_at in_set_at char_code_at is_xml_char text_charge code_at second_at member_at part_at times below_at field_at unsigned_at narrow_groups_at groups_at number_at value_of bits number_bits le_value width_from
 streams = record {
   empty_element = refl;
   one_text = refl;

@@ -1,24 +1,29 @@
 -- What an event makes of a configuration: what its state learns, the state that follows, an element opened and closed,
 -- a body put aside and taken up again (EXI 1.0, sections 8.4 and 8.5.4).
-use Rattle.std.specs.Prelude.{ℕ, zero, suc, ◌&&◌, Bool, true, false, List, [], ◌∷◌, Option, Some, None, get_or, if◌then◌else◌}
-use Rattle.std.specs.Str.{bytes_eq}
+use Rattle.std.specs.Prelude.{ℕ, zero, suc, ◌+◌, Bool, true, false, List, [], ◌∷◌, Option, Some, None, get_or, if◌then◌else◌}
 use Rattle.exi_builtin.specs.declared.learnable.Learned.{Learned}
 use Rattle.exi_builtin.specs.declared.learnable.Room.{Room}
 use Rattle.exi_builtin.specs.declared.learnable.Room.TheVariants as room
-use Rattle.exi_builtin.specs.Learning.{Learning, after_use, grammar_number, nothing_learned, with_grammar}
+use Rattle.exi_builtin.specs.Learning.{Learning, after_use, grammar_number, is_type, nothing_learned, with_grammar}
 use Rattle.exi_meter.specs.Metering.{Metering, without_level}
 use Rattle.exi_names.specs.declared.names.NameId.{NameId}
 use Rattle.exi_names.specs.declared.names.QName.{QName}
+use Rattle.exi_names.specs.Seen.{Value}
+use Rattle.exi_names.specs.Seen as value
 use Rattle.exi_tables.specs.Partitions.{Partitions, locals, uris}
 use Rattle.exi_reader.specs.Configurations.{Body, Config, Setting, first_tables}
-use Rattle.exi_reader.specs.Rules.{Telling, known, spelled}
+use Rattle.exi_reader.specs.Contents.{is_nil, named_type}
+pub use Rattle.exi_reader.specs.Globals.{same_texts}
+use Rattle.exi_reader.specs.Globals.{element_grammar}
+use Rattle.exi_reader.specs.Rules.{Telling, Valuing, by_name, known, spelled, typed, under, untyped}
 use Rattle.exi_reader.specs.declared.frames.Element.{Element}
 use Rattle.exi_reader.specs.declared.frames.Outer.{Outer}
 use Rattle.exi_reader.specs.declared.frames.Outer.TheVariants as outer
 use Rattle.exi_reader.specs.declared.frames.State.{State}
 use Rattle.exi_reader.specs.declared.frames.State.TheVariants as state
 
--- ---- learning: built-in states alone do (8.4.2, 8.4.3)
+-- ---- learning: built-in states alone do (8.4.2, 8.4.3). By a schema no state asks what a fragment that stands for one element
+-- has learned
 abbrev pub state_room : State → Option Room
 state_room (state.BuiltIn r) = Some r
 state_room (state.Informed grammar number empty) = None
@@ -47,6 +52,7 @@ learns use_of c = record c { learned = learned_in (room_in c.elements c.outer) u
 -- by the use of a name that has bits of its own
 abbrev pub learns_name : Telling → Learned → Config → Config
 learns_name spelled use_of c = learns use_of c
+learns_name (under uri) use_of c = learns use_of c
 learns_name (known id) use_of c = c
 
 -- ---- the state that follows
@@ -89,7 +95,58 @@ outer_behind to (e ∷ es) outer = outer
 abbrev pub moves : ℕ → Config → Config
 moves to c = record c { elements = moved_elements to c.elements; outer = outer_behind to c.elements c.outer }
 
+-- ---- what an attribute does beside (8.4.3, 8.5.4.4)
+-- the innermost element goes on in this state
+abbrev pub restated : State → List Element → List Element
+restated s [] = []
+restated s (e ∷ es) = record e { state = s } ∷ es
+
+-- the empty form of a grammar, from its start: it stands behind the full form, and its own is itself (own)
+abbrev pub emptied_state : State → State
+emptied_state (state.BuiltIn r) = state.BuiltIn r
+emptied_state (state.Informed grammar number true) = state.Informed grammar 0 true
+emptied_state (state.Informed grammar number false) = state.Informed (grammar + 1) 0 true
+
+abbrev pub emptied_elements : List Element → List Element
+emptied_elements [] = []
+emptied_elements (e ∷ es) = record e { state = emptied_state e.state } ∷ es
+
+-- what comes of an attribute: its production leads on; its element goes on with a type's grammar, or with its own in its
+-- empty form; or the state stays
+pub data Effect : Type 0 where
+  leads : Effect
+  retyped : ℕ → Effect
+  emptied : Effect
+  stays : Effect
+
+abbrev pub effected : Effect → ℕ → Config → Config
+effected leads to c = moves to c
+effected (retyped grammar) to c = record c { elements = restated (state.Informed grammar 0 false) c.elements }
+effected emptied to c = record c { elements = emptied_elements c.elements }
+effected stays to c = c
+
+-- xsi:type in a built-in grammar, or in one of the schema; a type that is not there leaves the state as it is
+abbrev pub type_effect : Effect → Option ℕ → Effect
+type_effect otherwise None = otherwise
+type_effect otherwise (Some grammar) = retyped grammar
+
+-- xsi:nil
+abbrev pub nil_effect : Value → Effect
+nil_effect (value.boolean true digit) = emptied
+nil_effect v = stays
+
+abbrev pub effect_of : Setting → Valuing → NameId → Value → Effect
+effect_of g untyped name found = if is_type name then type_effect leads (named_type g found) else leads
+effect_of g (typed r) name found = leads
+effect_of g by_name name found = if is_type name then type_effect stays (named_type g found) else (if is_nil name then nil_effect found else leads)
+
 -- ---- elements
+-- by which grammar an element is opened: that of its production, else that of the global element of its name, and else the
+-- built-in grammar of the name
+abbrev pub opener : Setting → QName → Option ℕ → Option ℕ
+opener g name (Some grammar) = Some grammar
+opener g name None = element_grammar g.schema.globals name
+
 abbrev pub inner_state : Learning → NameId → Option ℕ → State
 inner_state l name None = state.BuiltIn (room.StartTag (grammar_number l name))
 inner_state l name (Some grammar) = state.Informed grammar 0 false
@@ -156,9 +213,6 @@ put_aside g c = record c {
 abbrev pub resumed : List Body → Config → Config
 resumed [] c = record c { outer = outer.Ended }
 resumed (b ∷ bs) c = record c { meter = without_level c.meter; tables = b.tables; elements = enclosing b.elements; outer = b.outer; learned = b.learned; aside = bs }
-
-abbrev pub same_texts : QName → QName → Bool
-same_texts a b = bytes_eq a.uri b.uri && bytes_eq a.local b.local
 
 -- the first element of a fragment at which reading began is remembered
 abbrev pub root_in : List Body → QName → Option QName → Option QName

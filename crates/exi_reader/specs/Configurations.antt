@@ -1,12 +1,13 @@
 -- Where the reading of a body stands between two events (EXI 1.0, sections 6, 8.4 and 8.5.4). Reader and writer share
 -- it: it says where in the bits it stands, and not what the bits are.
-use Rattle.std.specs.Prelude.{ℕ, ◌*◌, Bool, true, false, List, [], ◌∷◌, Option, None}
+use Rattle.std.specs.Prelude.{ℕ, ◌*◌, Bool, true, false, List, [], ◌∷◌, Option, None, if◌then◌else◌}
 use Rattle.exi_bits.specs.Bits.{Spot}
 use Rattle.exi_builtin.specs.declared.learnable.Room.{Room}
 use Rattle.exi_builtin.specs.declared.learnable.Room.TheVariants as room
 use Rattle.exi_builtin.specs.Learning.{Learning, nothing_learned, rules}
-use Rattle.exi_gram.specs.Books.{Contents, state_at}
+use Rattle.exi_gram.specs.Books.{Contents, IsBook, state_at}
 use Rattle.exi_gram.specs.Codes.{Productions, mapped}
+use Rattle.exi_gram.specs.Schemas.{IsSchema}
 use Rattle.exi_gram.specs.Switches.{fragment}
 use Rattle.exi_meter.specs.Metering.{Bounds, Metering, nothing_used}
 use Rattle.exi_names.specs.declared.names.QName.{QName}
@@ -24,6 +25,11 @@ use Rattle.exi_reader.specs.declared.start.Start.TheVariants as start
 -- what a stream is read by: a book, which has its options and the grammars of its schema
 abbrev pub Setting : Type 0
 Setting = Contents
+
+-- what holds of every book and of its schema
+pub record IsSetting (g : Setting) : Type 0 where
+  pub book : IsBook g
+  pub schema : IsSchema g.schema
 
 -- the string tables at the start
 abbrev pub first_tables : Setting → Partitions
@@ -56,12 +62,14 @@ pub record Config : Type 0 where
   pub aside : List Body
 
 -- ---- the first configuration
-abbrev pub body_outer : Bool → Outer
-body_outer true = outer.FragmentStart
-body_outer false = outer.Book 0 0
+-- whether there is a schema, and whether the body is a fragment: by a schema both are grammars of the book
+abbrev pub body_outer : Bool → Bool → Outer
+body_outer schema false = outer.Book 0 0
+body_outer true true = outer.Book 1 0
+body_outer false true = outer.FragmentStart
 
 abbrev pub first_outer : Setting → Start → Outer
-first_outer g start.Body = body_outer (fragment g.options)
+first_outer g start.Body = body_outer g.schema.known (fragment g.options)
 first_outer g (start.Fragment byte) = outer.AloneStart
 
 -- where reading begins, of a body at a bit
@@ -95,14 +103,17 @@ abbrev pub element_rules : Setting → Learning → State → Productions Rule
 element_rules g l (state.BuiltIn r) = built_in g l r
 element_rules g l (state.Informed grammar number empty) = in_book g grammar number
 
--- a fragment that stands for one element is read as any fragment
+-- the content of a fragment that stands for one element is that of any fragment: by a schema its Fragment grammar's
+abbrev pub alone_rules : Setting → Learning → Productions Rule
+alone_rules g l = if g.schema.known then in_book g 1 1 else built_in g l room.Fragment
+
 abbrev pub outer_rules : Setting → Learning → Outer → Productions Rule
 outer_rules g l (outer.Book grammar number) = in_book g grammar number
 outer_rules g l outer.FragmentStart = fragment_start
 outer_rules g l outer.FragmentContent = built_in g l room.Fragment
 outer_rules g l outer.AloneStart = fragment_start
-outer_rules g l outer.AloneFirst = built_in g l room.Fragment
-outer_rules g l outer.AloneOver = built_in g l room.Fragment
+outer_rules g l outer.AloneFirst = alone_rules g l
+outer_rules g l outer.AloneOver = alone_rules g l
 outer_rules g l outer.Ended = record { firsts = []; seconds = [] }
 
 abbrev pub rules_in : Setting → Learning → List Element → Outer → Productions Rule

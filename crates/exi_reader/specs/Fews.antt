@@ -21,15 +21,16 @@ pub record FewGrammars (most : ℕ) (l : Learning) : Type 0 where
   pub each : All (FewLearned most) l.grammars
   pub fragment : length l.fragment ≤ most
 
--- after so many turns each turn has added two texts at most to a list
-pub record FewAside (turns : ℕ) (b : Body) : Type 0 where
-  pub tables : NoneLonger (2 ^ 30 + 2 * turns) b.tables
+-- after so many turns and units of text: each turn has added two texts at most to a list, and each item of a list of values one
+-- more, which was charged
+pub record FewAside (turns units : ℕ) (b : Body) : Type 0 where
+  pub tables : NoneLonger (2 ^ 30 + 2 * turns + units) b.tables
   pub learned : FewGrammars turns b.learned
 
 pub record Few (turns : ℕ) (c : Config) : Type 0 where
-  pub tables : NoneLonger (2 ^ 30 + 2 * turns) c.tables
+  pub tables : NoneLonger (2 ^ 30 + 2 * turns + c.meter.used.text) c.tables
   pub learned : FewGrammars turns c.learned
-  pub aside : All (FewAside turns) c.aside
+  pub aside : All (FewAside turns c.meter.used.text) c.aside
 
 abbrev pub FewAfterTurns : Type 0
 FewAfterTurns = (j : Job) (start : Start) (limits : Bounds) (turns : List (Option Happening)) (c : Config) → IsStart j.setting.schema.names → Leads j.setting j.bytes (first j start limits) turns c → Few (length turns) c

@@ -1,5 +1,6 @@
 -- How a reader makes one event: in its own words, and in parts. The parts together are the one event of the definition.
-use Rattle.std.specs.Prelude.{◌≡◌, ◌≢◌, ◌⊎◌, ◌<◌, ◌-◌, ◌^◌, ℕ, length, Bool, true, false, List, [], ◌∷◌, Option, Some, None, Result, Ok, Err, if◌then◌else◌}
+use Rattle.std.specs.Prelude.{◌≡◌, ◌≢◌, ◌⊎◌, ◌<◌, ◌+◌, ◌-◌, ◌^◌, ℕ, length, Bool, true, false, List, [], ◌∷◌, Option, Some, None, Result, Ok, Err, if◌then◌else◌}
+use Rattle.std.specs.Option.{option_copied}
 use Rattle.exi_bits.specs.Bits.{Spot}
 use Rattle.exi_bits.specs.declared.fault.Fault.{Fault}
 use Rattle.exi_bits.specs.declared.fault.Kind.TheVariants as kind
@@ -12,28 +13,33 @@ use Rattle.exi_builtin.specs.Learning.{IsRoom, Learning, learned_in}
 use Rattle.exi_gram.specs.Books.{IsStateOf}
 use Rattle.exi_gram.specs.Codes.{Productions, code_at}
 use Rattle.exi_gram.specs.Switches.{align_of}
-use Rattle.exi_gram.specs.Terminals as symbol
 use Rattle.exi_meter.specs.Metering.{Metering}
+use Rattle.exi_names.specs.Datatypes.{Representation, represented}
+use Rattle.exi_names.specs.Datatypes as datatype
 use Rattle.exi_names.specs.Events.{Happening}
 use Rattle.exi_names.specs.Events as event
+use Rattle.exi_names.specs.Seen.{Value}
 use Rattle.exi_names.specs.Seen as value
+use Rattle.exi_names.specs.declared.datatype.Datatype.{Datatype}
 use Rattle.exi_names.specs.declared.names.NameId.{NameId}
 use Rattle.exi_names.specs.declared.names.QName.{QName}
 use Rattle.exi_names.specs.declared.stops.PushStop.{PushStop}
 use Rattle.exi_names.specs.declared.stops.PushStop.TheVariants as push
 use Rattle.exi_tables.specs.Growth.{NoneLonger}
-use Rattle.exi_tables.specs.Partitions.{IsName, Partitions}
+use Rattle.exi_tables.specs.Partitions.{IsName, Partitions, uris}
 use Rattle.exi_typed.specs.ReadStates.{Failure}
-use Rattle.exi_typed.specs.Strings.{Named, value_at}
+use Rattle.exi_typed.specs.Strings.{Named}
+use Rattle.exi_values.specs.Valued.{valued_at}
 use Rattle.exi_reader.specs.Changes as changes
-use Rattle.exi_reader.specs.Changes.{has_level, innermost, put_aside, room_in, root_in}
+use Rattle.exi_reader.specs.Changes.{Effect, effect_of, effected, emptied, emptied_elements, has_level, innermost, leads, moved_elements, moves, outer_behind, put_aside, restated, retyped, room_in, root_in, stays}
 use Rattle.exi_reader.specs.Configurations.{Body, Config, Setting, body_outer, read_state_in, reached, rules_of, spot_in}
 use Rattle.exi_reader.specs.Contents.{attribute_value_at}
 use Rattle.exi_reader.specs.OneEvent.{behind, event_charge, level_charge, remembered, unless}
 use Rattle.exi_reader.specs.Plans.{Given, Plan, barred_in, is_event, no_element, wrong_element}
 use Rattle.exi_reader.specs.Plans as plans
-use Rattle.exi_reader.specs.Rules.{Rule, Telling, Terminal, attribute, characters, comment, declaration, document_type, element, end_document, end_element, entity, informed, instruction, known, self_contained, spelled, start_document}
+use Rattle.exi_reader.specs.Rules.{Rule, Telling, Terminal, Valuing, attribute, by_name, characters, comment, declaration, document_type, element, end_document, end_element, entity, instruction, known, self_contained, spelled, start_document, typed, under, untyped}
 use Rattle.exi_reader.specs.Runs.{Job}
+use Rattle.exi_reader.specs.Stacks.{HasForm}
 use Rattle.exi_reader.specs.declared.alone.Alone.{Alone}
 use Rattle.exi_reader.specs.declared.alone.Alone.TheVariants as alone
 use Rattle.exi_reader.specs.declared.charges.Charges.{Charges}
@@ -47,6 +53,10 @@ use Rattle.exi_reader.specs.declared.halt.Halt.TheVariants as halt
 use Rattle.exi_reader.specs.declared.rule.Content.{Content}
 use Rattle.exi_reader.specs.declared.rule.Content.TheVariants as content
 use Rattle.exi_reader.specs.declared.rule.Rule.{Rule as Kept}
+use Rattle.exi_reader.specs.declared.rule.Telling.{Telling as Told}
+use Rattle.exi_reader.specs.declared.rule.Telling.TheVariants as told
+use Rattle.exi_reader.specs.declared.rule.Valuing.{Valuing as Kind}
+use Rattle.exi_reader.specs.declared.rule.Valuing.TheVariants as valued
 use Rattle.exi_reader.specs.declared.start.Start.{Start}
 use Rattle.exi_reader.specs.declared.start.Start.TheVariants as start
 
@@ -66,46 +76,37 @@ alone_of alone.AtStart = plans.at_start
 alone_of alone.AtFirst = plans.at_first
 alone_of alone.AtEnd = plans.at_end
 
-abbrev pub telling_of : Option NameId → Telling
-telling_of None = spelled
-telling_of (Some id) = known id
+abbrev pub telling_of : Told → Telling
+telling_of told.Spelled = spelled
+telling_of (told.Under uri) = under uri
+telling_of (told.Known id) = known id
 
--- what only a schema has is all one
-abbrev pub terminal_in : Content → Terminal
-terminal_in content.StartDocument = start_document
-terminal_in content.EndDocument = end_document
-terminal_in (content.Element name) = element (telling_of name)
-terminal_in (content.Attribute name) = attribute (telling_of name)
-terminal_in content.Characters = characters
-terminal_in content.EndElement = end_element
-terminal_in content.Declaration = declaration
-terminal_in content.SelfContained = self_contained
-terminal_in content.Comment = comment
-terminal_in content.Instruction = instruction
-terminal_in content.DocumentType = document_type
-terminal_in content.Entity = entity
-terminal_in content.Informed = informed symbol.at_any
+-- the datatype that a production has, or a string
+abbrev pub datatype_in : Option Datatype → Representation
+datatype_in None = datatype.text
+datatype_in (Some d) = represented d
 
-abbrev pub known_terminal : Terminal → Terminal
-known_terminal (informed sort) = informed symbol.at_any
-known_terminal start_document = start_document
-known_terminal end_document = end_document
-known_terminal (element t) = element t
-known_terminal (attribute t) = attribute t
-known_terminal characters = characters
-known_terminal end_element = end_element
-known_terminal declaration = declaration
-known_terminal self_contained = self_contained
-known_terminal comment = comment
-known_terminal instruction = instruction
-known_terminal document_type = document_type
-known_terminal entity = entity
+abbrev pub valuing_in : Kind → Option Datatype → Valuing
+valuing_in valued.Untyped d = untyped
+valuing_in valued.Typed d = typed (datatype_in d)
+valuing_in valued.ByName d = by_name
+
+abbrev pub terminal_in : Content → Option Datatype → Terminal
+terminal_in content.StartDocument d = start_document
+terminal_in content.EndDocument d = end_document
+terminal_in (content.Element name) d = element (telling_of name)
+terminal_in (content.Attribute name v) d = attribute (telling_of name) (valuing_in v d)
+terminal_in content.Characters d = characters (datatype_in d)
+terminal_in content.EndElement d = end_element
+terminal_in content.Declaration d = declaration
+terminal_in content.SelfContained d = self_contained
+terminal_in content.Comment d = comment
+terminal_in content.Instruction d = instruction
+terminal_in content.DocumentType d = document_type
+terminal_in content.Entity d = entity
 
 abbrev pub rule_in : Kept → Rule
-rule_in r = record { on = terminal_in r.on; to = r.to; inner = r.inner }
-
-abbrev pub known_rule : Rule → Rule
-known_rule r = record r { on = known_terminal r.on }
+rule_in r = record { on = terminal_in r.on (option_copied r.datatype); to = r.to; inner = r.inner }
 
 -- a rule of which only the state that follows counts
 abbrev pub leading_to : ℕ → Rule
@@ -116,8 +117,8 @@ abbrev pub charges_on : plans.Alone → Bool → Terminal → Charges
 charges_on a after start_document = record { barred = barred_in a; counted = is_event a; misplaced = None; entered = false }
 charges_on a after end_document = record { barred = None; counted = is_event a; misplaced = None; entered = false }
 charges_on a after (element t) = record { barred = barred_in a; counted = is_event a; misplaced = None; entered = is_event a }
-charges_on a after (attribute t) = record { barred = barred_in a; counted = true; misplaced = None; entered = false }
-charges_on a after characters = record { barred = barred_in a; counted = true; misplaced = None; entered = false }
+charges_on a after (attribute t v) = record { barred = barred_in a; counted = true; misplaced = None; entered = false }
+charges_on a after (characters d) = record { barred = barred_in a; counted = true; misplaced = None; entered = false }
 charges_on a after end_element = record { barred = barred_in a; counted = true; misplaced = None; entered = false }
 charges_on a after declaration = record { barred = barred_in a; counted = true; misplaced = None; entered = false }
 charges_on a after self_contained = record { barred = barred_in a; counted = true; misplaced = if after then None else Some kind.ScPlace; entered = false }
@@ -125,7 +126,6 @@ charges_on a after comment = record { barred = barred_in a; counted = true; misp
 charges_on a after instruction = record { barred = barred_in a; counted = true; misplaced = None; entered = false }
 charges_on a after document_type = record { barred = barred_in a; counted = true; misplaced = None; entered = false }
 charges_on a after entity = record { barred = barred_in a; counted = true; misplaced = None; entered = false }
-charges_on a after (informed sort) = record { barred = Some kind.NoCode; counted = true; misplaced = None; entered = false }
 
 unfoldable pub charged_at : ℕ → Charges → Metering → Result Metering Failure
 charged_at bit k m = do
@@ -146,19 +146,54 @@ making bytes bit p c = do
   free ← unless (p.refused found.0) bit found.1.context.meter
   Ok (remembered (p.make found.0 (reached (behind p.padded found.1) c)))
 
--- the value of an attribute whose name is read
-unfoldable pub value_made : Setting → List ℕ → ℕ → plans.Alone → Named → Config → Result Given Failure
-value_made g bytes bit a name c = do
-  found ← attribute_value_at g name.id (read_state_in bytes c.meter c)
+-- the value of an attribute whose name is read, in a configuration that has learned it
+unfoldable pub value_made : Setting → List ℕ → ℕ → plans.Alone → Valuing → Named → ℕ → Config → Result Given Failure
+value_made g bytes bit a v name to c = do
+  found ← attribute_value_at g v name (read_state_in bytes c.meter c)
   free ← unless (no_element a) bit found.1.context.meter
-  Ok (Some (event.at name.name found.0), record (reached found.1 c) { after_start = false })
+  Ok (Some (event.at name.name found.0), record (effected (effect_of g v name.id found.0) to (reached found.1 c)) { after_start = false })
 
--- the same, where it is a string
-unfoldable pub string_made : Setting → List ℕ → ℕ → plans.Alone → Named → Config → Result Given Failure
-string_made g bytes bit a name c = do
-  found ← value_at None (align_of g.options) name.id (read_state_in bytes c.meter c)
+-- what an attribute does that names a type, where that has a grammar or none
+abbrev pub typing : Kind → Option ℕ → Effect
+typing v (Some grammar) = retyped grammar
+typing valued.Untyped None = leads
+typing valued.Typed None = stays
+typing valued.ByName None = stays
+
+-- the open elements and the state outside of all then
+abbrev pub effected_elements : Effect → ℕ → List Element → List Element
+effected_elements leads to es = moved_elements to es
+effected_elements (retyped grammar) to es = restated (state.Informed grammar 0 false) es
+effected_elements emptied to es = emptied_elements es
+effected_elements stays to es = es
+
+abbrev pub effected_outer : Effect → ℕ → List Element → Outer → Outer
+effected_outer leads to es o = outer_behind to es o
+effected_outer (retyped grammar) to es o = o
+effected_outer emptied to es o = o
+effected_outer stays to es o = o
+
+-- xsi:nil empties the innermost element where it is true
+abbrev pub is_true : Value → Bool
+is_true (value.text t) = false
+is_true (value.boolean truth digit) = truth
+is_true (value.integer n) = false
+is_true (value.decimal minus whole back) = false
+is_true (value.float mantissa exponent) = false
+is_true (value.moment m) = false
+is_true (value.binary hex octets) = false
+is_true (value.items vs) = false
+is_true (value.name n) = false
+
+abbrev pub emptied_by : Value → List Element → List Element
+emptied_by v es = if is_true v then emptied_elements es else es
+
+-- the same, of a representation that no name has to tell
+unfoldable pub valued_made : Setting → List ℕ → ℕ → plans.Alone → Representation → Named → ℕ → Config → Result Given Failure
+valued_made g bytes bit a d name to c = do
+  found ← valued_at d (align_of g.options) name.id (read_state_in bytes c.meter c)
   free ← unless (no_element a) bit found.1.context.meter
-  Ok (Some (event.at name.name (value.text found.0)), record (reached found.1 c) { after_start = false })
+  Ok (Some (event.at name.name found.0), record (moves to (reached found.1 c)) { after_start = false })
 
 -- ---- what is handed on
 abbrev pub listed : Option Happening → List Happening
@@ -205,13 +240,15 @@ pub record CanLearn (o : Option Room) (l : Learning) : Type 0 where
   pub there : (r : Room) → o ≡ Some r → IsRoom l r
   pub few : (r : Room) → length (learned_in l r) < 2 ^ 31
 
--- the name that a code told stands in the tables
-pub record IsTold (telling : Option NameId) (p : Partitions) : Type 0 where
-  pub known : (id : NameId) → telling ≡ Some id → IsName p id
+-- the name or the URI that a code told stands in the tables
+pub record IsTold (telling : Told) (p : Partitions) : Type 0 where
+  pub known : (id : NameId) → telling ≡ told.Known id → IsName p id
+  pub under : (uri : ℕ) → telling ≡ told.Under uri → uri < length (uris p)
 
 -- what is learned from the use of a name
 abbrev pub learned_by : Telling → Option Room → Learned → Learning → Learning
 learned_by spelled o u l = changes.learned_in o u l
+learned_by (under uri) o u l = changes.learned_in o u l
 learned_by (known id) o u l = l
 
 -- the root of a fragment, where its element is to come, is the one that was put aside; or where reading began there it is
@@ -228,18 +265,14 @@ Meets (Err (stop.Fault f)) a aside name old new bit = (wrong_element a aside nam
 Meets (Err stop.Memory) a aside name old new bit = Unit {0}
 
 -- ---- the code
--- the production that a code tells; what only a schema has is all one
-abbrev pub known_at_code : Setting → Productions Rule → Spot → Result (Rule × Spot) Fault
-known_at_code g p s = code_at (align_of g.options) p s >>= λ x. Ok (known_rule x.0, x.1)
-
 -- further on, at this bit
 abbrev pub with_place : Standing → ℕ → Standing
 with_place s place = record s { config = record s.config { place = place } }
 
 -- reading a code moves the place; at a fault it stays
 abbrev pub Picks : Result Kept Fault → Standing → Standing → Productions Rule → Type 0
-Picks (Ok r) old new p = (known_at_code old.setting p (spot_in old.bytes old.config) ≡ Ok (rule_in r, spot_in old.bytes new.config)) × (new ≡ with_place old new.config.place)
-Picks (Err f) old new p = (known_at_code old.setting p (spot_in old.bytes old.config) ≡ Err f) × (new ≡ old)
+Picks (Ok r) old new p = (code_at (align_of old.setting.options) p (spot_in old.bytes old.config) ≡ Ok (rule_in r, spot_in old.bytes new.config)) × (new ≡ with_place old new.config.place)
+Picks (Err f) old new p = (code_at (align_of old.setting.options) p (spot_in old.bytes old.config) ≡ Err f) × (new ≡ old)
 
 -- the state exists
 abbrev pub IsThere : Setting → Outer → Type 0
@@ -247,13 +280,13 @@ IsThere g (outer.Book grammar state) = IsStateOf g grammar state
 IsThere g outer.FragmentStart = Unit {0}
 IsThere g outer.FragmentContent = Unit {0}
 IsThere g outer.AloneStart = Unit {0}
-IsThere g outer.AloneFirst = Unit {0}
-IsThere g outer.AloneOver = Unit {0}
+IsThere g outer.AloneFirst = g.schema.known ≡ true → IsStateOf g 1 1
+IsThere g outer.AloneOver = g.schema.known ≡ true → IsStateOf g 1 1
 IsThere g outer.Ended = Unit {0}
 
 abbrev pub IsThereIn : Setting → Learning → State → Type 0
 IsThereIn g l (state.BuiltIn r) = IsRoom l r
-IsThereIn g l (state.Informed grammar number empty) = IsStateOf g grammar number
+IsThereIn g l (state.Informed grammar number empty) = IsStateOf g grammar number × HasForm (state.Informed grammar number empty)
 
 abbrev pub AreThere : Setting → Learning → List Element → Type 0
 AreThere g l [] = Unit {0}
@@ -263,9 +296,9 @@ AreThere g l (e ∷ es) = IsThereIn g l e.state
 abbrev pub standing : Job → Config → Standing
 standing j c = record { setting = j.setting; bytes = j.bytes; config = c }
 
-abbrev pub first_outer_of : Bool → Start → Outer
-first_outer_of is_fragment start.Body = body_outer is_fragment
-first_outer_of is_fragment (start.Fragment byte) = outer.AloneStart
+abbrev pub first_outer_of : Bool → Bool → Start → Outer
+first_outer_of schema is_fragment start.Body = body_outer schema is_fragment
+first_outer_of schema is_fragment (start.Fragment byte) = outer.AloneStart
 
 -- behind SC the body is put aside
 abbrev pub fragment_in : Bool → Setting → Config → Config
@@ -279,39 +312,36 @@ HandsAny took broke (Ok (Some byte)) new read before after = HandsFragment took 
 HandsAny took broke (Err h) new read before after = Hands took broke (Err h) new.config read before after
 
 -- ---- what a step needs, and sequential processing keeps
--- the name that a code tells
-abbrev pub told_id : Telling → Option NameId
-told_id spelled = None
-told_id (known id) = Some id
-
-abbrev pub code_name : Terminal → Option NameId
-code_name (element t) = told_id t
-code_name (attribute t) = told_id t
-code_name start_document = None
-code_name end_document = None
-code_name characters = None
-code_name end_element = None
-code_name declaration = None
-code_name self_contained = None
-code_name comment = None
-code_name instruction = None
-code_name document_type = None
-code_name entity = None
-code_name (informed sort) = None
+-- what a code tells stands in the tables
+abbrev pub StandsIn : Partitions → Telling → Type 0
+StandsIn p spelled = Unit {0}
+StandsIn p (under uri) = uri < length (uris p)
+StandsIn p (known id) = IsName p id
 
 -- the names that a production needs stand in the tables
-pub record HasNames (c : Config) (t : Terminal) : Type 0 where
-  pub known : (id : NameId) → code_name t ≡ Some id → IsName c.tables id
-  pub inside : t ≡ characters → IsName c.tables (innermost c.elements)
+abbrev pub HasNames : Config → Terminal → Type 0
+HasNames c (element t) = StandsIn c.tables t
+HasNames c (attribute t v) = StandsIn c.tables t
+HasNames c (characters d) = IsName c.tables (innermost c.elements)
+HasNames c start_document = Unit {0}
+HasNames c end_document = Unit {0}
+HasNames c end_element = Unit {0}
+HasNames c declaration = Unit {0}
+HasNames c self_contained = Unit {0}
+HasNames c comment = Unit {0}
+HasNames c instruction = Unit {0}
+HasNames c document_type = Unit {0}
+HasNames c entity = Unit {0}
 
 -- levels that are left were entered
 pub record HasLevels (c : Config) : Type 0 where
   pub aside : c.aside ≢ [] → 0 < c.meter.level
   pub inside : has_level c.elements c.outer ≡ true → 0 < c.meter.level
 
--- there is not much yet, and what learns stands
+-- there is not much yet, even once the items of a list are added that may still be charged, and what learns stands
 pub record HasRoom (c : Config) : Type 0 where
   pub few : NoneLonger (2 ^ 31 - 2) c.tables
+  pub roomy : NoneLonger (2 ^ 31 - 2 ^ 28 - 2 + c.meter.used.text) c.tables
   pub learns : CanLearn (room_in c.elements c.outer) c.learned
   pub grammars : length c.learned.grammars < 2 ^ 31
 
@@ -320,4 +350,4 @@ pub record IsSteady (s : Standing) : Type 0 where
   pub elements : AreThere s.setting s.config.learned s.config.elements
   pub room : HasRoom s.config
   pub levels : HasLevels s.config
-  pub names : (r : Rule) (t : Spot) → known_at_code s.setting (rules_of s.setting s.config) (spot_in s.bytes s.config) ≡ Ok (r, t) → HasNames s.config r.on
+  pub names : (r : Rule) (t : Spot) → code_at (align_of s.setting.options) (rules_of s.setting s.config) (spot_in s.bytes s.config) ≡ Ok (r, t) → HasNames s.config r.on

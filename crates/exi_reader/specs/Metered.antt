@@ -4,12 +4,11 @@ use Rattle.exi_bits.specs.Bits.{rest}
 use Rattle.exi_bits.specs.declared.fault.Fault.{Fault}
 use Rattle.exi_bits.specs.declared.fault.Kind.{Kind}
 use Rattle.exi_bits.specs.declared.fault.Kind.TheVariants as kind
-use Rattle.exi_gram.specs.Books.{IsPlainBook}
 use Rattle.exi_meter.specs.Metering.{Metering, event_fits, level_fits, text_fits, with_event, with_level, with_text}
 use Rattle.exi_names.specs.Events.{Happening}
 use Rattle.exi_typed.specs.ReadStates.{Failure}
 use Rattle.exi_reader.specs.Changes.{left_level}
-use Rattle.exi_reader.specs.Configurations.{Config, Setting, spot_in}
+use Rattle.exi_reader.specs.Configurations.{Config, IsSetting, Setting, spot_in}
 use Rattle.exi_reader.specs.OneEvent.{one}
 use Rattle.exi_reader.specs.Plans.{Given}
 use Rattle.exi_reader.specs.Spelled.{IsIn, IsOne}
@@ -71,4 +70,4 @@ pub record IsAsked (g : Setting) (bytes : List ℕ) (c : Config) (given : Given)
   pub own : paying c.place dues c.meter (Ok outcome_is) ≡ Ok given
 
 abbrev pub SpelledIsAsked : Type 0
-SpelledIsAsked = (g : Setting) (bytes : List ℕ) (c : Config) (given : Given) (text more : List Bool) → IsPlainBook g → IsIn g bytes c → IsOne g c given text → rest (spot_in bytes c) ≡ text ++ more → IsAsked g bytes c given
+SpelledIsAsked = (g : Setting) (bytes : List ℕ) (c : Config) (given : Given) (text more : List Bool) → IsSetting g → IsIn g bytes c → IsOne g c given text → rest (spot_in bytes c) ≡ text ++ more → IsAsked g bytes c given

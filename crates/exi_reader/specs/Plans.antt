@@ -5,6 +5,7 @@ use Rattle.exi_bits.specs.declared.fault.Kind.{Kind}
 use Rattle.exi_bits.specs.declared.fault.Kind.TheVariants as kind
 use Rattle.exi_builtin.specs.declared.learnable.Learned.TheVariants as used
 use Rattle.exi_gram.specs.Switches.{align_of}
+use Rattle.exi_names.specs.Datatypes.{Representation}
 use Rattle.exi_names.specs.declared.names.QName.{QName}
 use Rattle.exi_names.specs.Events.{Happening}
 use Rattle.exi_names.specs.Events as happening
@@ -14,10 +15,11 @@ use Rattle.exi_typed.specs.Laws.{Spelling}
 use Rattle.exi_typed.specs.Refused.{Refusing, RefusesDeclaration}
 use Rattle.exi_typed.specs.Spelled.{SpellsDeclaration}
 use Rattle.exi_typed.specs.Strings.{Declaration, Named, declaration_at}
-use Rattle.exi_reader.specs.Changes.{closed, innermost, learns, learns_name, moves, opened, put_aside, resumed, rooted, same_texts}
+use Rattle.exi_reader.specs.Changes.{closed, effect_of, effected, innermost, learns, learns_name, moves, opened, opener, put_aside, resumed, rooted}
 use Rattle.exi_reader.specs.Configurations.{Body, Config, Setting}
 use Rattle.exi_reader.specs.Contents.{RefusesAttribute, RefusesCharacters, RefusesFourTexts, RefusesNothing, RefusesText, RefusesTold, RefusesTwoTexts, SpellsAttribute, SpellsCharacters, SpellsFourTexts, SpellsNothing, SpellsText, SpellsTold, SpellsTwoTexts, attribute_at, characters_at, four_texts_at, nothing_at, text_at, told_name_at, two_texts_at}
-use Rattle.exi_reader.specs.Rules.{Rule, Telling, Terminal, attribute, characters, comment, declaration, document_type, element, end_document, end_element, entity, informed, instruction, self_contained, start_document}
+use Rattle.exi_reader.specs.Globals.{same_texts}
+use Rattle.exi_reader.specs.Rules.{Rule, Telling, Terminal, Valuing, attribute, characters, comment, declaration, document_type, element, end_document, end_element, entity, instruction, self_contained, start_document}
 use Rattle.exi_reader.specs.declared.frames.Element.{Element}
 use Rattle.exi_reader.specs.declared.frames.Outer.{Outer}
 use Rattle.exi_reader.specs.declared.frames.Outer.TheVariants as outer
@@ -129,17 +131,17 @@ abbrev pub end_plan : Alone → Plan
 end_plan a = record (plain a (Unit {0}) nothing_at SpellsNothing RefusesNothing (λ x c. (seen_in a happening.ed, ended_in a c))) { barred = None; counted = is_event a; padded = if is_event a then false else true }
 
 -- an element starts in its parent's state, which learns it where its name has bits of its own
-abbrev pub element_made : Alone → Telling → Rule → Named → Config → Given
-element_made a t r name c = (seen_in a (happening.se name.name), opened name.id r.inner (moves r.to (learns_name t (used.Se name.id) (rooted_in a name.name c))))
+abbrev pub element_made : Setting → Alone → Telling → Rule → Named → Config → Given
+element_made g a t r name c = (seen_in a (happening.se name.name), opened name.id (opener g name.name r.inner) (moves r.to (learns_name t (used.Se name.id) (rooted_in a name.name c))))
 
 abbrev pub element_plan : Setting → Alone → List Body → Telling → Rule → Plan
-element_plan g a aside t r = record (plain a Named (told_name_at g t) (SpellsTold g t) (RefusesTold g t) (element_made a t r)) { counted = is_event a; entered = is_event a; refused = λ name. wrong_element a aside name.name }
+element_plan g a aside t r = record (plain a Named (told_name_at g t) (SpellsTold g t) (RefusesTold g t) (element_made g a t r)) { counted = is_event a; entered = is_event a; refused = λ name. wrong_element a aside name.name }
 
-abbrev pub attribute_plan : Setting → Alone → Telling → Rule → Plan
-attribute_plan g a t r = plain a (Named × Value) (attribute_at g t) (SpellsAttribute g t) (RefusesAttribute g t) (λ x c. (Some (happening.at x.0.name x.1), moves r.to (learns_name t (used.At x.0.id) c)))
+abbrev pub attribute_plan : Setting → Alone → Telling → Valuing → Rule → Plan
+attribute_plan g a t v r = plain a (Named × Value) (attribute_at g t v) (SpellsAttribute g t v) (RefusesAttribute g t v) (λ x c. (Some (happening.at x.0.name x.1), effected (effect_of g v x.0.id x.1) r.to (learns_name t (used.At x.0.id) c)))
 
-abbrev pub characters_plan : Setting → Alone → List Element → Rule → Plan
-characters_plan g a es r = plain a Value (characters_at g (innermost es)) (SpellsCharacters g (innermost es)) (RefusesCharacters g (innermost es)) (λ x c. (Some (happening.ch x), moves r.to (learns used.Ch c)))
+abbrev pub characters_plan : Setting → Alone → List Element → Representation → Rule → Plan
+characters_plan g a es d r = plain a Value (characters_at g d (innermost es)) (SpellsCharacters g d (innermost es)) (RefusesCharacters g d (innermost es)) (λ x c. (Some (happening.ch x), moves r.to (learns used.Ch c)))
 
 abbrev pub element_end_plan : Alone → Plan
 element_end_plan a = plain a (Unit {0}) nothing_at SpellsNothing RefusesNothing (λ x c. (Some happening.ee, closed (learns used.Ee c)))
@@ -164,16 +166,12 @@ document_type_plan g a r = plain a ((List ℕ × List ℕ) × (List ℕ × List 
 abbrev pub entity_plan : Setting → Alone → Rule → Plan
 entity_plan g a r = plain a (List ℕ) (text_at g) (SpellsText g) (RefusesText g) (λ x c. (Some (happening.er x), moves r.to c))
 
--- what only a schema has is not read yet
-abbrev pub informed_plan : Alone → Plan
-informed_plan a = record (plain a (Unit {0}) nothing_at SpellsNothing RefusesNothing (λ x c. (None, c))) { barred = Some kind.NoCode }
-
 abbrev pub plan_on : Setting → Alone → Config → Rule → Terminal → Plan
 plan_on g a c r start_document = start_plan a r
 plan_on g a c r end_document = end_plan a
 plan_on g a c r (element t) = element_plan g a c.aside t r
-plan_on g a c r (attribute t) = attribute_plan g a t r
-plan_on g a c r characters = characters_plan g a c.elements r
+plan_on g a c r (attribute t v) = attribute_plan g a t v r
+plan_on g a c r (characters d) = characters_plan g a c.elements d r
 plan_on g a c r end_element = element_end_plan a
 plan_on g a c r declaration = declaration_plan g a r
 plan_on g a c r self_contained = self_contained_plan g a c.after_start
@@ -181,7 +179,6 @@ plan_on g a c r comment = comment_plan g a r
 plan_on g a c r instruction = instruction_plan g a r
 plan_on g a c r document_type = document_type_plan g a r
 plan_on g a c r entity = entity_plan g a r
-plan_on g a c r (informed symbol) = informed_plan a
 
 -- what a production does in a configuration
 abbrev pub plan_of : Setting → Config → Rule → Plan

@@ -1,13 +1,12 @@
 -- What the calls of a reader promise, in the words of sequential processing.
 use Rattle.std.specs.Prelude.{◌≡◌, ◌⊎◌, ◌≤◌, ◌^◌, ◌*◌, ◌+◌, ℕ, Bool, true, false, List, [], ◌∷◌, ◌++◌, length, Option, Some, Result, Ok, Err}
 use Rattle.exi_bits.specs.Bits.{IsAligned, IsBytes}
-use Rattle.exi_gram.specs.Books.{IsPlainBook}
 use Rattle.exi_gram.specs.Switches.{align_of}
 use Rattle.exi_meter.specs.Metering.{Bounds, IsWithinStream}
 use Rattle.exi_names.specs.Events.{Happening}
 use Rattle.exi_names.specs.Events as event
 use Rattle.exi_names.specs.StartTables.{IsStart}
-use Rattle.exi_reader.specs.Configurations.{Config, Setting, first_config}
+use Rattle.exi_reader.specs.Configurations.{Config, IsSetting, Setting, first_config}
 use Rattle.exi_reader.specs.Handing.{listed}
 use Rattle.exi_reader.specs.Runs.{Job, IsSequence, Leads, Turn, ends, goes, turn}
 use Rattle.exi_reader.specs.declared.end.End.{End}
@@ -32,8 +31,6 @@ pub record IsJob (j : Job) : Type 0 where
   pub few : length j.bytes ≤ 2 ^ 26
   pub within : j.body ≤ 8 * length j.bytes
   pub aligned : IsAligned (align_of j.setting.options) (record { bytes = j.bytes; place = j.body })
-  -- the book is without a schema
-  pub plain : j.setting.schema.known ≡ false
 
 -- reading begins in the input
 abbrev pub IsStartIn : Job → Start → Type 0
@@ -58,7 +55,7 @@ pub record IsReached (r : Reading) : Type 0 where
   pub start : Start
   pub limits : Bounds
   pub within : IsWithinStream limits
-  pub book : IsPlainBook r.setting
+  pub book : IsSetting r.setting
   pub names : IsStart r.setting.schema.names
   pub octets : IsBytes r.bytes
   pub turns : List (Option Happening)

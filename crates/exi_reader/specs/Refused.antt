@@ -7,14 +7,13 @@ use Rattle.exi_bits.specs.Widths.{width_for}
 use Rattle.exi_bits.specs.declared.fault.Fault.{Fault}
 use Rattle.exi_bits.specs.declared.fault.Kind.{Kind}
 use Rattle.exi_bits.specs.declared.fault.Kind.TheVariants as kind
-use Rattle.exi_gram.specs.Books.{IsPlainBook}
 use Rattle.exi_gram.specs.Codes.{Productions, first_values, group}
 use Rattle.exi_gram.specs.Laws.{SpellsCode}
 use Rattle.exi_gram.specs.Switches.{align_of}
 use Rattle.exi_meter.specs.Metering.{Metering, event_fits, level_fits}
 use Rattle.exi_typed.specs.Charging.{Charge, IsTaken}
 use Rattle.exi_typed.specs.ReadStates.{Context, Failure}
-use Rattle.exi_reader.specs.Configurations.{Config, Setting, rules_of, spot_in}
+use Rattle.exi_reader.specs.Configurations.{Config, IsSetting, Setting, rules_of, spot_in}
 use Rattle.exi_reader.specs.OneEvent.{moved_limit, one}
 use Rattle.exi_reader.specs.Plans.{Given, Plan, plan_of}
 use Rattle.exi_reader.specs.Rules.{Rule}
@@ -153,11 +152,11 @@ IsRefused g bytes c e = IsNoCode g bytes c e ⊎ IsBehindCode g bytes c e
 -- ---- the laws
 -- a fault is one that is refused so
 abbrev pub FaultIsRefused : Type 0
-FaultIsRefused = (g : Setting) (bytes : List ℕ) (c : Config) (e : Failure) → IsPlainBook g → IsIn g bytes c → one g bytes c ≡ Err e → IsRefused g bytes c e
+FaultIsRefused = (g : Setting) (bytes : List ℕ) (c : Config) (e : Failure) → IsSetting g → IsIn g bytes c → one g bytes c ≡ Err e → IsRefused g bytes c e
 
 -- and what is refused so is that fault
 abbrev pub RefusedIsFault : Type 0
-RefusedIsFault = (g : Setting) (bytes : List ℕ) (c : Config) (e : Failure) → IsPlainBook g → IsIn g bytes c → IsRefused g bytes c e → one g bytes c ≡ Err e
+RefusedIsFault = (g : Setting) (bytes : List ℕ) (c : Config) (e : Failure) → IsSetting g → IsIn g bytes c → IsRefused g bytes c e → one g bytes c ≡ Err e
 
 -- one event is spelled here, no other, and none is refused
 pub record HasOne (g : Setting) (bytes : List ℕ) (c : Config) : Type 0 where
@@ -178,4 +177,4 @@ pub record HasRefusal (g : Setting) (bytes : List ℕ) (c : Config) : Type 0 whe
 
 -- exactly one event is spelled, or exactly one fault is there
 abbrev pub OneSpelledOrOneFault : Type 0
-OneSpelledOrOneFault = (g : Setting) (bytes : List ℕ) (c : Config) → IsPlainBook g → IsIn g bytes c → HasOne g bytes c ⊎ HasRefusal g bytes c
+OneSpelledOrOneFault = (g : Setting) (bytes : List ℕ) (c : Config) → IsSetting g → IsIn g bytes c → HasOne g bytes c ⊎ HasRefusal g bytes c

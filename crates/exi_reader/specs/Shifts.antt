@@ -2,13 +2,12 @@
 -- then. The limits are the codec's own; fragments are those of EXI 1.0, section 8.4.3.
 use Rattle.std.specs.Prelude.{◌≡◌, ℕ, ◌+◌, Bool, true, false, List, [], ◌∷◌, ◌++◌, length, Option, Some, None}
 use Rattle.exi_bits.specs.Bits.{IsBytes}
-use Rattle.exi_gram.specs.Books.{IsPlainBook}
 use Rattle.exi_meter.specs.Metering.{Bounds, Metering, tally_fits, text_fits}
 use Rattle.exi_names.specs.Events.{Happening}
 use Rattle.exi_names.specs.StartTables.{IsStart}
 use Rattle.exi_names.specs.declared.names.QName.{QName}
-use Rattle.exi_reader.specs.Changes.{same_texts}
-use Rattle.exi_reader.specs.Configurations.{Body, Config}
+use Rattle.exi_reader.specs.Configurations.{Body, Config, IsSetting}
+use Rattle.exi_reader.specs.Globals.{same_texts}
 use Rattle.exi_reader.specs.Laws.{IsWithinLimits}
 use Rattle.exi_reader.specs.Metered.{Due, due_fits, limit_of}
 use Rattle.exi_reader.specs.Runs.{IsRun, IsSequence, Job, Leads, events_of, first}
@@ -52,4 +51,4 @@ StopsBy j byte c limits es (b ∷ bs) (Some name) = WhereSo (same_texts b.name n
 -- What came of the fragment, read by itself under any limits, is too much where it stands: sequential processing stops by
 -- a limit inside the fragment, or at its first element by the root of another element
 abbrev pub TooMuchStops : Type 0
-TooMuchStops = (j : Job) (byte : ℕ) (c : Config) (limits : Bounds) (es : List Happening) (e : End) (count : ℕ) → IsBytes j.bytes → IsPlainBook j.setting → IsStart j.setting.schema.names → AtFragment j.setting byte c → IsWithinLimits c.meter.limits c.meter.used → IsSequence j (start.Fragment byte) limits es e count → tally_fits c.meter (tally_of e) ≡ false → StopsBy j byte c limits es c.aside (root_of e)
+TooMuchStops = (j : Job) (byte : ℕ) (c : Config) (limits : Bounds) (es : List Happening) (e : End) (count : ℕ) → IsBytes j.bytes → IsSetting j.setting → IsStart j.setting.schema.names → AtFragment j.setting byte c → IsWithinLimits c.meter.limits c.meter.used → IsSequence j (start.Fragment byte) limits es e count → tally_fits c.meter (tally_of e) ≡ false → StopsBy j byte c limits es c.aside (root_of e)

@@ -4,13 +4,12 @@
 -- laws show.
 use Rattle.std.specs.Prelude.{◌≡◌, ℕ, ◌+◌, ◌*◌, ◌/◌, ◌≤◌, Bool, true, false, List, [], ◌++◌, length, None, Ok}
 use Rattle.exi_bits.specs.Bits.{Front, IsAligned, IsBytes, rest}
-use Rattle.exi_gram.specs.Books.{IsPlainBook}
 use Rattle.exi_gram.specs.Laws.{SpellsCode}
 use Rattle.exi_gram.specs.Switches.{align_of}
 use Rattle.exi_meter.specs.Metering.{Metering, event_fits, level_fits, with_event, with_level}
 use Rattle.exi_typed.specs.Charging.{Charge, IsTaken}
 use Rattle.exi_typed.specs.ReadStates.{Context}
-use Rattle.exi_reader.specs.Configurations.{Config, Setting, rules_of, spot_in}
+use Rattle.exi_reader.specs.Configurations.{Config, IsSetting, Setting, rules_of, spot_in}
 use Rattle.exi_reader.specs.OneEvent.{one, remembered}
 use Rattle.exi_reader.specs.Plans.{Given, Plan, plan_of}
 use Rattle.exi_reader.specs.Rules.{Rule}
@@ -76,12 +75,12 @@ pub record IsIn (g : Setting) (bytes : List ℕ) (c : Config) : Type 0 where
 
 -- what is read is one event that is spelled so, and the next configuration stands in the same bytes behind it
 abbrev pub OneIsSpelled : Type 0
-OneIsSpelled = (g : Setting) (bytes : List ℕ) (c : Config) (given : Given) → IsPlainBook g → IsIn g bytes c → one g bytes c ≡ Ok given → (text : List Bool) × IsOne g c given text × Front (spot_in bytes c) text (spot_in bytes given.1) × IsIn g bytes given.1
+OneIsSpelled = (g : Setting) (bytes : List ℕ) (c : Config) (given : Given) → IsSetting g → IsIn g bytes c → one g bytes c ≡ Ok given → (text : List Bool) × IsOne g c given text × Front (spot_in bytes c) text (spot_in bytes given.1) × IsIn g bytes given.1
 
 -- one event that is spelled so is read, whatever the bytes are that have it at the place
 abbrev pub SpelledIsOne : Type 0
-SpelledIsOne = (g : Setting) (bytes : List ℕ) (c : Config) (given : Given) (text more : List Bool) → IsPlainBook g → IsIn g bytes c → IsOne g c given text → rest (spot_in bytes c) ≡ text ++ more → one g bytes c ≡ Ok given
+SpelledIsOne = (g : Setting) (bytes : List ℕ) (c : Config) (given : Given) (text more : List Bool) → IsSetting g → IsIn g bytes c → IsOne g c given text → rest (spot_in bytes c) ≡ text ++ more → one g bytes c ≡ Ok given
 
 -- at a place at most one event is spelled: two are the same, in the same bits
 abbrev pub OneAtMost : Type 0
-OneAtMost = (g : Setting) (bytes : List ℕ) (c : Config) (given other : Given) (text words more less : List Bool) → IsPlainBook g → IsIn g bytes c → IsOne g c given text → IsOne g c other words → rest (spot_in bytes c) ≡ text ++ more → rest (spot_in bytes c) ≡ words ++ less → (given ≡ other) × (text ≡ words)
+OneAtMost = (g : Setting) (bytes : List ℕ) (c : Config) (given other : Given) (text words more less : List Bool) → IsSetting g → IsIn g bytes c → IsOne g c given text → IsOne g c other words → rest (spot_in bytes c) ≡ text ++ more → rest (spot_in bytes c) ≡ words ++ less → (given ≡ other) × (text ≡ words)

@@ -4,7 +4,6 @@ use Rattle.std.specs.Prelude.{◌≡◌, ℕ, ◌+◌, ◌*◌, ◌≤◌, ◌&&
 use Rattle.exi_bits.specs.declared.fault.Kind.{Kind}
 use Rattle.exi_bits.specs.declared.fault.Kind.TheVariants as kind
 use Rattle.exi_builtin.specs.Learning.{nothing_learned}
-use Rattle.exi_gram.specs.Books.{IsPlainBook}
 use Rattle.exi_gram.specs.Switches.{prefixes}
 use Rattle.exi_bits.specs.Bits.{IsBytes}
 use Rattle.exi_meter.specs.Metering.{Bounds, tally_fits, with_tally, with_text}
@@ -12,9 +11,10 @@ use Rattle.exi_meter.specs.declared.tally.Tally.{Tally}
 use Rattle.exi_names.specs.declared.names.QName.{QName}
 use Rattle.exi_names.specs.Events.{Happening}
 use Rattle.exi_names.specs.StartTables.{IsStart}
-use Rattle.exi_reader.specs.Changes.{resumed, same_texts}
-use Rattle.exi_reader.specs.Configurations.{Body, Config, Setting, first_tables}
+use Rattle.exi_reader.specs.Changes.{resumed}
+use Rattle.exi_reader.specs.Configurations.{Body, Config, IsSetting, Setting, first_tables}
 use Rattle.exi_reader.specs.Runs.{IsRun, IsSequence, Job, Leads, events_of, is_end}
+use Rattle.exi_reader.specs.Globals.{same_texts}
 use Rattle.exi_reader.specs.declared.end.End.{End}
 use Rattle.exi_reader.specs.declared.end.End.TheVariants as end
 use Rattle.exi_reader.specs.declared.frames.Outer.TheVariants as outer
@@ -107,4 +107,4 @@ GoesAs g bytes c es (wrong_root e) = (turns : List (Option Happening)) × IsRun 
 
 -- the outcome of the fragment, read by itself under any limits, may be taken where it fits: sequential processing goes on so
 abbrev pub SplicesAreRuns : Type 0
-SplicesAreRuns = (j : Job) (byte : ℕ) (c : Config) (limits : Bounds) (es : List Happening) (e : End) (count : ℕ) → IsBytes j.bytes → IsPlainBook j.setting → IsStart j.setting.schema.names → AtFragment j.setting byte c → IsSequence j (start.Fragment byte) limits es e count → fits c e ≡ true → GoesAs j.setting j.bytes c es (spliced c e)
+SplicesAreRuns = (j : Job) (byte : ℕ) (c : Config) (limits : Bounds) (es : List Happening) (e : End) (count : ℕ) → IsBytes j.bytes → IsSetting j.setting → IsStart j.setting.schema.names → AtFragment j.setting byte c → IsSequence j (start.Fragment byte) limits es e count → fits c e ≡ true → GoesAs j.setting j.bytes c es (spliced c e)

@@ -1,4 +1,4 @@
-ghost use Rattle.std.specs.Prelude.{◌≡◌};
+ghost use Rattle.std.specs.Prelude.{◌≡◌, None};
 ghost use Rattle.exi_reader.specs.Handing.{Pays, alone_of, charged_at, charges_on, terminal_in};
 
 use crate::alone::Alone;
@@ -22,7 +22,7 @@ pub struct Charges {
 impl Charges {
     /// Those of what is read there, by whether the event before was an SE.
     pub fn of(content: Content, alone: Alone, after_start: bool) -> Charges
-        ensures { result ≡ charges_on (alone_of alone) after_start (terminal_in content) }
+        ensures { result ≡ charges_on (alone_of alone) after_start (terminal_in content None) }
     {
         let mut charges = Charges {
             barred: None,
@@ -48,8 +48,7 @@ impl Charges {
                     charges.misplaced = Some(Kind::ScPlace);
                 }
             }
-            Content::Informed => charges.barred = Some(Kind::NoCode),
-            Content::Attribute(_)
+            Content::Attribute(_, _)
             | Content::Characters
             | Content::EndElement
             | Content::Declaration

@@ -1,8 +1,9 @@
-ghost use Rattle.std.specs.Prelude.{◌≡◌};
+ghost use Rattle.std.specs.Prelude.{◌≡◌, None, true};
 ghost use Rattle.exi_builtin.specs.Learning.{IsRoom, state_behind};
 ghost use Rattle.exi_gram.specs.Books.{IsStateOf};
-ghost use Rattle.exi_reader.specs.Configurations.{built_in, in_book, outer_rules, rules_in};
-ghost use Rattle.exi_reader.specs.Handing.{AreThere, IsThere, Picks};
+ghost use Rattle.exi_reader.specs.Configurations.{alone_rules, built_in, in_book, outer_rules, rules_in};
+ghost use Rattle.exi_reader.specs.Handing.{AreThere, IsThere, Picks, rule_in};
+ghost use Rattle.exi_reader.specs.Rules.{start_document};
 
 use crate::frames::{Outer, State};
 use crate::rule::{Content, Rule};
@@ -13,11 +14,16 @@ use exi_gram::read_code;
 use exi_tables::Tables;
 
 /// SD of a fragment, whose code takes no bits.
-const START: Rule = Rule {
-    on: Content::StartDocument,
-    to: 1,
-    inner: None,
-};
+fn fragment_start<'a>() -> Rule<'a>
+    ensures { rule_in result ≡ record { on = start_document; to = 1; inner = None } }
+{
+    Rule {
+        on: Content::StartDocument,
+        to: 1,
+        inner: None,
+        datatype: None,
+    }
+}
 
 /// The place of the state that a production of a built-in grammar leads to.
 pub fn state_behind(room: Room, production: Learnable) -> u32
@@ -31,7 +37,7 @@ pub fn state_behind(room: Room, production: Learnable) -> u32
 
 impl<'a, T: Tables + Drop> Stepper<'a, T> {
     /// The production whose code comes next, among those of a state of the built-in grammars.
-    fn built_in_rule(&mut self, room: Room) -> Result<Rule, Fault>
+    fn built_in_rule(&mut self, room: Room) -> Result<Rule<'a>, Fault>
         requires room { IsRoom self.old.config.learned room }
         ensures picks { Picks result self.old self.new (built_in self.old.setting self.old.config.learned room) }
     {
@@ -40,43 +46,45 @@ impl<'a, T: Tables + Drop> Stepper<'a, T> {
             Ok(production) => production,
             Err(fault) => return Err(fault),
         };
-        Ok(Rule {
-            on: Content::of_built_in(production),
-            to: state_behind(room, production),
-            inner: None,
-        })
+        Ok(Rule::of_built_in(production, state_behind(room, production)))
     }
 
     /// The production whose code comes next, among those of a state of the book.
-    fn book_rule(&mut self, grammar: u32, state: u32) -> Result<Rule, Fault>
+    fn book_rule(&mut self, grammar: u32, state: u32) -> Result<Rule<'a>, Fault>
         requires exists { IsStateOf self.old.setting grammar state }
         ensures picks { Picks result self.old self.new (in_book self.old.setting grammar state) }
     {
-        let place = match read_code(&mut self.input, self.book, grammar, state) {
+        let book = self.book;
+        let place = match read_code(&mut self.input, book, grammar, state) {
             Ok(place) => place,
             Err(fault) => return Err(fault),
         };
-        let coded = self.book.state(grammar, state).coded();
-        let production = &coded[place as usize].production;
-        Ok(Rule {
-            on: Content::of_book(&production.on),
-            to: production.to,
-            inner: production.inner,
-        })
+        let coded = &book.state(grammar, state).coded()[place as usize];
+        Ok(Rule::of_book(&coded.production, coded.named))
+    }
+
+    /// The production whose code comes next in the content of a fragment that stands for one element.
+    fn alone_rule(&mut self) -> Result<Rule<'a>, Fault>
+        requires there { self.old.setting.schema.known ≡ true → IsStateOf self.old.setting 1 1 }
+        ensures picks { Picks result self.old self.new (alone_rules self.old.setting self.old.config.learned) }
+    {
+        if self.book.schema().is_known() {
+            self.book_rule(1, 1)
+        } else {
+            self.built_in_rule(Room::Fragment)
+        }
     }
 
     /// The production whose code comes next, outside of all elements.
-    fn outer_rule(&mut self) -> Result<Rule, Fault>
+    fn outer_rule(&mut self) -> Result<Rule<'a>, Fault>
         requires there { IsThere self.old.setting self.old.config.outer }
         ensures picks { Picks result self.old self.new (outer_rules self.old.setting self.old.config.learned self.old.config.outer) }
     {
         match self.outer {
             Outer::Book { grammar, state } => self.book_rule(grammar, state),
-            Outer::FragmentStart => Ok(START),
-            Outer::AloneStart => Ok(START),
-            Outer::FragmentContent | Outer::AloneFirst | Outer::AloneOver => {
-                self.built_in_rule(Room::Fragment)
-            }
+            Outer::FragmentStart | Outer::AloneStart => Ok(fragment_start()),
+            Outer::FragmentContent => self.built_in_rule(Room::Fragment),
+            Outer::AloneFirst | Outer::AloneOver => self.alone_rule(),
             Outer::Ended => Err(Fault {
                 kind: Kind::NoCode,
                 bit: self.input.at(),
@@ -85,7 +93,7 @@ impl<'a, T: Tables + Drop> Stepper<'a, T> {
     }
 
     /// The production whose code comes next.
-    pub fn rule(&mut self) -> Result<Rule, Fault>
+    pub fn rule(&mut self) -> Result<Rule<'a>, Fault>
         requires outer { IsThere self.old.setting self.old.config.outer }
         requires elements { AreThere self.old.setting self.old.config.learned self.old.config.elements }
         ensures picks { Picks result self.old self.new (rules_in self.old.setting self.old.config.learned self.old.config.elements self.old.config.outer) }

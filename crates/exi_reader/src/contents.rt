@@ -1,9 +1,10 @@
 ghost use Rattle.std.specs.Prelude.{◌≡◌, ◌≢◌, ◌≤◌, ◌<◌, ◌-◌, ◌^◌, [], Some, true, length, IsErrOf};
-ghost use Rattle.exi_builtin.specs.Learning.{is_type};
+ghost use Rattle.exi_names.specs.Datatypes.{represented};
+ghost use Rattle.exi_names.specs.Datatypes as datatype;
 ghost use Rattle.exi_names.specs.Events.{Rose};
 ghost use Rattle.exi_tables.specs.Growth.{NoneLonger};
 ghost use Rattle.exi_tables.specs.Partitions.{IsName};
-ghost use Rattle.exi_typed.specs.Places.{IsNameAt, name_in};
+ghost use Rattle.exi_values.specs.Stops.{IsRoomy};
 ghost use Rattle.exi_reader.specs.Changes.{has_level, innermost, room_in};
 ghost use Rattle.exi_reader.specs.Handing.{
   CanLearn,
@@ -14,12 +15,9 @@ ghost use Rattle.exi_reader.specs.Handing.{
   leading_to,
   making,
   opening_to,
-  string_made,
   telling_of,
-  value_made,
 };
 ghost use Rattle.exi_reader.specs.Plans.{
-  attribute_plan,
   characters_plan,
   comment_plan,
   declaration_plan,
@@ -28,24 +26,25 @@ ghost use Rattle.exi_reader.specs.Plans.{
   element_plan,
   end_plan,
   entity_plan,
-  informed_plan,
   instruction_plan,
   self_contained_plan,
   start_plan,
 };
 
 use crate::alone::Alone;
+use crate::declared::opener;
 use crate::frames::Outer;
 use crate::halt::Halt;
 use crate::parts::{
-    close, go_to, innermost, is_type, learn, learn_name, meet_root, open, see_type, text,
-    told_name, type_name,
+    close, go_to, innermost, learn, learn_name, meet_root, open, see_characters, text, told_name,
+    typed_value,
 };
+use crate::rule::Telling;
 use crate::stepper::Stepper;
 use exi_builtin::Learned;
-use exi_names::{EventOut, EventRef, NameId, ValRef};
+use exi_names::{Datatype, EventOut, EventRef, ValRef};
 use exi_tables::Tables;
-use exi_typed::{NameAt, StringRead, declaration_texts, name_ref, read_declaration, read_string};
+use exi_typed::{StringRead, declaration_texts, name_ref, read_declaration, read_string};
 
 impl<'a, T: Tables + Drop> Stepper<'a, T> {
     /// SD.
@@ -122,7 +121,7 @@ impl<'a, T: Tables + Drop> Stepper<'a, T> {
         &mut self,
         bit: u64,
         alone: Alone,
-        telling: Option<NameId>,
+        telling: Telling,
         to: u32,
         inner: Option<u32>,
         out: &mut E,
@@ -153,6 +152,7 @@ impl<'a, T: Tables + Drop> Stepper<'a, T> {
         let used = Learned::Se(name.id);
         learn_name(&mut self.overlay, &self.elements, self.outer, telling, used)?;
         go_to(&mut self.elements, &mut self.outer, to);
+        let inner = opener(self.book, told, inner);
         open(&mut self.overlay, &mut self.elements, name.id, inner)?;
         if alone.is_event() {
             self.after_start = true;
@@ -163,8 +163,8 @@ impl<'a, T: Tables + Drop> Stepper<'a, T> {
         Ok(None)
     }
 
-    /// CH.
-    #[tactic(auto, unfolding(crate::specs::Handing::making, exi_typed::specs::Items::item_at))]
+    /// CH, a string.
+    #[tactic(auto, unfolding(crate::specs::Handing::making, exi_values::specs::Valued::valued_at, exi_typed::specs::Items::item_at))]
     pub fn characters<E: EventOut>(
         &mut self,
         bit: u64,
@@ -176,7 +176,7 @@ impl<'a, T: Tables + Drop> Stepper<'a, T> {
         requires name { IsName self.old.config.tables (innermost self.old.config.elements) }
         requires learns { CanLearn (room_in self.old.config.elements self.old.config.outer) self.old.config.learned }
         ensures hands { HandsAny E.took E.broke result self.new
-            (making self.old.bytes bit (characters_plan self.old.setting (alone_of alone) self.old.config.elements (leading_to to)) self.old.config) out.old out.new }
+            (making self.old.bytes bit (characters_plan self.old.setting (alone_of alone) self.old.config.elements datatype.text (leading_to to)) self.old.config) out.old out.new }
         ensures setting { self.new.setting ≡ self.old.setting }
         ensures bytes { self.new.bytes ≡ self.old.bytes }
         ensures root { OnFault result (self.new.config.root ≡ self.old.config.root) }
@@ -206,6 +206,50 @@ impl<'a, T: Tables + Drop> Stepper<'a, T> {
                 self.tables.add_value(name, text)?;
             }
         }
+        Ok(None)
+    }
+
+    /// CH, of a datatype.
+    #[tactic(auto, unfolding(crate::specs::Handing::making))]
+    pub fn typed_characters<E: EventOut>(
+        &mut self,
+        bit: u64,
+        alone: Alone,
+        datatype: &Datatype,
+        to: u32,
+        out: &mut E,
+    ) -> Result<Option<u64>, Halt>
+        requires few { NoneLonger (2 ^ 31) self.old.config.tables }
+        requires roomy { IsRoomy self.old.config.meter self.old.config.tables }
+        requires name { IsName self.old.config.tables (innermost self.old.config.elements) }
+        requires learns { CanLearn (room_in self.old.config.elements self.old.config.outer) self.old.config.learned }
+        ensures hands { HandsAny E.took E.broke result self.new
+            (making self.old.bytes bit (characters_plan self.old.setting (alone_of alone) self.old.config.elements (represented datatype.now) (leading_to to)) self.old.config) out.old out.new }
+        ensures setting { self.new.setting ≡ self.old.setting }
+        ensures bytes { self.new.bytes ≡ self.old.bytes }
+        ensures root { OnFault result (self.new.config.root ≡ self.old.config.root) }
+        ensures same { E.same out.old out.new }
+        ensures later { E.stops out.old ≤ E.stops out.new }
+        ensures stopped { IsErrOf result Halt.Stopped → Rose (E.stops out.old) (E.stops out.new) }
+    {
+        if let Datatype::Text = datatype {
+            return self.characters(bit, alone, to, out);
+        }
+        let name = innermost(&self.elements);
+        learn(&mut self.overlay, &self.elements, self.outer, Learned::Ch)?;
+        self.after_start = false;
+        go_to(&mut self.elements, &mut self.outer, to);
+        let value = typed_value(
+            self.alloc,
+            self.book,
+            &mut self.input,
+            datatype,
+            name,
+            &mut self.tables,
+            &mut self.meter,
+        )?;
+        alone.refuse(bit)?;
+        see_characters(&value, out)?;
         Ok(None)
     }
 
@@ -462,145 +506,5 @@ impl<'a, T: Tables + Drop> Stepper<'a, T> {
         go_to(&mut self.elements, &mut self.outer, to);
         out.see(&EventRef::Er(&name))?;
         Ok(None)
-    }
-
-    /// What only a schema has.
-    #[tactic(auto, unfolding(crate::specs::Handing::making))]
-    pub fn informed<E: EventOut>(
-        &mut self,
-        bit: u64,
-        alone: Alone,
-        out: &mut E,
-    ) -> Result<Option<u64>, Halt>
-        ensures hands { HandsAny E.took E.broke result self.new
-            (making self.old.bytes bit (informed_plan (alone_of alone)) self.old.config) out.old out.new }
-        ensures setting { self.new.setting ≡ self.old.setting }
-        ensures bytes { self.new.bytes ≡ self.old.bytes }
-        ensures root { OnFault result (self.new.config.root ≡ self.old.config.root) }
-        ensures same { E.same out.old out.new }
-        ensures later { E.stops out.old ≤ E.stops out.new }
-        ensures stopped { IsErrOf result Halt.Stopped → Rose (E.stops out.old) (E.stops out.new) }
-    {
-        alone.refuse(bit)?;
-        self.after_start = false;
-        Ok(None)
-    }
-
-    /// The value of an attribute that is `xsi:type`, whose name is read.
-    #[tactic(auto, unfolding(crate::specs::Handing::value_made))]
-    fn type_value<E: EventOut>(
-        &mut self,
-        bit: u64,
-        alone: Alone,
-        name: NameAt,
-        out: &mut E,
-    ) -> Result<Option<u64>, Halt>
-        requires few { NoneLonger (2 ^ 31) self.old.config.tables }
-        requires places { IsNameAt self.old.config.tables name }
-        requires typed { is_type name.id ≡ true }
-        ensures hands { HandsAny E.took E.broke result self.new
-            (value_made self.old.setting self.old.bytes bit (alone_of alone) (name_in self.old.config.tables name) self.old.config) out.old out.new }
-        ensures setting { self.new.setting ≡ self.old.setting }
-        ensures bytes { self.new.bytes ≡ self.old.bytes }
-        ensures root { OnFault result (self.new.config.root ≡ self.old.config.root) }
-        ensures same { E.same out.old out.new }
-        ensures later { E.stops out.old ≤ E.stops out.new }
-        ensures stopped { IsErrOf result Halt.Stopped → Rose (E.stops out.old) (E.stops out.new) }
-    {
-        self.after_start = false;
-        let value = type_name(
-            self.alloc,
-            self.book,
-            &mut self.input,
-            name.id,
-            &mut self.tables,
-            &mut self.meter,
-        )?;
-        alone.refuse(bit)?;
-        let value = name_ref(&self.tables, value).copy()?;
-        see_type(name_ref(&self.tables, name), value, out)?;
-        Ok(None)
-    }
-
-    /// The value of an attribute that is a string, whose name is read.
-    #[tactic(auto, unfolding(crate::specs::Handing::string_made))]
-    fn string_value<E: EventOut>(
-        &mut self,
-        bit: u64,
-        alone: Alone,
-        name: NameAt,
-        out: &mut E,
-    ) -> Result<Option<u64>, Halt>
-        requires few { NoneLonger (2 ^ 31) self.old.config.tables }
-        requires places { IsNameAt self.old.config.tables name }
-        ensures hands { HandsAny E.took E.broke result self.new
-            (string_made self.old.setting self.old.bytes bit (alone_of alone) (name_in self.old.config.tables name) self.old.config) out.old out.new }
-        ensures setting { self.new.setting ≡ self.old.setting }
-        ensures bytes { self.new.bytes ≡ self.old.bytes }
-        ensures root { OnFault result (self.new.config.root ≡ self.old.config.root) }
-        ensures same { E.same out.old out.new }
-        ensures later { E.stops out.old ≤ E.stops out.new }
-        ensures stopped { IsErrOf result Halt.Stopped → Rose (E.stops out.old) (E.stops out.new) }
-    {
-        self.after_start = false;
-        let align = self.book.options().align();
-        let text = read_string(
-            self.alloc,
-            &mut self.input,
-            None,
-            align,
-            name.id,
-            &self.tables,
-            &mut self.meter,
-        )?;
-        alone.refuse(bit)?;
-        let told = name_ref(&self.tables, name);
-        match text {
-            StringRead::Stands(text) => out.see(&EventRef::At(told, ValRef::Text(text)))?,
-            StringRead::Missed(text) => {
-                out.see(&EventRef::At(told, ValRef::Text(&text)))?;
-                self.tables.add_value(name.id, text)?;
-            }
-        }
-        Ok(None)
-    }
-
-    /// AT.
-    #[tactic(auto, unfolding(crate::specs::Handing::making, crate::specs::Contents::both_at))]
-    pub fn attribute<E: EventOut>(
-        &mut self,
-        bit: u64,
-        alone: Alone,
-        telling: Option<NameId>,
-        to: u32,
-        out: &mut E,
-    ) -> Result<Option<u64>, Halt>
-        requires few { NoneLonger (2 ^ 31 - 2) self.old.config.tables }
-        requires known { IsTold telling self.old.config.tables }
-        requires learns { CanLearn (room_in self.old.config.elements self.old.config.outer) self.old.config.learned }
-        ensures hands { HandsAny E.took E.broke result self.new
-            (making self.old.bytes bit (attribute_plan self.old.setting (alone_of alone) (telling_of telling) (leading_to to)) self.old.config) out.old out.new }
-        ensures setting { self.new.setting ≡ self.old.setting }
-        ensures bytes { self.new.bytes ≡ self.old.bytes }
-        ensures root { OnFault result (self.new.config.root ≡ self.old.config.root) }
-        ensures same { E.same out.old out.new }
-        ensures later { E.stops out.old ≤ E.stops out.new }
-        ensures stopped { IsErrOf result Halt.Stopped → Rose (E.stops out.old) (E.stops out.new) }
-    {
-        let name = told_name(
-            self.alloc,
-            self.book,
-            &mut self.input,
-            telling,
-            &mut self.tables,
-            &mut self.meter,
-        )?;
-        let used = Learned::At(name.id);
-        learn_name(&mut self.overlay, &self.elements, self.outer, telling, used)?;
-        go_to(&mut self.elements, &mut self.outer, to);
-        if is_type(name.id) {
-            return self.type_value(bit, alone, name, out);
-        }
-        self.string_value(bit, alone, name, out)
     }
 }

@@ -1,6 +1,6 @@
 ghost use Rattle.std.specs.Prelude.{◌≡◌, ◌∷◌, [], IsTrue, ◌↔◌, OnOk, OnErr, length};
-ghost use Rattle.exi_reader.specs.Changes.{enclosing, has_level, innermost, moved_elements, moved_room, moved_state};
-ghost use Rattle.exi_reader.specs.Stacks.{first_element};
+ghost use Rattle.exi_reader.specs.Changes.{emptied_elements, emptied_state, enclosing, has_level, innermost, moved_elements, moved_room, moved_state, restated};
+ghost use Rattle.exi_reader.specs.Stacks.{HasForm, HaveForm, first_element};
 
 use crate::frames::{Element, Outer, State};
 use exi_builtin::Room;
@@ -67,6 +67,31 @@ impl Elements {
         self.items.pop();
     }
 
+    /// The innermost goes on in this state.
+    pub fn restate(&mut self, state: State)
+        ensures { self.new ≡ restated state self.old }
+    {
+        if let Some(element) = self.items.pop() {
+            self.items.push_reserved(Element {
+                name: element.name,
+                state,
+            });
+        }
+    }
+
+    /// The innermost goes on with the empty form of its grammar.
+    pub fn empty(&mut self)
+        requires form { HaveForm self.old }
+        ensures { self.new ≡ emptied_elements self.old }
+    {
+        if let Some(element) = self.items.pop() {
+            self.items.push_reserved(Element {
+                name: element.name,
+                state: element.state.emptied(),
+            });
+        }
+    }
+
     /// The innermost goes to this state of its grammar.
     pub fn move_to(&mut self, to: u32)
         ensures { self.new ≡ moved_elements to self.old }
@@ -81,6 +106,21 @@ impl Elements {
 }
 
 impl State {
+    /// The start of the empty form of its grammar: that stands behind the full form, and its own is itself.
+    pub fn emptied(self) -> State
+        requires form { HasForm self }
+        ensures { result ≡ emptied_state self }
+    {
+        match self {
+            State::BuiltIn(room) => State::BuiltIn(room),
+            State::Informed { grammar, empty, .. } => State::Informed {
+                grammar: if empty { grammar } else { grammar + 1 },
+                state: 0,
+                empty: true,
+            },
+        }
+    }
+
     /// The state of the same grammar with this place.
     pub fn moved(self, to: u32) -> State
         ensures { result ≡ moved_state to self }

@@ -1,10 +1,9 @@
 ghost use Rattle.std.specs.Prelude.{◌≡◌, ◌≤◌, ◌^◌, false, length, true, IfOk, MatchOption, OnOk};
 ghost use Rattle.exi_bits.specs.Bits.{IsBytes};
-ghost use Rattle.exi_gram.specs.Books.{IsPlainBook};
 ghost use Rattle.exi_gram.specs.Switches.{fragment};
 ghost use Rattle.exi_meter.specs.Metering.{IsWithinStream};
 ghost use Rattle.exi_names.specs.StartTables.{IsStart};
-ghost use Rattle.exi_reader.specs.Configurations.{first_tables};
+ghost use Rattle.exi_reader.specs.Configurations.{IsSetting, first_tables};
 ghost use Rattle.exi_reader.specs.Changes.{innermost, put_aside};
 ghost use Rattle.exi_reader.specs.Handing.{first_outer_of, standing, with_config};
 ghost use Rattle.exi_reader.specs.Reading.{IsJob, IsStartIn, job_of};
@@ -29,17 +28,18 @@ use exi_tables::Tables;
 use std::alloc::{AllocError, Global};
 use std::mem;
 
-/// The state at which reading begins.
-pub fn first_outer(options: &Options, start: Start) -> Outer
-    ensures { result ≡ first_outer_of (fragment options.now) start }
+/// The state at which reading begins, by whether there is a schema.
+pub fn first_outer(known: bool, options: &Options, start: Start) -> Outer
+    ensures { result ≡ first_outer_of known (fragment options.now) start }
 {
+    let fragment = options.flags.contains(OptionFlags::FRAGMENT);
     match start {
         Start::Body => {
-            if options.flags.contains(OptionFlags::FRAGMENT) {
+            if fragment && !known {
                 Outer::FragmentStart
             } else {
                 Outer::Book {
-                    grammar: 0,
+                    grammar: u32::from(fragment),
                     state: 0,
                 }
             }
@@ -51,7 +51,7 @@ pub fn first_outer(options: &Options, start: Start) -> Outer
 /// The string tables at the start of a stream.
 pub fn first_tables<T: Tables>(alloc: Global, book: &Book) -> Result<T, AllocError>
     ensures tables { IfOk result (λ t. T.held t ≡ first_tables book.now) }
-    ensures plain { book.now.schema.known ≡ false → IsPlainBook book.now }
+    ensures setting { IsSetting book.now }
     ensures names { IsStart book.now.schema.names }
 {
     let options = book.options();
@@ -81,7 +81,7 @@ impl<'a, T: Tables + Drop> Stepper<'a, T> {
         requires start { IsStartIn (job_of job.now) start }
         ensures first { IfOk result (λ s. s ≡ standing (job_of job.now) (first (job_of job.now) start limits)) }
         ensures within { IfOk result (λ s. IsWithinStream limits) }
-        ensures book { IfOk result (λ s. IsPlainBook job.now.book.now) }
+        ensures book { IfOk result (λ s. IsSetting job.now.book.now) }
         ensures names { IfOk result (λ s. IsStart job.now.book.now.schema.names) }
         ensures octets { IfOk result (λ s. IsBytes job.now.bytes.now) }
     {
@@ -99,7 +99,7 @@ impl<'a, T: Tables + Drop> Stepper<'a, T> {
             meter: Meter::new(limits),
             tables,
             elements: Elements::new(alloc),
-            outer: first_outer(job.book.options(), start),
+            outer: first_outer(job.book.schema().is_known(), job.book.options(), start),
             overlay: Overlay::new(alloc),
             after_start: false,
             root: None,

@@ -29,16 +29,16 @@ pub struct Element {
 /// The state outside of all elements.
 #[derive(Clone, Copy, Debug, PartialEq, Eq)]
 pub enum Outer {
-    /// A state of a grammar of the book, as those of a document are.
+    /// A state of a grammar of the book: Document, or by a schema Fragment (EXI 1.0, sections 8.4.1 and 8.5.2).
     Book {
         /// The place of the grammar.
         grammar: u32,
         /// The place of the state.
         state: u32,
     },
-    /// The start of a fragment (EXI 1.0, section 8.4.2).
+    /// The start of a fragment without a schema (EXI 1.0, section 8.4.2).
     FragmentStart,
-    /// The content of a fragment.
+    /// The content of a fragment without a schema.
     FragmentContent,
     /// The start of a fragment that stands for one element.
     AloneStart,

@@ -62,7 +62,7 @@ pub fn first_is_sound()
 {}
 
 /// A step leads from a sound configuration to a sound one: names go on as the least places of their
-/// texts, an open element has the grammar of its name, and each has its level.
+/// texts, an open element has the built-in grammar of its name or one of the schema, and each has its level.
 pub fn steps_keep_sound()
     ensures law { StepsKeepSound }
 {}
@@ -88,7 +88,7 @@ pub fn one_at_most()
 {}
 
 /// What a code tells in a sound configuration fits the state: a name only one that stands; attributes,
-/// content and EE only in an element; SD, ED and DT only outside of all.
+/// content and EE only in an element; SD and ED only outside of all, and DT in no element of a built-in grammar.
 pub fn codes_fit()
     ensures law { CodesFit }
 {}
@@ -133,8 +133,8 @@ pub fn too_much_stops()
     ensures law { TooMuchStops }
 {}
 
-/// After so many turns no list of the string tables has more than 2^30 texts and two for each turn, and
-/// there are no more grammars than turns, each with no more learned productions in a state.
+/// After so many turns no list of the string tables has more than 2^30 texts, two for each turn and one for each unit of
+/// text that was charged, and there are no more grammars than turns, each with no more learned productions in a state.
 pub fn few_after_turns()
     ensures law { FewAfterTurns }
 {}

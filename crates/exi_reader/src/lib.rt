@@ -1,5 +1,5 @@
-//! Sequential processing of EXI 1.0 (sections 6 and 8.4), for streams without a schema: what it is, and
-//! what holds of it.
+//! Sequential processing of EXI 1.0 (sections 6, 8.4 and 8.5), with a schema and without: what it is, and what
+//! holds of it.
 //!
 //! A body is a row of events. Each has a code that tells a production of the state in which reading is, and
 //! what that production reads: a name, a value, texts, or nothing. `80 40 98 70 37 80`, behind the header's
@@ -21,9 +21,11 @@
 
 mod alone;
 mod aside;
+mod attributes;
 mod charges;
 mod codes;
 mod contents;
+mod declared;
 mod elements;
 mod end;
 mod ends;
@@ -43,19 +45,22 @@ mod turn;
 
 pub use alone::Alone;
 pub use aside::{Aside, Asides};
+pub use attributes::{empty_by, retype};
 pub use charges::Charges;
 pub use codes::state_behind;
+pub use declared::{attribute_datatype, opener, type_grammar};
 pub use elements::Elements;
 pub use end::End;
 pub use ends::{first_outer, first_tables};
 pub use frames::{Element, Outer, State};
 pub use job::Job;
 pub use parts::{
-    alone_in, close, go_to, innermost, is_strict, is_type, keeps_prefixes, learn, learn_name, open,
+    alone_in, close, go_to, innermost, is_nil, is_strict, is_type, keeps_prefixes, learn,
+    learn_name, open,
 };
 pub use read::read_from;
 pub use reader::Reader;
-pub use rule::{Content, Rule};
+pub use rule::{Content, Rule, Telling, Valuing};
 pub use splice::Spliced;
 pub use start::Start;
 pub use turn::{ReadStop, Turn};

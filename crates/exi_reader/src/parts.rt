@@ -1,14 +1,21 @@
-ghost use Rattle.std.specs.Prelude.{◌≡◌, ◌≤◌, ◌<◌, ◌-◌, ◌^◌, [], ◌∷◌, true, length, IfOk, IsErrOf, OnOk};
+ghost use Rattle.std.specs.Prelude.{◌≡◌, ◌≤◌, ◌<◌, ◌-◌, ◌^◌, [], ◌∷◌, None, false, true, length, IfOk, IsErrOf, OnOk};
 ghost use Rattle.exi_names.specs.Events as event;
 ghost use Rattle.exi_names.specs.Events.{Rose};
 ghost use Rattle.exi_bits.specs.Bits.{IsAligned};
 ghost use Rattle.exi_builtin.specs.Learning.{is_type};
 ghost use Rattle.exi_gram.specs.Switches.{align_of, prefixes, strict};
+ghost use Rattle.exi_names.specs.Datatypes.{represented};
+ghost use Rattle.exi_names.specs.Datatypes as datatype;
+ghost use Rattle.exi_names.specs.Seen.{seen};
 ghost use Rattle.exi_names.specs.Seen as value;
 ghost use Rattle.exi_names.specs.Shown.{named};
 ghost use Rattle.exi_tables.specs.Growth.{KeepsAll, NoneLonger};
-ghost use Rattle.exi_typed.specs.ReadStates.{GoesOrStops, read_state};
-ghost use Rattle.exi_typed.specs.Places.{IsNameAt, name_in};
+ghost use Rattle.exi_tables.specs.Partitions.{IsName, live_at, uris};
+ghost use Rattle.exi_typed.specs.ReadStates.{Goes, GoesOrStops, Leaves, read_state};
+ghost use Rattle.exi_typed.specs.Places.{IsNameAt, name_in, text_in};
+ghost use Rattle.exi_typed.specs.Strings.{placed_at};
+ghost use Rattle.exi_values.specs.Stops.{IsRoomy};
+ghost use Rattle.exi_values.specs.Valued.{valued_at};
 ghost use Rattle.exi_reader.specs.Changes.{
   enclosing,
   has_level,
@@ -23,22 +30,28 @@ ghost use Rattle.exi_reader.specs.Changes.{
   room_in,
   with_inner,
 };
-ghost use Rattle.exi_reader.specs.Contents.{attribute_value_at, text_at, told_name_at};
-ghost use Rattle.exi_reader.specs.Handing.{CanLearn, IsTold, Meets, alone_of, learned_by, telling_of};
+ghost use Rattle.exi_reader.specs.Contents.{acts_as_type, attribute_value_at, is_nil, text_at, told_name_at, under_at};
+ghost use Rattle.exi_reader.specs.Globals.{type_grammar};
+ghost use Rattle.exi_reader.specs.Handing.{CanLearn, IsTold, Meets, alone_of, learned_by, telling_of, valuing_in};
 ghost use Rattle.exi_reader.specs.Plans.{alone_in};
 
 use crate::alone::Alone;
 use crate::aside::Asides;
+use crate::declared::type_grammar;
 use crate::elements::Elements;
 use crate::frames::{Element, Outer, State};
+use crate::rule::{Telling, Valuing};
 use bitflags::Flags;
 use exi_bits::{BitIn, Fault, Kind, Stop};
 use exi_builtin::{Learned, Overlay, Room};
 use exi_gram::{Book, OptionFlags, Options};
 use exi_meter::Meter;
-use exi_names::{EventOut, EventRef, NameId, NameRef, PushStop, QName, Txt, Val, ValRef};
+use exi_names::{Datatype, EventOut, EventRef, NameId, NameRef, PushStop, QName, Txt, Val, ValRef};
 use exi_tables::Tables;
-use exi_typed::{NameAt, read_known, read_literal, read_name, read_name_value};
+use exi_typed::{
+    NameAt, name_ref, read_known, read_literal, read_name, read_name_under, read_name_value,
+};
+use exi_values::read_value;
 use std::alloc::{AllocError, Global};
 
 /// Whether names keep their prefixes.
@@ -60,6 +73,13 @@ pub fn is_type(name: NameId) -> bool
     ensures { result ≡ is_type name }
 {
     name.uri == 2 && name.local == 1
+}
+
+/// Whether a name is `xsi:nil`, which the first string tables have at these places (EXI 1.0, appendix D).
+pub fn is_nil(name: NameId) -> bool
+    ensures { result ≡ is_nil name }
+{
+    name.uri == 2 && name.local == 0
 }
 
 /// Whether a fragment stands there for one element.
@@ -210,7 +230,7 @@ pub fn learn_name(
     overlay: &mut Overlay,
     elements: &Elements,
     outer: Outer,
-    telling: Option<NameId>,
+    telling: Telling,
     used: Learned,
 ) -> Result<(), AllocError>
     requires learns { CanLearn (room_in elements.now outer) overlay.old }
@@ -218,8 +238,8 @@ pub fn learn_name(
     ensures grammars { length overlay.new.grammars ≡ length overlay.old.grammars }
 {
     match telling {
-        None => learn(overlay, elements, outer, used),
-        Some(_) => Ok(()),
+        Telling::Spelled | Telling::Under(_) => learn(overlay, elements, outer, used),
+        Telling::Known(_) => Ok(()),
     }
 }
 
@@ -254,7 +274,74 @@ pub fn meet_root<T: Tables + Drop>(
     Ok(())
 }
 
-/// Reads a name that has bits of its own, or that the code told.
+/// Charges the URI at a place of the tables, which has to exist.
+///
+/// # Errors
+///
+/// `TextLimit` here, where it would pass the limit.
+fn charge_uri<T: Tables>(
+    input: &BitIn<'_>,
+    uri: u32,
+    tables: &T,
+    meter: &mut Meter,
+) -> Result<(), Fault>
+    requires stands { uri < length (uris (T.held tables.now)) }
+    ensures charged { Goes
+        (λ _. (text_in (uris (T.held tables.now)) uri, read_state input.now meter.new (T.held tables.now)))
+        meter.new
+        result
+        (placed_at input.now (live_at (uris (T.held tables.now)) uri) (read_state input.now meter.old (T.held tables.now))) }
+{
+    let bit = input.at();
+    let Some(text) = tables.uri_at(uri) else {
+        return Err(Fault {
+            kind: Kind::BadPlace,
+            bit,
+        });
+    };
+    if meter.text(u128::from(text.count())) {
+        return Ok(());
+    }
+    Err(Fault {
+        kind: Kind::TextLimit,
+        bit,
+    })
+}
+
+/// Reads a name of which the code told the URI, by its place.
+///
+/// # Errors
+///
+/// Those of [`read_name_under`], and `TextLimit` where the URI would pass the limit. The place may then be any.
+#[tactic(auto, unfolding(crate::specs::Contents::under_at))]
+fn name_under<T: Tables>(
+    alloc: Global,
+    book: &Book,
+    input: &mut BitIn<'_>,
+    uri: u32,
+    tables: &mut T,
+    meter: &mut Meter,
+) -> Result<NameAt, Stop>
+    requires stands { uri < length (uris (T.held tables.old)) }
+    requires few { NoneLonger (2 ^ 31) (T.held tables.old) }
+    requires aligned { IsAligned (align_of book.now.options) input.old }
+    ensures read { GoesOrStops
+        (λ n. (name_in (T.held tables.new) n, read_state input.new meter.new (T.held tables.new)))
+        meter.new
+        result
+        (under_at (prefixes book.now.options) (align_of book.now.options) uri (read_state input.old meter.old (T.held tables.old))) }
+    ensures places { IfOk result (λ n. IsNameAt (T.held tables.new) n) }
+    ensures tables { Leaves result (T.held tables.old) (T.held tables.new) }
+    ensures bytes { input.new.bytes ≡ input.old.bytes }
+    ensures aligned { IsAligned (align_of book.now.options) input.new }
+{
+    let options = book.options();
+    charge_uri(input, uri, tables, meter)?;
+    let keep = keeps_prefixes(options);
+    read_name_under(alloc, input, keep, options.align(), uri, tables, meter)
+}
+
+/// Reads a name that has bits of its own, whole or behind its URI, or that the code told.
 ///
 /// # Errors
 ///
@@ -263,7 +350,7 @@ pub fn told_name<T: Tables>(
     alloc: Global,
     book: &Book,
     input: &mut BitIn<'_>,
-    telling: Option<NameId>,
+    telling: Telling,
     tables: &mut T,
     meter: &mut Meter,
 ) -> Result<NameAt, Stop>
@@ -284,38 +371,47 @@ pub fn told_name<T: Tables>(
     let keep = keeps_prefixes(options);
     let align = options.align();
     match telling {
-        None => {
-            let name = read_name(alloc, input, keep, align, tables, meter)?;
-            Ok(name)
-        }
-        Some(id) => Ok(read_known(input, keep, align, id, tables, meter)?),
+        Telling::Spelled => read_name(alloc, input, keep, align, tables, meter),
+        Telling::Under(uri) => name_under(alloc, book, input, uri, tables, meter),
+        Telling::Known(id) => Ok(read_known(input, keep, align, id, tables, meter)?),
     }
 }
 
-/// Reads the value of an attribute that is `xsi:type`: a name.
+/// The value of an attribute that is `xsi:type`: a name, and the grammar of the type that it names, where it is there.
+#[derive(Clone, Copy)]
+pub struct TypeRead {
+    /// The name.
+    pub name: NameAt,
+    /// The place of the type's grammar.
+    pub grammar: Option<u32>,
+}
+
+/// Reads the value of an attribute that is `xsi:type`: the name of a type.
 ///
 /// # Errors
 ///
-/// Those of the calls that read names, and in a strict stream `BadType` at the value, since no type is there. The
+/// Those of the calls that read names, and in a strict stream `BadType` at the value, where no such type is there. The
 /// place may then be any.
-#[tactic(auto, unfolding(crate::specs::Contents::attribute_value_at, exi_typed::specs::Items::item_at))]
-pub fn type_name<T: Tables>(
+#[tactic(auto, unfolding(crate::specs::Contents::attribute_value_at, exi_values::specs::Valued::valued_at, exi_typed::specs::Items::item_at))]
+pub fn read_type<T: Tables>(
     alloc: Global,
     book: &Book,
     input: &mut BitIn<'_>,
-    name: NameId,
+    valuing: Valuing,
+    name: NameAt,
     tables: &mut T,
     meter: &mut Meter,
-) -> Result<NameAt, Stop>
+) -> Result<TypeRead, Stop>
     requires few { NoneLonger (2 ^ 31) (T.held tables.old) }
-    requires typed { is_type name ≡ true }
+    requires acts { acts_as_type (valuing_in valuing None) name.id ≡ true }
     requires aligned { IsAligned (align_of book.now.options) input.old }
     ensures read { GoesOrStops
-        (λ n. (value.name (name_in (T.held tables.new) n).name, read_state input.new meter.new (T.held tables.new)))
+        (λ n. (value.name (name_in (T.held tables.new) n.name).name, read_state input.new meter.new (T.held tables.new)))
         meter.new
         result
-        (attribute_value_at book.now name (read_state input.old meter.old (T.held tables.old))) }
-    ensures places { IfOk result (λ n. IsNameAt (T.held tables.new) n) }
+        (attribute_value_at book.now (valuing_in valuing None) (name_in (T.held tables.old) name) (read_state input.old meter.old (T.held tables.old))) }
+    ensures grammar { IfOk result (λ n. n.grammar ≡ type_grammar book.now.schema.types (name_in (T.held tables.new) n.name).name) }
+    ensures places { IfOk result (λ n. IsNameAt (T.held tables.new) n.name) }
     ensures keeps { IfOk result (λ n. KeepsAll (T.held tables.old) (T.held tables.new)) }
     ensures bytes { input.new.bytes ≡ input.old.bytes }
     ensures aligned { IsAligned (align_of book.now.options) input.new }
@@ -323,14 +419,15 @@ pub fn type_name<T: Tables>(
     let options = book.options();
     let bit = input.at();
     let keep = keeps_prefixes(options);
-    let found = read_name_value(alloc, input, keep, options.align(), tables, meter)?;
-    if is_strict(options) {
+    let name = read_name_value(alloc, input, keep, options.align(), tables, meter)?;
+    let grammar = type_grammar(book.schema(), name_ref(tables, name));
+    if is_strict(options) && grammar.is_none() {
         return Err(Stop::Fault(Fault {
             kind: Kind::BadType,
             bit,
         }));
     }
-    Ok(found)
+    Ok(TypeRead { name, grammar })
 }
 
 /// Reads a text that stands in no string table, and leaves the tables as they are.
@@ -357,8 +454,88 @@ pub fn text<T: Tables>(
     read_literal(alloc, input, book.options().align(), meter)
 }
 
+/// Reads a value of a datatype under a name, whose places exist.
+///
+/// # Errors
+///
+/// Those of [`read_value`]. The place may then be any.
+pub fn typed_value<T: Tables>(
+    alloc: Global,
+    book: &Book,
+    input: &mut BitIn<'_>,
+    datatype: &Datatype,
+    name: NameId,
+    tables: &mut T,
+    meter: &mut Meter,
+) -> Result<Val, Stop>
+    requires name { IsName (T.held tables.old) name }
+    requires few { NoneLonger (2 ^ 31) (T.held tables.old) }
+    requires roomy { IsRoomy meter.old (T.held tables.old) }
+    requires aligned { IsAligned (align_of book.now.options) input.old }
+    ensures read { GoesOrStops
+        (λ v. (seen v, read_state input.new meter.new (T.held tables.new)))
+        meter.new
+        result
+        (valued_at (represented datatype.now) (align_of book.now.options) name (read_state input.old meter.old (T.held tables.old))) }
+    ensures keeps { IfOk result (λ v. KeepsAll (T.held tables.old) (T.held tables.new)) }
+    ensures bytes { input.new.bytes ≡ input.old.bytes }
+    ensures aligned { IsAligned (align_of book.now.options) input.new }
+{
+    read_value(
+        alloc,
+        input,
+        datatype,
+        book.options().align(),
+        name,
+        tables,
+        meter,
+    )
+}
+
+/// Reads the value of `xsi:nil`, a boolean, under its name, whose places exist.
+///
+/// # Errors
+///
+/// Those of [`read_value`]. The place may then be any.
+pub fn nil_read<T: Tables>(
+    alloc: Global,
+    book: &Book,
+    input: &mut BitIn<'_>,
+    name: NameId,
+    tables: &mut T,
+    meter: &mut Meter,
+) -> Result<Val, Stop>
+    requires name { IsName (T.held tables.old) name }
+    requires few { NoneLonger (2 ^ 31) (T.held tables.old) }
+    requires roomy { IsRoomy meter.old (T.held tables.old) }
+    requires aligned { IsAligned (align_of book.now.options) input.old }
+    ensures read { GoesOrStops
+        (λ v. (seen v, read_state input.new meter.new (T.held tables.new)))
+        meter.new
+        result
+        (valued_at (datatype.boolean false) (align_of book.now.options) name (read_state input.old meter.old (T.held tables.old))) }
+    ensures keeps { IfOk result (λ v. KeepsAll (T.held tables.old) (T.held tables.new)) }
+    ensures bytes { input.new.bytes ≡ input.old.bytes }
+    ensures aligned { IsAligned (align_of book.now.options) input.new }
+{
+    let boolean = Datatype::Boolean { pattern: false };
+    typed_value(alloc, book, input, &boolean, name, tables, meter)
+}
+
+/// Hands on an attribute.
+pub fn see_value<E: EventOut>(name: NameRef<'_>, value: &Val, out: &mut E) -> Result<(), PushStop>
+    ensures ok { OnOk result (E.took out.old (event.at (named name.entry) (seen value.now) ∷ []) out.new) }
+    ensures broke { IsErrOf result PushStop.Stopped → E.broke out.old (event.at (named name.entry) (seen value.now)) out.new }
+    ensures memory { IsErrOf result PushStop.Memory → E.took out.old [] out.new }
+    ensures same { E.same out.old out.new }
+    ensures later { E.stops out.old ≤ E.stops out.new }
+    ensures stopped { IsErrOf result PushStop.Stopped → Rose (E.stops out.old) (E.stops out.new) }
+{
+    out.see(&EventRef::At(name, ValRef::Any(value)))
+}
+
 /// Hands on an attribute whose value is a name.
-pub fn see_type<E: EventOut>(name: NameRef<'_>, found: QName, out: &mut E) -> Result<(), PushStop>
+pub fn see_name<E: EventOut>(name: NameRef<'_>, found: QName, out: &mut E) -> Result<(), PushStop>
     ensures ok { OnOk result (E.took out.old (event.at (named name.entry) (value.name found) ∷ []) out.new) }
     ensures broke { IsErrOf result PushStop.Stopped → E.broke out.old (event.at (named name.entry) (value.name found)) out.new }
     ensures memory { IsErrOf result PushStop.Memory → E.took out.old [] out.new }
@@ -366,6 +543,17 @@ pub fn see_type<E: EventOut>(name: NameRef<'_>, found: QName, out: &mut E) -> Re
     ensures later { E.stops out.old ≤ E.stops out.new }
     ensures stopped { IsErrOf result PushStop.Stopped → Rose (E.stops out.old) (E.stops out.new) }
 {
-    let value = Val::Name(found);
-    out.see(&EventRef::At(name, ValRef::Any(&value)))
+    see_value(name, &Val::Name(found), out)
+}
+
+/// Hands on characters.
+pub fn see_characters<E: EventOut>(value: &Val, out: &mut E) -> Result<(), PushStop>
+    ensures ok { OnOk result (E.took out.old (event.ch (seen value.now) ∷ []) out.new) }
+    ensures broke { IsErrOf result PushStop.Stopped → E.broke out.old (event.ch (seen value.now)) out.new }
+    ensures memory { IsErrOf result PushStop.Memory → E.took out.old [] out.new }
+    ensures same { E.same out.old out.new }
+    ensures later { E.stops out.old ≤ E.stops out.new }
+    ensures stopped { IsErrOf result PushStop.Stopped → Rose (E.stops out.old) (E.stops out.new) }
+{
+    out.see(&EventRef::Ch(ValRef::Any(value)))
 }

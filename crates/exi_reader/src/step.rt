@@ -3,6 +3,7 @@ ghost use Rattle.exi_names.specs.Events.{Rose};
 ghost use Rattle.exi_reader.specs.Handing.{HandsAny, HasLevels, HasNames, HasRoom, IsSteady, OnFault, alone_of, making, rule_in};
 ghost use Rattle.exi_reader.specs.OneEvent.{moved_limit, one};
 ghost use Rattle.exi_reader.specs.Plans.{plan_on};
+ghost use Rattle.exi_reader.specs.Stacks.{HaveForm};
 
 use crate::alone::Alone;
 use crate::charges::Charges;
@@ -33,14 +34,15 @@ impl<'a, T: Tables + Drop> Stepper<'a, T> {
         &mut self,
         bit: u64,
         alone: Alone,
-        rule: Rule,
+        rule: Rule<'_>,
         out: &mut E,
     ) -> Result<Option<u64>, Halt>
         requires room { HasRoom self.old.config }
         requires levels { HasLevels self.old.config }
         requires names { HasNames self.old.config (rule_in rule).on }
+        requires forms { HaveForm self.old.config.elements }
         ensures hands { HandsAny E.took E.broke result self.new
-            (making self.old.bytes bit (plan_on self.old.setting (alone_of alone) self.old.config (rule_in rule) (rule_in rule).on) self.old.config) out.old out.new }
+            (making self.old.bytes bit (plan_on self.old.setting (alone_of alone) self.old.config (rule_in rule.entry) (rule_in rule.entry).on) self.old.config) out.old out.new }
         ensures setting { self.new.setting ≡ self.old.setting }
         ensures bytes { self.new.bytes ≡ self.old.bytes }
         ensures root { OnFault result (self.new.config.root ≡ self.old.config.root) }
@@ -53,8 +55,13 @@ impl<'a, T: Tables + Drop> Stepper<'a, T> {
             Content::StartDocument => self.start_document(bit, alone, to, out),
             Content::EndDocument => self.end_document(bit, alone, out),
             Content::Element(name) => self.element(bit, alone, name, to, rule.inner, out),
-            Content::Attribute(name) => self.attribute(bit, alone, name, to, out),
-            Content::Characters => self.characters(bit, alone, to, out),
+            Content::Attribute(name, valuing) => {
+                self.attribute(bit, alone, name, valuing, rule.datatype, to, out)
+            }
+            Content::Characters => match rule.datatype {
+                None => self.characters(bit, alone, to, out),
+                Some(datatype) => self.typed_characters(bit, alone, datatype, to, out),
+            },
             Content::EndElement => self.end_element(bit, alone, out),
             Content::Declaration => self.declaration(bit, alone, to, out),
             Content::SelfContained => self.self_contained(bit, alone, out),
@@ -62,7 +69,6 @@ impl<'a, T: Tables + Drop> Stepper<'a, T> {
             Content::Instruction => self.instruction(bit, alone, to, out),
             Content::DocumentType => self.document_type(bit, alone, to, out),
             Content::Entity => self.entity(bit, alone, to, out),
-            Content::Informed => self.informed(bit, alone, out),
         }
     }
 

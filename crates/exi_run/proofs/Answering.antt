@@ -2,33 +2,34 @@
 use Rattle.std.proofs.Common.{◌≡◌, ◌≢◌, ◌≤◌, ◌⊎◌, ℕ, List, [], ◌∷◌, ◌++◌, Option, Some, None, Result, Ok, Err, inl, inr, length, take, drop, refl, sym, ap, ◌∙◌, subst, arith}
 use Rattle.std.specs.Prelude.{IfSome}
 use Rattle.std.proofs.lemmas.List.{append-nil, take-append-drop}
-use Rattle.exi_gram.specs.declared.options.Options.{Options}
 use Rattle.exi_names.specs.Events.{Grows}
+use Rattle.exi_gram.specs.Outlines.{Outline}
+use Rattle.xsd_file.specs.Bases.{Basis}
 use Rattle.exi_ports.specs.Ports.{Fetched, IsAnswer, GrowsInPart, file_at}
 use Rattle.exi_ports.specs.declared.shelf.Fetch.TheVariants as fetch
 use Rattle.exi_run.specs.declared.halt.Halt.TheVariants as halt
 use Rattle.exi_run.specs.declared.halt.Refusal.{Refusal}
 use Rattle.exi_run.specs.declared.halt.Refusal.TheVariants as refusal
 use Rattle.exi_run.specs.declared.halt.Role.{Role}
+use Rattle.exi_run.specs.declared.halt.Role.TheVariants as role
 use Rattle.exi_run.specs.declared.ending.Ending.{Ending}
 use Rattle.exi_run.specs.declared.ending.Ending.TheVariants as ending
 use Rattle.exi_run.specs.declared.form.Form.{Form}
 use Rattle.exi_run.specs.declared.status.Status.{Status}
 use Rattle.exi_run.specs.declared.status.Status.TheVariants as status
-use Rattle.exi_run.specs.Answers.{Answered, AnsweredBy, AreWithin, Counts, Ends, GrowsByLines, HasLong, HasRole, IsAnswered, IsCounting, IsLater, IsLong, IsWithin, IsWriting, MayRefuse, OfDocument, OfStream, OfWriting, RefusalPut, RefusesDocument, Served, Starves, StarvesOnly, Tells, Writes, WritesNone, no_memory}
-use Rattle.exi_run.specs.Dues.{Due, all_pieces, count_lines, document_due, Files, found, long, failed, Owed, OwedBy, OwedFrom, OwedOf, OwedOfDocument, most_bytes, refusal_due, text_due, text_of}
+use Rattle.exi_run.specs.Answers.{Answered, AnsweredBy, AreWithin, Counts, Ends, GrowsByLines, HasDocument, HasLong, HasRole, IsAnswered, IsBasis, IsCounting, IsGiven, IsKnown, IsLater, IsLong, IsWithin, IsWriting, MayRefuse, OfBoth, OfDocument, OfFile, OfStream, OfWriting, RefusalPut, RefusesDocument, Served, Starves, StarvesOnly, Tells, Writes, WritesNone, no_memory}
+use Rattle.exi_run.specs.Dues.{Due, all_pieces, basis_by, count_lines, document_due, Files, found, long, failed, Owed, OwedBy, OwedFrom, OwedInformed, OwedOf, OwedOfDocument, OwedOfFiles, OwedOfStream, OwedOfText, most_bytes, refusal_due, text_due, text_of}
 use Rattle.exi_run.specs.Endings.{status_of}
 use Rattle.exi_run.specs.Printing.{grows_more, grows_none}
 use Rattle.exi_run.specs.Refusals.{refusal_line, refusal_status, schema_line, unwritten_line}
-use Rattle.exi_run.specs.Wholes.{IsWhole}
 use Rattle.exi_run.specs.Statuses.{Sort, told, refuses, breaks, starved, sort_of, IsOr, IsTold}
-use Rattle.exi_run.specs.Tasks.{Task, stream, writing, counting, Need, needs, needs_of}
+use Rattle.exi_run.specs.Tasks.{Task, Terms, stream, writing, counting, Need, document_of, needs, needs_of, with_document}
 use Rattle.exi_run.specs.Wishes.{Wish, stream_of, written_for}
 use Rattle.exi_run.specs.declared.unwritten.Unwritten.{Unwritten}
 use Rattle.exi_writing.specs.Runs.{Run}
 use Rattle.xsd_file.specs.Documents.{IsDocument}
 use Rattle.xsd_file.specs.declared.refusal.SchemaRefusal.{SchemaRefusal}
-use Rattle.xsd_known.specs.Knowing.{Known}
+use Rattle.xsd_file.specs.Words.{Known}
 use Rattle.exi_run.proofs.Owing.{text-whole, told-said}
 
 -- ---- what may be owed: a refusal's line, or what a command owes whose files were found
@@ -42,19 +43,27 @@ abbrev OneLong : Option Files → List Need → Role → Type 0
 OneLong files [] role = ⊥
 OneLong files (n ∷ ns) role = ((role ≡ n.role) × Fetched files n.name most_bytes fetch.TooLong) ⊎ OneLong files ns role
 
--- an event text that was found, and is not written
+-- an event text that was found, with a schema document that is not refused where one is given, and is not written
+abbrev IsUnwritten : Wish → Option (List ℕ) → List (List ℕ) → Unwritten → Type 0
+IsUnwritten w None [] why = ⊥
+IsUnwritten w None (text ∷ others) why = written_for w None text ≡ Err why
+IsUnwritten w (Some name) [] why = ⊥
+IsUnwritten w (Some name) (document ∷ []) why = ⊥
+IsUnwritten w (Some name) (document ∷ text ∷ others) why = (k : Known) × IsDocument document (Ok k) × (written_for w (Some k.schema) text ≡ Err why)
+
 abbrev TextCause : Option Task → Option Files → Unwritten → Type 0
 TextCause None files why = ⊥
 TextCause (Some (stream f file o)) files why = ⊥
-TextCause (Some (writing file w)) files why = (text : List ℕ) × Fetched files file most_bytes (fetch.Bytes text) × (written_for w text ≡ Err why)
+TextCause (Some (writing file w)) files why = (all : List (List ℕ)) × AreFound files (needs (writing file w)) all × IsUnwritten w w.document all why
 TextCause (Some (counting file)) files why = ⊥
 
--- a schema document that was found, and is refused
+-- a schema document that was found with all the files, and is refused
+abbrev CauseIn : Option (List ℕ) → List Need → Option Files → SchemaRefusal → Type 0
+CauseIn None ns files why = ⊥
+CauseIn (Some name) ns files why = (bytes : List ℕ) × (all : List (List ℕ)) × AreFound files ns all × Fetched files name most_bytes (fetch.Bytes bytes) × IsDocument bytes (Err why)
+
 abbrev DocumentCause : Option Task → Option Files → SchemaRefusal → Type 0
-DocumentCause None files why = ⊥
-DocumentCause (Some (stream f file o)) files why = ⊥
-DocumentCause (Some (writing file w)) files why = ⊥
-DocumentCause (Some (counting file)) files why = (bytes : List ℕ) × Fetched files file most_bytes (fetch.Bytes bytes) × IsDocument bytes (Err why)
+DocumentCause t files why = CauseIn (document_of t) (needs_of t) files why
 
 abbrev Causes : Option Task → Option Files → Refusal → Type 0
 Causes t files refusal.Usage = t ≡ None
@@ -127,29 +136,67 @@ told_end : (e : Ending) → IsTold (status_of e)
 told_end (ending.Done bit) = refl
 told_end (ending.Fault f) = refl
 
--- why the command is refused by what its files say
+-- why the command is refused by what its files say: the first of them, where it is a schema document
+abbrev WhyDocument : Option (List ℕ) → List (List ℕ) → Refusal → Type 0
+WhyDocument None bs why = ⊥
+WhyDocument (Some name) [] why = ⊥
+WhyDocument (Some name) (bytes ∷ bs) why = (none : SchemaRefusal) × (why ≡ refusal.Schema none) × IsDocument bytes (Err none)
+
+abbrev WhyWriting : Wish → Option (List ℕ) → List (List ℕ) → Refusal → Type 0
+WhyWriting w d bs why = WhyDocument d bs why ⊎ ((none : Unwritten) × (why ≡ refusal.Events none) × IsUnwritten w d bs none)
+
 abbrev WhyOf : Task → List (List ℕ) → Refusal → Type 0
-WhyOf t [] why = ⊥
-WhyOf (stream f file o) (b ∷ bs) why = ⊥
-WhyOf (writing file w) (text ∷ bs) why = (none : Unwritten) × (why ≡ refusal.Events none) × (written_for w text ≡ Err none)
-WhyOf (counting file) (bytes ∷ bs) why = (none : SchemaRefusal) × (why ≡ refusal.Schema none) × IsDocument bytes (Err none)
+WhyOf (stream f file o) bs why = WhyDocument o.document bs why
+WhyOf (writing file w) bs why = WhyWriting w w.document bs why
+WhyOf (counting file) bs why = WhyDocument (Some file) bs why
 
 abbrev WasRefused : Task → Due → List (List ℕ) → Type 0
 WasRefused t due bs = (why : Refusal) × (due ≡ refusal_due why) × WhyOf t bs why
-
-text_told : (file : List ℕ) (w : Wish) (text : List ℕ) (others : List (List ℕ)) (due : Due) (o : Result Run Unwritten) → written_for w text ≡ o → due ≡ text_due w o → IsTold due.status ⊎ WasRefused (writing file w) due (text ∷ others)
-text_told file w text others due (Ok r) is d = inl (subst (λ (x : Due). IsTold x.status) (sym d) refl)
-text_told file w text others due (Err why) is d = inr (refusal.Events why, d, (why, refl, is))
 
 document_told : (file bytes : List ℕ) (others : List (List ℕ)) (due : Due) (o : Result Known SchemaRefusal) → IsDocument bytes o → due ≡ document_due o → IsTold due.status ⊎ WasRefused (counting file) due (bytes ∷ others)
 document_told file bytes others due (Ok k) is e = inl (subst (λ (x : Due). IsTold x.status) (sym e) refl)
 document_told file bytes others due (Err why) is e = inr (refusal.Schema why, e, (why, refl, is))
 
+-- a stream that is written, by the schema that is known, if there is one
+abbrev TextWas : Wish → Option (List ℕ) → Due → List (List ℕ) → Type 0
+TextWas w d due bs = IsTold due.status ⊎ ((why : Refusal) × (due ≡ refusal_due why) × WhyWriting w d bs why)
+
+text_told : (w : Wish) (d : Option (List ℕ)) (bs : List (List ℕ)) (known : Option Outline) (text : List ℕ) (due : Due) (o : Result Run Unwritten) → written_for w known text ≡ o → due ≡ text_due w o → ((why : Unwritten) → written_for w known text ≡ Err why → IsUnwritten w d bs why) → TextWas w d due bs
+text_told w d bs known text due (Ok r) is owed unwritten = inl (subst (λ (x : Due). IsTold x.status) (sym owed) refl)
+text_told w d bs known text due (Err why) is owed unwritten = inr (refusal.Events why, owed, inr (why, refl, unwritten why is))
+
+both_written : (w : Wish) (name document text : List ℕ) (others : List (List ℕ)) (due : Due) (answer : Result Known SchemaRefusal) → IsDocument document answer → OwedInformed (OwedOfText w) answer text due → TextWas w (Some name) due (document ∷ text ∷ others)
+both_written w name document text others due (Ok k) is owed = text_told w (Some name) (document ∷ text ∷ others) (Some k.schema) text due (written_for w (Some k.schema) text) refl owed (λ why e. (k, is, e))
+both_written w name document text others due (Err why) is owed = inr (refusal.Schema why, owed, inl (why, refl, is))
+
+all_written : (w : Wish) (d : Option (List ℕ)) (due : Due) (bs : List (List ℕ)) → OwedOfFiles (OwedOfText w) d bs due → TextWas w d due bs
+all_written w None due [] owed = absurd owed
+all_written w None due (text ∷ bs) owed = text_told w None (text ∷ bs) None text due (written_for w None text) refl owed (λ why e. e)
+all_written w (Some name) due [] owed = absurd owed
+all_written w (Some name) due (document ∷ []) owed = absurd owed
+all_written w (Some name) due (document ∷ text ∷ bs) (answer, is, owed) = both_written w name document text bs due answer is owed
+
+-- one that is told
+abbrev StreamWas : Option (List ℕ) → Due → List (List ℕ) → Type 0
+StreamWas d due bs = IsTold due.status ⊎ ((why : Refusal) × (due ≡ refusal_due why) × WhyDocument d bs why)
+
+whole_told : (f : Form) (basis : Basis) (bytes : List ℕ) (due : Due) → OwedOf f basis bytes due → IsTold due.status
+whole_told f basis bytes due (es, e, w, is) = subst (λ (d : Due). IsTold d.status) (sym is) (told_end e)
+
+both_told : (f : Form) (o : Terms) (name document bytes : List ℕ) (others : List (List ℕ)) (due : Due) (found : Result Known SchemaRefusal) → IsDocument document found → OwedInformed (OwedOfStream f o) found bytes due → StreamWas (Some name) due (document ∷ others)
+both_told f o name document bytes others due (Ok k) is owed = inl (whole_told f (basis_by o (Some k.schema)) bytes due owed)
+both_told f o name document bytes others due (Err why) is owed = inr (refusal.Schema why, owed, (why, refl, is))
+
+stream_told : (f : Form) (o : Terms) (d : Option (List ℕ)) (due : Due) (bs : List (List ℕ)) → OwedOfFiles (OwedOfStream f o) d bs due → StreamWas d due bs
+stream_told f o None due [] owed = absurd owed
+stream_told f o None due (b ∷ bs) owed = inl (whole_told f (basis_by o None) b due owed)
+stream_told f o (Some name) due [] owed = absurd owed
+stream_told f o (Some name) due (document ∷ []) owed = absurd owed
+stream_told f o (Some name) due (document ∷ b ∷ bs) (answer, is, owed) = both_told f o name document b (b ∷ bs) due answer is owed
+
 done_told : (t : Task) (due : Due) (bs : List (List ℕ)) → OwedBy t due bs → IsTold due.status ⊎ WasRefused t due bs
-done_told (stream f file o) due [] owed = absurd owed
-done_told (stream f file o) due (b ∷ bs) (es, e, w, is) = inl (subst (λ (d : Due). IsTold d.status) (sym is) (told_end e))
-done_told (writing file w) due [] owed = absurd owed
-done_told (writing file w) due (text ∷ bs) owed = text_told file w text bs due (written_for w text) refl owed
+done_told (stream f file o) due bs owed = stream_told f o o.document due bs owed
+done_told (writing file w) due bs owed = all_written w w.document due bs owed
 done_told (counting file) due [] owed = absurd owed
 done_told (counting file) due (bytes ∷ bs) (answer, is, e) = document_told file bytes bs due answer is e
 
@@ -157,11 +204,20 @@ refused_put : (s : Status) (old new : Option (List ℕ)) (due : Due) (r : Refusa
 refused_put s old new due r is p =
     (sym p.0 ∙ ap (λ (d : Due). d.status) is, subst (λ (t : List ℕ). Grows old t new) (ap (λ (d : Due). text_of (all_pieces d)) is ∙ append-nil (refusal_line r)) p.1)
 
+-- with the document in front
+document_cause : (d : Option (List ℕ)) (others : List Need) (files : Option Files) (bs : List (List ℕ)) (why : Refusal) → AreFound files (with_document d others) bs → WhyDocument d bs why → (none : SchemaRefusal) × (why ≡ refusal.Schema none) × CauseIn d (with_document d others) files none
+document_cause None others files bs why are w = absurd w
+document_cause (Some name) others files [] why are w = absurd w
+document_cause (Some name) others files (bytes ∷ bs) why are (none, is, e) = (none, is, (bytes, bytes ∷ bs, are, are.0, e))
+
+document_causes : (t : Task) (files : Option Files) (why : Refusal) → ((none : SchemaRefusal) × (why ≡ refusal.Schema none) × DocumentCause (Some t) files none) → Causes (Some t) files why
+document_causes t files why (none, is, c) = subst (λ (r : Refusal). Causes (Some t) files r) (sym is) c
+
 cause_of : (t : Task) (files : Option Files) (bs : List (List ℕ)) (why : Refusal) → AreFound files (needs t) bs → WhyOf t bs why → Causes (Some t) files why
-cause_of t files [] why are w = absurd w
-cause_of (stream f file o) files (b ∷ bs) why are w = absurd w
-cause_of (writing file w) files (text ∷ bs) why are (none, is, e) = subst (λ (r : Refusal). Causes (Some (writing file w)) files r) (sym is) (text, are.0, e)
-cause_of (counting file) files (bytes ∷ bs) why are (none, is, e) = subst (λ (r : Refusal). Causes (Some (counting file)) files r) (sym is) (bytes, are.0, e)
+cause_of (stream f file o) files bs why are w = document_causes (stream f file o) files why (document_cause o.document (record { name = file; role = role.Input } ∷ []) files bs why are w)
+cause_of (writing file w) files bs why are (inl h) = document_causes (writing file w) files why (document_cause w.document (record { name = file; role = role.Input } ∷ []) files bs why are h)
+cause_of (writing file w) files bs why are (inr (none, is, e)) = subst (λ (r : Refusal). Causes (Some (writing file w)) files r) (sym is) (bs, are, e)
+cause_of (counting file) files bs why are w = document_causes (counting file) files why (document_cause (Some file) [] files bs why are w)
 
 came_done : (t : Task) (files : Option Files) (s : Status) (old new : Option (List ℕ)) (due : Due) → (done : AreDone files (needs t) (OwedBy t due)) → IsPut s due old new → IsTold due.status ⊎ WasRefused t due done.0 → Came (Some t) files s old new
 came_done t files s old new due done p (inl h) = inl (due, done, p, subst IsTold p.0 h)
@@ -190,16 +246,43 @@ came None files rose s old new (due, owed, a) = came_usage files s old new due o
 came (Some t) files rose s old new (due, owed, a) = came_by t files s old new due (by_files files rose (needs t) (OwedBy t due) due owed) (put_or s due old new a)
 
 -- ---- the clauses
-tells_file : (f : Form) (words : Options) (name : List ℕ) (held : Files) (s : Status) (old new : Option (List ℕ)) (b : List ℕ) (due : Due) (file : Option (List ℕ)) → file_at held name ≡ file → file_at held name ≡ Some b → OwedOf f words b due → IsPut s due old new → IfSome file (λ bytes. IsTold s → Tells f words s old new bytes)
-tells_file f words name held s old new b due None is at o p = tt
-tells_file f words name held s old new b due (Some bytes) is at (es, e, w, d) p =
-    let same : Some b ≡ Some bytes = sym at ∙ is in
-    let b_is : b ≡ bytes = cc in
-    λ _. (es, e, subst (λ (x : List ℕ). IsWhole words x es e) b_is w, sym p.0 ∙ ap (λ (x : Due). x.status) d, subst (λ (t : List ℕ). Grows old t new) (ap (λ (x : Due). text_of (all_pieces x)) d ∙ text-whole f es e ∙ told-said f es e) p.1)
+-- of a file that was found
+of_found : (P : List ℕ → Type 0) (file : Option (List ℕ)) (b : List ℕ) → file ≡ Some b → P b → IfSome file P
+of_found P None b is p = tt
+of_found P (Some x) b is p = let same : b ≡ x = cc in subst P same p
 
-not_told : (f : Form) (words : Options) (s : Status) (file : Option (List ℕ)) (old new : Option (List ℕ)) → (IsTold s → ⊥) → IfSome file (λ bytes. IsTold s → Tells f words s old new bytes)
-not_told f words s None old new never = tt
-not_told f words s (Some bytes) old new never = λ h. absurd (never h)
+-- of one for which there is nothing to say
+of_any : (P : List ℕ → Type 0) (file : Option (List ℕ)) → ((b : List ℕ) → P b) → IfSome file P
+of_any P None all = tt
+of_any P (Some b) all = all b
+
+abbrev IfTold : Form → Terms → Status → Option (List ℕ) → Option (List ℕ) → Option (List ℕ) → List ℕ → Type 0
+IfTold f o s old new document bytes = IsTold s → Tells f o s old new document bytes
+
+-- what was put is what the form tells
+tells_whole : (f : Form) (o : Terms) (document : Option (List ℕ)) (basis : Basis) (bytes : List ℕ) (due : Due) (s : Status) (old new : Option (List ℕ)) → IsBasis o document basis → OwedOf f basis bytes due → IsPut s due old new → IfTold f o s old new document bytes
+tells_whole f o document basis bytes due s old new by (es, e, w, d) p =
+    λ _. (basis, by, (es, e, w, sym p.0 ∙ ap (λ (x : Due). x.status) d, subst (λ (t : List ℕ). Grows old t new) (ap (λ (x : Due). text_of (all_pieces x)) d ∙ text-whole f es e ∙ told-said f es e) p.1))
+
+schema_untold : (why : SchemaRefusal) (due : Due) (s : Status) → due ≡ refusal_due (refusal.Schema why) → due.status ≡ s → IsTold s → ⊥
+schema_untold why due s d is h = let x : refuses ≡ told = ap sort_of (sym (ap (λ (x : Due). x.status) d) ∙ is) ∙ h in absurd cc
+
+tells_informed : (f : Form) (o : Terms) (document bytes : List ℕ) (due : Due) (s : Status) (old new : Option (List ℕ)) (found : Result Known SchemaRefusal) → IsDocument document found → OwedInformed (OwedOfStream f o) found bytes due → IsPut s due old new → IfTold f o s old new (Some document) bytes
+tells_informed f o document bytes due s old new (Ok k) is owed p = tells_whole f o (Some document) (basis_by o (Some k.schema)) bytes due s old new (Some k.schema, (k, is, refl), refl) owed p
+tells_informed f o document bytes due s old new (Err why) is owed p = λ h. absurd (schema_untold why due s owed p.0 h)
+
+tells_done : (f : Form) (o : Terms) (d : Option (List ℕ)) (name : List ℕ) (held : Files) (s : Status) (old new : Option (List ℕ)) (due : Due) (bs : List (List ℕ)) → AreFound (Some held) (with_document d (record { name = name; role = role.Input } ∷ [])) bs → OwedOfFiles (OwedOfStream f o) d bs due → IsPut s due old new → OfBoth d name (Some held) (IfTold f o s old new)
+tells_done f o None name held s old new due [] are owed p = absurd are
+tells_done f o None name held s old new due (b ∷ bs) are owed p = of_found (IfTold f o s old new None) (file_at held name) b are.0.0 (tells_whole f o None (basis_by o None) b due s old new (None, refl, refl) owed p)
+tells_done f o (Some schema) name held s old new due [] are owed p = absurd are
+tells_done f o (Some schema) name held s old new due (document ∷ []) are owed p = absurd owed
+tells_done f o (Some schema) name held s old new due (document ∷ b ∷ bs) are (answer, is, owed) p =
+    of_found (λ x. IfSome (file_at held name) (IfTold f o s old new (Some x))) (file_at held schema) document are.0.0
+    (of_found (IfTold f o s old new (Some document)) (file_at held name) b are.1.0.0 (tells_informed f o document b due s old new answer is owed p))
+
+not_told : (f : Form) (o : Terms) (d : Option (List ℕ)) (name : List ℕ) (held : Files) (s : Status) (old new : Option (List ℕ)) → (IsTold s → ⊥) → OfBoth d name (Some held) (IfTold f o s old new)
+not_told f o None name held s old new never = of_any (IfTold f o s old new None) (file_at held name) (λ b h. absurd (never h))
+not_told f o (Some schema) name held s old new never = of_any (λ x. IfSome (file_at held name) (IfTold f o s old new (Some x))) (file_at held schema) (λ x. of_any (IfTold f o s old new (Some x)) (file_at held name) (λ b h. absurd (never h)))
 
 refusal_untold : (r : Refusal) (s : Status) → s ≡ refusal_status r → IsTold s → ⊥
 refusal_untold refusal.Usage s is h = let x : refuses ≡ told = ap sort_of (sym is) ∙ h in absurd cc
@@ -212,22 +295,26 @@ early_untold : (s : Status) → ((s ≡ status.WriteFault) ⊎ (s ≡ status.NoM
 early_untold s (inl is) h = let x : breaks ≡ told = ap sort_of (sym is) ∙ h in absurd cc
 early_untold s (inr is) h = let x : starved ≡ told = ap sort_of (sym is) ∙ h in absurd cc
 
-tells_by : (f : Form) (words : Options) (name : List ℕ) (held : Files) (s : Status) (old new : Option (List ℕ)) → Came (Some (stream f name words)) (Some held) s old new → IfSome (file_at held name) (λ bytes. IsTold s → Tells f words s old new bytes)
-tells_by f words name held s old new (inl (due, ([], are, o), p, h)) = absurd are
-tells_by f words name held s old new (inl (due, (b ∷ bs, are, o), p, h)) = tells_file f words name held s old new b due (file_at held name) refl are.0.0 o p
-tells_by f words name held s old new (inr (inl lost)) = not_told f words s (file_at held name) old new (refusal_untold lost.0 s lost.2)
-tells_by f words name held s old new (inr (inr early)) = not_told f words s (file_at held name) old new (early_untold s early)
+tells_by : (f : Form) (o : Terms) (name : List ℕ) (held : Files) (s : Status) (old new : Option (List ℕ)) → Came (Some (stream f name o)) (Some held) s old new → OfBoth o.document name (Some held) (IfTold f o s old new)
+tells_by f o name held s old new (inl (due, (bs, are, owed), p, h)) = tells_done f o o.document name held s old new due bs are owed p
+tells_by f o name held s old new (inr (inl lost)) = not_told f o o.document name held s old new (refusal_untold lost.0 s lost.2)
+tells_by f o name held s old new (inr (inr early)) = not_told f o o.document name held s old new (early_untold s early)
+
+-- where the files are not told there is nothing to say
+untold_files : (d : Option (List ℕ)) (name : List ℕ) (P : Option (List ℕ) → List ℕ → Type 0) → OfBoth d name None P
+untold_files None name P = tt
+untold_files (Some schema) name P = tt
 
 abbrev TellsStream : Form → Option Task → Option Files → Status → Option (List ℕ) → Option (List ℕ) → Type 0
-TellsStream f t files s old new = OfStream f t files (λ words bytes. IsTold s → Tells f words s old new bytes)
+TellsStream f t files s old new = OfStream f t files (λ o document bytes. IsTold s → Tells f o s old new document bytes)
 
 pub tells : (f : Form) (t : Option Task) (files : Option Files) (rose : Type 0) (s : Status) (old new : Option (List ℕ)) → IsAnswered t files rose s old new → TellsStream f t files s old new
 tells f None files rose s old new a = tt
 tells f (Some (writing name w)) files rose s old new a = tt
 tells f (Some (counting name)) files rose s old new a = tt
-tells f (Some (stream g name words)) None rose s old new a = λ is. tt
-tells f (Some (stream g name words)) (Some held) rose s old new a =
-    λ is. subst (λ (h : Form). IfSome (file_at held name) (λ bytes. IsTold s → Tells h words s old new bytes)) (sym is) (tells_by g words name held s old new (came (Some (stream g name words)) (Some held) rose s old new a))
+tells f (Some (stream g name o)) None rose s old new a = λ is. untold_files o.document name (IfTold f o s old new)
+tells f (Some (stream g name o)) (Some held) rose s old new a =
+    λ is. subst (λ (h : Form). OfBoth o.document name (Some held) (IfTold h o s old new)) (sym is) (tells_by g o name held s old new (came (Some (stream g name o)) (Some held) rose s old new a))
 
 -- that there is no command
 refused_by : (files : Option Files) (s : Status) (old new : Option (List ℕ)) → Came None files s old new → IsOr status.Usage s
@@ -299,16 +386,15 @@ done_short (Some t) held due d l = none_long held (needs t) d.0 d.1 l
 text_short : (t : Option Task) (held : Files) (why : Unwritten) → TextCause t (Some held) why → HasLong held (needs_of t) → ⊥
 text_short None held why c l = c
 text_short (Some (stream f file o)) held why c l = c
-text_short (Some (writing file w)) held why (text, had, is) (inl l) = found_short text (file_at held file) had l
-text_short (Some (writing file w)) held why (text, had, is) (inr l) = l
+text_short (Some (writing file w)) held why (all, are, is) l = none_long held (needs (writing file w)) all are l
 text_short (Some (counting file)) held why c l = c
 
 document_short : (t : Option Task) (held : Files) (why : SchemaRefusal) → DocumentCause t (Some held) why → HasLong held (needs_of t) → ⊥
-document_short None held why c l = c
-document_short (Some (stream f file o)) held why c l = c
-document_short (Some (writing file w)) held why c l = c
-document_short (Some (counting file)) held why (bytes, had, is) (inl l) = found_short bytes (file_at held file) had l
-document_short (Some (counting file)) held why (bytes, had, is) (inr l) = l
+document_short t held why c l = in_short (document_of t) (needs_of t) held why c l
+  where
+    in_short : (d : Option (List ℕ)) (ns : List Need) (held : Files) (why : SchemaRefusal) → CauseIn d ns (Some held) why → HasLong held ns → ⊥
+    in_short None ns held why c l = c
+    in_short (Some name) ns held why (bytes, all, are, had, is) l = none_long held ns all are l
 
 some_long : (t : Option Task) (held : Files) → HasLong held (needs_of t) → t ≡ None → ⊥
 some_long None held l is = l
@@ -339,18 +425,19 @@ is_writing (Some (stream f file o)) files why c = c
 is_writing (Some (writing file w)) files why c = tt
 is_writing (Some (counting file)) files why c = c
 
-is_counting : (t : Option Task) (files : Option Files) (why : SchemaRefusal) → DocumentCause t files why → IsCounting t
-is_counting None files why c = c
-is_counting (Some (stream f file o)) files why c = c
-is_counting (Some (writing file w)) files why c = c
-is_counting (Some (counting file)) files why c = tt
+is_given : (d : Option (List ℕ)) (ns : List Need) (files : Option Files) (why : SchemaRefusal) → CauseIn d ns files why → IsGiven d
+is_given None ns files why c = c
+is_given (Some name) ns files why c = tt
+
+has_document : (t : Option Task) (files : Option Files) (why : SchemaRefusal) → DocumentCause t files why → HasDocument t
+has_document t files why c = is_given (document_of t) (needs_of t) files why c
 
 may_refuse : (t : Option Task) (files : Option Files) (r : Refusal) → Causes t files r → MayRefuse t r
 may_refuse t files refusal.Usage c = c
 may_refuse t files refusal.ReadFailed c = c
 may_refuse t files (refusal.TooLong role) c = role_there files (needs_of t) role c
 may_refuse t files (refusal.Events why) c = is_writing t files why c
-may_refuse t files (refusal.Schema why) c = is_counting t files why c
+may_refuse t files (refusal.Schema why) c = has_document t files why c
 
 pub refusal_is : (t : Option Task) (files : Option Files) (rose : Type 0) (s : Status) (old new : Option (List ℕ)) → IsAnswered t files rose s old new → RefusalPut t s old new
 refusal_is t files rose s old new a =
@@ -380,9 +467,23 @@ within_all held (n ∷ ns) role w (inl l) = long_within (file_at held n.name) w.
 within_all held (n ∷ ns) role w (inr l) = within_all held ns role w.1 l
 
 -- how a command ends that was done
-ends_text : (w : Wish) (due : Due) (s : Status) (o : Result Run Unwritten) → due ≡ text_due w o → due.status ≡ s → (s ≡ status.Ok) ⊎ (s ≡ status.Events)
-ends_text w due s (Ok r) d is = inl (sym is ∙ ap (λ (x : Due). x.status) d)
-ends_text w due s (Err why) d is = inr (sym is ∙ ap (λ (x : Due). x.status) d)
+abbrev EndsWriting : Option (List ℕ) → Status → Type 0
+EndsWriting d s = ((s ≡ status.Ok) ⊎ (s ≡ status.Events)) ⊎ (IsGiven d × (s ≡ status.Schema))
+
+ends_text : (w : Wish) (d : Option (List ℕ)) (due : Due) (s : Status) (o : Result Run Unwritten) → due ≡ text_due w o → due.status ≡ s → EndsWriting d s
+ends_text w d due s (Ok r) owed is = inl (inl (sym is ∙ ap (λ (x : Due). x.status) owed))
+ends_text w d due s (Err why) owed is = inl (inr (sym is ∙ ap (λ (x : Due). x.status) owed))
+
+ends_informed : (w : Wish) (name text : List ℕ) (due : Due) (s : Status) (answer : Result Known SchemaRefusal) → OwedInformed (OwedOfText w) answer text due → due.status ≡ s → EndsWriting (Some name) s
+ends_informed w name text due s (Ok k) owed is = ends_text w (Some name) due s (written_for w (Some k.schema) text) owed is
+ends_informed w name text due s (Err why) owed is = inr (tt, sym is ∙ ap (λ (x : Due). x.status) owed)
+
+ends_written : (w : Wish) (d : Option (List ℕ)) (due : Due) (s : Status) (bs : List (List ℕ)) → OwedOfFiles (OwedOfText w) d bs due → due.status ≡ s → EndsWriting d s
+ends_written w None due s [] owed is = absurd owed
+ends_written w None due s (text ∷ bs) owed is = ends_text w None due s (written_for w None text) owed is
+ends_written w (Some name) due s [] owed is = absurd owed
+ends_written w (Some name) due s (document ∷ []) owed is = absurd owed
+ends_written w (Some name) due s (document ∷ text ∷ bs) (answer, by, owed) is = ends_informed w name text due s answer owed is
 
 ends_document : (due : Due) (s : Status) (o : Result Known SchemaRefusal) → due ≡ document_due o → due.status ≡ s → (s ≡ status.Ok) ⊎ (s ≡ status.Schema)
 ends_document due s (Ok r) d is = inl (sym is ∙ ap (λ (x : Due). x.status) d)
@@ -390,22 +491,21 @@ ends_document due s (Err why) d is = inr (sym is ∙ ap (λ (x : Due). x.status)
 
 ends_done : (t : Option Task) (files : Option Files) (due : Due) (s : Status) (old new : Option (List ℕ)) → IsDone t files due → IsPut s due old new → IsTold s → Ends t s
 ends_done None files due s old new done p h = done
-ends_done (Some (stream f file o)) files due s old new done p h = h
-ends_done (Some (writing file w)) files due s old new ([], are, owed) p h = absurd are
-ends_done (Some (writing file w)) files due s old new (text ∷ bs, are, owed) p h = ends_text w due s (written_for w text) owed p.0
+ends_done (Some (stream f file o)) files due s old new done p h = inl h
+ends_done (Some (writing file w)) files due s old new (bs, are, owed) p h = ends_written w w.document due s bs owed p.0
 ends_done (Some (counting file)) files due s old new ([], are, owed) p h = absurd are
 ends_done (Some (counting file)) files due s old new (bytes ∷ bs, are, (answer, is, d)) p h = ends_document due s answer d p.0
 
 ends_refused : (t : Option Task) (files : Option Files) (why : Unwritten) (s : Status) → TextCause t files why → s ≡ status.Events → Ends t s
 ends_refused None files why s c is = c
 ends_refused (Some (stream f file o)) files why s c is = absurd c
-ends_refused (Some (writing file w)) files why s c is = inr is
+ends_refused (Some (writing file w)) files why s c is = inl (inr is)
 ends_refused (Some (counting file)) files why s c is = absurd c
 
 ends_unread : (t : Option Task) (files : Option Files) (why : SchemaRefusal) (s : Status) → DocumentCause t files why → s ≡ status.Schema → Ends t s
 ends_unread None files why s c is = c
-ends_unread (Some (stream f file o)) files why s c is = absurd c
-ends_unread (Some (writing file w)) files why s c is = absurd c
+ends_unread (Some (stream f file o)) files why s c is = inr (has_document (Some (stream f file o)) files why c, is)
+ends_unread (Some (writing file w)) files why s c is = inr (has_document (Some (writing file w)) files why c, is)
 ends_unread (Some (counting file)) files why s c is = inr is
 
 complete_by : (t : Option Task) (held : Files) (rose out : Type 0) (s : Status) (old new : Option (List ℕ)) → Came t (Some held) s old new → (s ≡ status.ReadFault → rose) → (s ≡ status.WriteFault → out) → t ≢ None → AreWithin held (needs_of t) → (rose → ⊥) → (out → ⊥) → Ends t s ⊎ (s ≡ status.NoMemory)
@@ -423,69 +523,81 @@ completes t None rose out s old new a fell write = tt
 completes t (Some held) rose out s old new a fell write = λ some w still calm. complete_by t held rose out s old new (came t (Some held) rose s old new a) fell write some w still calm
 
 -- ---- a stream that is written
+abbrev IfWritten : Wish → Status → Option (List ℕ) → Option (List ℕ) → Option (List ℕ) → List ℕ → Type 0
+IfWritten w s old new document text = s ≡ status.Ok → Writes w old new document text
+
+-- what there is nothing to say of
+of_none : (P : Option (List ℕ) → List ℕ → Type 0) (d : Option (List ℕ)) (name : List ℕ) (held : Files) → ((document : Option (List ℕ)) (text : List ℕ) → P document text) → OfBoth d name (Some held) P
+of_none P None name held all = of_any (P None) (file_at held name) (all None)
+of_none P (Some schema) name held all = of_any (λ x. IfSome (file_at held name) (P (Some x))) (file_at held schema) (λ x. of_any (P (Some x)) (file_at held name) (all (Some x)))
+
 -- of a text that was found, by what is written of it
-written_text : (w : Wish) (text : List ℕ) (due : Due) (s : Status) (old new : Option (List ℕ)) (o : Result Run Unwritten) → written_for w text ≡ o → due ≡ text_due w o → IsPut s due old new → s ≡ status.Ok → Writes w old new text
-written_text w text due s old new (Ok r) is d p ok = (r, is, subst (λ (t : List ℕ). Grows old t new) (ap (λ (x : Due). text_of (all_pieces x)) d ∙ append-nil (stream_of w r)) p.1)
-written_text w text due s old new (Err why) is d p ok = let x : status.Events ≡ status.Ok = sym (ap (λ (x : Due). x.status) d) ∙ p.0 ∙ ok in absurd cc
+written_text : (w : Wish) (document : Option (List ℕ)) (known : Option Outline) (text : List ℕ) (due : Due) (s : Status) (old new : Option (List ℕ)) (o : Result Run Unwritten) → IsKnown document known → written_for w known text ≡ o → due ≡ text_due w o → IsPut s due old new → IfWritten w s old new document text
+written_text w document known text due s old new (Ok r) by is d p = λ ok. (known, by, (r, is, subst (λ (t : List ℕ). Grows old t new) (ap (λ (x : Due). text_of (all_pieces x)) d ∙ append-nil (stream_of w r)) p.1))
+written_text w document known text due s old new (Err why) by is d p = λ ok. let x : status.Events ≡ status.Ok = sym (ap (λ (x : Due). x.status) d) ∙ p.0 ∙ ok in absurd cc
 
-writes_file : (w : Wish) (name : List ℕ) (held : Files) (s : Status) (old new : Option (List ℕ)) (b : List ℕ) (due : Due) (file : Option (List ℕ)) → file_at held name ≡ file → file_at held name ≡ Some b → due ≡ text_due w (written_for w b) → IsPut s due old new → IfSome file (λ text. s ≡ status.Ok → Writes w old new text)
-writes_file w name held s old new b due None is at d p = tt
-writes_file w name held s old new b due (Some text) is at d p =
-    let same : Some b ≡ Some text = sym at ∙ is in
-    let b_is : b ≡ text = cc in
-    λ ok. subst (λ (x : List ℕ). Writes w old new x) b_is (written_text w b due s old new (written_for w b) refl d p ok)
+written_informed : (w : Wish) (document text : List ℕ) (due : Due) (s : Status) (old new : Option (List ℕ)) (answer : Result Known SchemaRefusal) → IsDocument document answer → OwedInformed (OwedOfText w) answer text due → IsPut s due old new → IfWritten w s old new (Some document) text
+written_informed w document text due s old new (Ok k) is owed p = written_text w (Some document) (Some k.schema) text due s old new (written_for w (Some k.schema) text) (k, is, refl) refl owed p
+written_informed w document text due s old new (Err why) is owed p = λ ok. absurd (schema_untold why due s owed p.0 (ap sort_of ok))
 
-not_ok : (w : Wish) (s : Status) (file : Option (List ℕ)) (old new : Option (List ℕ)) → (IsTold s → ⊥) → IfSome file (λ text. s ≡ status.Ok → Writes w old new text)
-not_ok w s None old new never = tt
-not_ok w s (Some text) old new never = λ ok. absurd (never (ap sort_of ok))
+written_done : (w : Wish) (d : Option (List ℕ)) (name : List ℕ) (held : Files) (s : Status) (old new : Option (List ℕ)) (due : Due) (bs : List (List ℕ)) → AreFound (Some held) (with_document d (record { name = name; role = role.Input } ∷ [])) bs → OwedOfFiles (OwedOfText w) d bs due → IsPut s due old new → OfBoth d name (Some held) (IfWritten w s old new)
+written_done w None name held s old new due [] are owed p = absurd are
+written_done w None name held s old new due (b ∷ bs) are owed p = of_found (IfWritten w s old new None) (file_at held name) b are.0.0 (written_text w None None b due s old new (written_for w None b) refl refl owed p)
+written_done w (Some schema) name held s old new due [] are owed p = absurd are
+written_done w (Some schema) name held s old new due (document ∷ []) are owed p = absurd owed
+written_done w (Some schema) name held s old new due (document ∷ b ∷ bs) are (answer, is, owed) p =
+    of_found (λ x. IfSome (file_at held name) (IfWritten w s old new (Some x))) (file_at held schema) document are.0.0
+    (of_found (IfWritten w s old new (Some document)) (file_at held name) b are.1.0.0 (written_informed w document b due s old new answer is owed p))
 
-writes_by : (w : Wish) (name : List ℕ) (held : Files) (s : Status) (old new : Option (List ℕ)) → Came (Some (writing name w)) (Some held) s old new → IfSome (file_at held name) (λ text. s ≡ status.Ok → Writes w old new text)
-writes_by w name held s old new (inl (due, ([], are, o), p, h)) = absurd are
-writes_by w name held s old new (inl (due, (b ∷ bs, are, o), p, h)) = writes_file w name held s old new b due (file_at held name) refl are.0.0 o p
-writes_by w name held s old new (inr (inl lost)) = not_ok w s (file_at held name) old new (refusal_untold lost.0 s lost.2)
-writes_by w name held s old new (inr (inr early)) = not_ok w s (file_at held name) old new (early_untold s early)
+not_ok : (w : Wish) (d : Option (List ℕ)) (name : List ℕ) (held : Files) (s : Status) (old new : Option (List ℕ)) → (IsTold s → ⊥) → OfBoth d name (Some held) (IfWritten w s old new)
+not_ok w d name held s old new never = of_none (IfWritten w s old new) d name held (λ document text ok. absurd (never (ap sort_of ok)))
 
-pub writes : (t : Option Task) (files : Option Files) (rose : Type 0) (s : Status) (old new : Option (List ℕ)) → IsAnswered t files rose s old new → OfWriting t files (λ w text. s ≡ status.Ok → Writes w old new text)
+writes_by : (w : Wish) (name : List ℕ) (held : Files) (s : Status) (old new : Option (List ℕ)) → Came (Some (writing name w)) (Some held) s old new → OfBoth w.document name (Some held) (IfWritten w s old new)
+writes_by w name held s old new (inl (due, (bs, are, owed), p, h)) = written_done w w.document name held s old new due bs are owed p
+writes_by w name held s old new (inr (inl lost)) = not_ok w w.document name held s old new (refusal_untold lost.0 s lost.2)
+writes_by w name held s old new (inr (inr early)) = not_ok w w.document name held s old new (early_untold s early)
+
+pub writes : (t : Option Task) (files : Option Files) (rose : Type 0) (s : Status) (old new : Option (List ℕ)) → IsAnswered t files rose s old new → OfWriting t files (λ w document text. s ≡ status.Ok → Writes w old new document text)
 writes None files rose s old new a = tt
 writes (Some (stream f name o)) files rose s old new a = tt
 writes (Some (counting name)) files rose s old new a = tt
-writes (Some (writing name w)) None rose s old new a = tt
+writes (Some (writing name w)) None rose s old new a = untold_files w.document name (IfWritten w s old new)
 writes (Some (writing name w)) (Some held) rose s old new a = writes_by w name held s old new (came (Some (writing name w)) (Some held) rose s old new a)
 
 -- ---- an event text that is not written
-none_file : (w : Wish) (name : List ℕ) (held : Files) (old new : Option (List ℕ)) (b : List ℕ) (why : Unwritten) (file : Option (List ℕ)) → file_at held name ≡ file → file_at held name ≡ Some b → written_for w b ≡ Err why → Grows old (unwritten_line why) new → IfSome file (λ text. WritesNone w old new text)
-none_file w name held old new b why None is at e g = tt
-none_file w name held old new b why (Some text) is at e g =
-    let same : Some b ≡ Some text = sym at ∙ is in
-    let b_is : b ≡ text = cc in
-    subst (λ (x : List ℕ). WritesNone w old new x) b_is (why, e, g)
+abbrev IfUnwritten : Wish → Status → Option (List ℕ) → Option (List ℕ) → Option (List ℕ) → List ℕ → Type 0
+IfUnwritten w s old new document text = s ≡ status.Events → WritesNone w old new document text
 
-after_events : (w : Wish) (s : Status) (file : Option (List ℕ)) (old new : Option (List ℕ)) → IfSome file (λ text. WritesNone w old new text) → IfSome file (λ text. s ≡ status.Events → WritesNone w old new text)
-after_events w s None old new h = tt
-after_events w s (Some text) old new h = λ is. h
+none_done : (w : Wish) (d : Option (List ℕ)) (name : List ℕ) (held : Files) (s : Status) (old new : Option (List ℕ)) (why : Unwritten) (bs : List (List ℕ)) → AreFound (Some held) (with_document d (record { name = name; role = role.Input } ∷ [])) bs → IsUnwritten w d bs why → Grows old (unwritten_line why) new → OfBoth d name (Some held) (IfUnwritten w s old new)
+none_done w None name held s old new why [] are e g = absurd are
+none_done w None name held s old new why (b ∷ bs) are e g = of_found (IfUnwritten w s old new None) (file_at held name) b are.0.0 (λ is. (None, refl, (why, e, g)))
+none_done w (Some schema) name held s old new why [] are e g = absurd are
+none_done w (Some schema) name held s old new why (document ∷ []) are e g = absurd e
+none_done w (Some schema) name held s old new why (document ∷ b ∷ bs) are (k, by, e) g =
+    of_found (λ x. IfSome (file_at held name) (IfUnwritten w s old new (Some x))) (file_at held schema) document are.0.0
+    (of_found (IfUnwritten w s old new (Some document)) (file_at held name) b are.1.0.0 (λ is. (Some k.schema, (k, by, refl), (why, e, g))))
 
-not_events : (w : Wish) (s : Status) (file : Option (List ℕ)) (old new : Option (List ℕ)) → (s ≡ status.Events → ⊥) → IfSome file (λ text. s ≡ status.Events → WritesNone w old new text)
-not_events w s None old new never = tt
-not_events w s (Some text) old new never = λ is. absurd (never is)
+not_events : (w : Wish) (d : Option (List ℕ)) (name : List ℕ) (held : Files) (s : Status) (old new : Option (List ℕ)) → (s ≡ status.Events → ⊥) → OfBoth d name (Some held) (IfUnwritten w s old new)
+not_events w d name held s old new never = of_none (IfUnwritten w s old new) d name held (λ document text is. absurd (never is))
 
 told_no_events : (s : Status) → IsTold s → s ≡ status.Events → ⊥
 told_no_events s h is = let x : refuses ≡ told = ap sort_of (sym is) ∙ h in cc
 
-none_by : (w : Wish) (name : List ℕ) (held : Files) (s : Status) (old new : Option (List ℕ)) → Came (Some (writing name w)) (Some held) s old new → IfSome (file_at held name) (λ text. s ≡ status.Events → WritesNone w old new text)
-none_by w name held s old new (inl (due, done, p, h)) = not_events w s (file_at held name) old new (told_no_events s h)
-none_by w name held s old new (inr (inl (refusal.Usage, c, is, g))) = not_events w s (file_at held name) old new (λ e. let x : status.Usage ≡ status.Events = sym is ∙ e in cc)
-none_by w name held s old new (inr (inl (refusal.ReadFailed, c, is, g))) = not_events w s (file_at held name) old new (λ e. let x : status.ReadFault ≡ status.Events = sym is ∙ e in cc)
-none_by w name held s old new (inr (inl (refusal.TooLong role, c, is, g))) = not_events w s (file_at held name) old new (λ e. let x : status.TooLong ≡ status.Events = sym is ∙ e in cc)
-none_by w name held s old new (inr (inl (refusal.Events why, (b, had, e), is, g))) = after_events w s (file_at held name) old new (none_file w name held old new b why (file_at held name) refl had.0 e g)
-none_by w name held s old new (inr (inl (refusal.Schema why, c, is, g))) = absurd c
-none_by w name held s old new (inr (inr (inl b))) = not_events w s (file_at held name) old new (λ e. let x : status.WriteFault ≡ status.Events = sym b ∙ e in cc)
-none_by w name held s old new (inr (inr (inr m))) = not_events w s (file_at held name) old new (λ e. let x : status.NoMemory ≡ status.Events = sym m ∙ e in cc)
+none_by : (w : Wish) (name : List ℕ) (held : Files) (s : Status) (old new : Option (List ℕ)) → Came (Some (writing name w)) (Some held) s old new → OfBoth w.document name (Some held) (IfUnwritten w s old new)
+none_by w name held s old new (inl (due, done, p, h)) = not_events w w.document name held s old new (told_no_events s h)
+none_by w name held s old new (inr (inl (refusal.Usage, c, is, g))) = not_events w w.document name held s old new (λ e. let x : status.Usage ≡ status.Events = sym is ∙ e in cc)
+none_by w name held s old new (inr (inl (refusal.ReadFailed, c, is, g))) = not_events w w.document name held s old new (λ e. let x : status.ReadFault ≡ status.Events = sym is ∙ e in cc)
+none_by w name held s old new (inr (inl (refusal.TooLong role, c, is, g))) = not_events w w.document name held s old new (λ e. let x : status.TooLong ≡ status.Events = sym is ∙ e in cc)
+none_by w name held s old new (inr (inl (refusal.Events why, (bs, are, e), is, g))) = none_done w w.document name held s old new why bs are e g
+none_by w name held s old new (inr (inl (refusal.Schema why, c, is, g))) = not_events w w.document name held s old new (λ e. let x : status.Schema ≡ status.Events = sym is ∙ e in cc)
+none_by w name held s old new (inr (inr (inl b))) = not_events w w.document name held s old new (λ e. let x : status.WriteFault ≡ status.Events = sym b ∙ e in cc)
+none_by w name held s old new (inr (inr (inr m))) = not_events w w.document name held s old new (λ e. let x : status.NoMemory ≡ status.Events = sym m ∙ e in cc)
 
-pub writes_none : (t : Option Task) (files : Option Files) (rose : Type 0) (s : Status) (old new : Option (List ℕ)) → IsAnswered t files rose s old new → OfWriting t files (λ w text. s ≡ status.Events → WritesNone w old new text)
+pub writes_none : (t : Option Task) (files : Option Files) (rose : Type 0) (s : Status) (old new : Option (List ℕ)) → IsAnswered t files rose s old new → OfWriting t files (λ w document text. s ≡ status.Events → WritesNone w old new document text)
 writes_none None files rose s old new a = tt
 writes_none (Some (stream f name o)) files rose s old new a = tt
 writes_none (Some (counting name)) files rose s old new a = tt
-writes_none (Some (writing name w)) None rose s old new a = tt
+writes_none (Some (writing name w)) None rose s old new a = untold_files w.document name (IfUnwritten w s old new)
 writes_none (Some (writing name w)) (Some held) rose s old new a = none_by w name held s old new (came (Some (writing name w)) (Some held) rose s old new a)
 
 events_by : (t : Option Task) (files : Option Files) (s : Status) (old new : Option (List ℕ)) → CameRefused t files s old new → s ≡ status.Events → IsWriting t
@@ -520,53 +632,57 @@ counts_by name held s old new (inl (due, (b ∷ bs, are, o), p, h)) = counts_fil
 counts_by name held s old new (inr (inl lost)) = not_counted s (file_at held name) old new (refusal_untold lost.0 s lost.2)
 counts_by name held s old new (inr (inr early)) = not_counted s (file_at held name) old new (early_untold s early)
 
-pub counts : (t : Option Task) (files : Option Files) (rose : Type 0) (s : Status) (old new : Option (List ℕ)) → IsAnswered t files rose s old new → OfDocument t files (λ bytes. s ≡ status.Ok → Counts old new bytes)
-counts None files rose s old new a = tt
-counts (Some (stream f name o)) files rose s old new a = tt
-counts (Some (writing name w)) files rose s old new a = tt
-counts (Some (counting name)) None rose s old new a = tt
-counts (Some (counting name)) (Some held) rose s old new a = counts_by name held s old new (came (Some (counting name)) (Some held) rose s old new a)
+abbrev CountsDocument : Option Task → Option Files → Status → Option (List ℕ) → Option (List ℕ) → Type 0
+CountsDocument t files s old new = IsCounting t → OfDocument t files (λ bytes. s ≡ status.Ok → Counts old new bytes)
+
+pub counts : (t : Option Task) (files : Option Files) (rose : Type 0) (s : Status) (old new : Option (List ℕ)) → IsAnswered t files rose s old new → CountsDocument t files s old new
+counts None files rose s old new a = λ c. absurd c
+counts (Some (stream f name o)) files rose s old new a = λ c. absurd c
+counts (Some (writing name w)) files rose s old new a = λ c. absurd c
+counts (Some (counting name)) None rose s old new a = λ c. tt
+counts (Some (counting name)) (Some held) rose s old new a = λ c. counts_by name held s old new (came (Some (counting name)) (Some held) rose s old new a)
 
 -- ---- a schema document that is refused
-unread_file : (name : List ℕ) (held : Files) (s : Status) (old new : Option (List ℕ)) (b : List ℕ) (why : SchemaRefusal) (file : Option (List ℕ)) → file_at held name ≡ file → file_at held name ≡ Some b → IsDocument b (Err why) → Grows old (schema_line why) new → IfSome file (λ bytes. s ≡ status.Schema → RefusesDocument old new bytes)
-unread_file name held s old new b why None is at e g = tt
-unread_file name held s old new b why (Some bytes) is at e g =
-    let same : Some b ≡ Some bytes = sym at ∙ is in
-    let b_is : b ≡ bytes = cc in
-    λ h. subst (λ (x : List ℕ). RefusesDocument old new x) b_is (why, e, g)
-
-not_unread : (s : Status) (file : Option (List ℕ)) (old new : Option (List ℕ)) → (s ≡ status.Schema → ⊥) → IfSome file (λ bytes. s ≡ status.Schema → RefusesDocument old new bytes)
-not_unread s None old new never = tt
-not_unread s (Some bytes) old new never = λ is. absurd (never is)
+abbrev Unread : Status → Option (List ℕ) → Option (List ℕ) → List ℕ → Type 0
+Unread s old new bytes = s ≡ status.Schema → RefusesDocument old new bytes
 
 told_no_schema : (s : Status) → IsTold s → s ≡ status.Schema → ⊥
 told_no_schema s h is = let x : refuses ≡ told = ap sort_of (sym is) ∙ h in cc
 
-unread_by : (name : List ℕ) (held : Files) (s : Status) (old new : Option (List ℕ)) → Came (Some (counting name)) (Some held) s old new → IfSome (file_at held name) (λ bytes. s ≡ status.Schema → RefusesDocument old new bytes)
-unread_by name held s old new (inl (due, done, p, h)) = not_unread s (file_at held name) old new (told_no_schema s h)
-unread_by name held s old new (inr (inl (refusal.Usage, c, is, g))) = not_unread s (file_at held name) old new (λ e. let x : status.Usage ≡ status.Schema = sym is ∙ e in cc)
-unread_by name held s old new (inr (inl (refusal.ReadFailed, c, is, g))) = not_unread s (file_at held name) old new (λ e. let x : status.ReadFault ≡ status.Schema = sym is ∙ e in cc)
-unread_by name held s old new (inr (inl (refusal.TooLong role, c, is, g))) = not_unread s (file_at held name) old new (λ e. let x : status.TooLong ≡ status.Schema = sym is ∙ e in cc)
-unread_by name held s old new (inr (inl (refusal.Events why, c, is, g))) = absurd c
-unread_by name held s old new (inr (inl (refusal.Schema why, (b, had, e), is, g))) = unread_file name held s old new b why (file_at held name) refl had.0 e g
-unread_by name held s old new (inr (inr (inl b))) = not_unread s (file_at held name) old new (λ e. let x : status.WriteFault ≡ status.Schema = sym b ∙ e in cc)
-unread_by name held s old new (inr (inr (inr m))) = not_unread s (file_at held name) old new (λ e. let x : status.NoMemory ≡ status.Schema = sym m ∙ e in cc)
+unread_file : (d : Option (List ℕ)) (ns : List Need) (held : Files) (s : Status) (old new : Option (List ℕ)) (why : SchemaRefusal) → CauseIn d ns (Some held) why → Grows old (schema_line why) new → OfFile d (Some held) (Unread s old new)
+unread_file None ns held s old new why c g = absurd c
+unread_file (Some name) ns held s old new why (bytes, all, are, had, is) g = of_found (Unread s old new) (file_at held name) bytes had.0 (λ h. (why, is, g))
+
+not_unread : (d : Option (List ℕ)) (held : Files) (s : Status) (old new : Option (List ℕ)) → (s ≡ status.Schema → ⊥) → OfFile d (Some held) (Unread s old new)
+not_unread None held s old new never = tt
+not_unread (Some name) held s old new never = of_any (Unread s old new) (file_at held name) (λ b is. absurd (never is))
+
+unread_by : (t : Option Task) (held : Files) (s : Status) (old new : Option (List ℕ)) → Came t (Some held) s old new → OfDocument t (Some held) (Unread s old new)
+unread_by t held s old new (inl (due, done, p, h)) = not_unread (document_of t) held s old new (told_no_schema s h)
+unread_by t held s old new (inr (inl (refusal.Usage, c, is, g))) = not_unread (document_of t) held s old new (λ e. let x : status.Usage ≡ status.Schema = sym is ∙ e in cc)
+unread_by t held s old new (inr (inl (refusal.ReadFailed, c, is, g))) = not_unread (document_of t) held s old new (λ e. let x : status.ReadFault ≡ status.Schema = sym is ∙ e in cc)
+unread_by t held s old new (inr (inl (refusal.TooLong role, c, is, g))) = not_unread (document_of t) held s old new (λ e. let x : status.TooLong ≡ status.Schema = sym is ∙ e in cc)
+unread_by t held s old new (inr (inl (refusal.Events why, c, is, g))) = not_unread (document_of t) held s old new (λ e. let x : status.Events ≡ status.Schema = sym is ∙ e in cc)
+unread_by t held s old new (inr (inl (refusal.Schema why, c, is, g))) = unread_file (document_of t) (needs_of t) held s old new why c g
+unread_by t held s old new (inr (inr (inl b))) = not_unread (document_of t) held s old new (λ e. let x : status.WriteFault ≡ status.Schema = sym b ∙ e in cc)
+unread_by t held s old new (inr (inr (inr m))) = not_unread (document_of t) held s old new (λ e. let x : status.NoMemory ≡ status.Schema = sym m ∙ e in cc)
+
+untold_file : (d : Option (List ℕ)) (P : List ℕ → Type 0) → OfFile d None P
+untold_file None P = tt
+untold_file (Some name) P = tt
 
 pub refuses_document : (t : Option Task) (files : Option Files) (rose : Type 0) (s : Status) (old new : Option (List ℕ)) → IsAnswered t files rose s old new → OfDocument t files (λ bytes. s ≡ status.Schema → RefusesDocument old new bytes)
-refuses_document None files rose s old new a = tt
-refuses_document (Some (stream f name o)) files rose s old new a = tt
-refuses_document (Some (writing name w)) files rose s old new a = tt
-refuses_document (Some (counting name)) None rose s old new a = tt
-refuses_document (Some (counting name)) (Some held) rose s old new a = unread_by name held s old new (came (Some (counting name)) (Some held) rose s old new a)
+refuses_document t None rose s old new a = untold_file (document_of t) (Unread s old new)
+refuses_document t (Some held) rose s old new a = unread_by t held s old new (came t (Some held) rose s old new a)
 
-schema_by : (t : Option Task) (files : Option Files) (s : Status) (old new : Option (List ℕ)) → CameRefused t files s old new → s ≡ status.Schema → IsCounting t
+schema_by : (t : Option Task) (files : Option Files) (s : Status) (old new : Option (List ℕ)) → CameRefused t files s old new → s ≡ status.Schema → HasDocument t
 schema_by t files s old new (refusal.Usage, c, is, g) e = let x : status.Usage ≡ status.Schema = sym is ∙ e in absurd cc
 schema_by t files s old new (refusal.ReadFailed, c, is, g) e = let x : status.ReadFault ≡ status.Schema = sym is ∙ e in absurd cc
 schema_by t files s old new (refusal.TooLong role, c, is, g) e = let x : status.TooLong ≡ status.Schema = sym is ∙ e in absurd cc
 schema_by t files s old new (refusal.Events why, c, is, g) e = let x : status.Events ≡ status.Schema = sym is ∙ e in absurd cc
-schema_by t files s old new (refusal.Schema why, c, is, g) e = is_counting t files why c
+schema_by t files s old new (refusal.Schema why, c, is, g) e = has_document t files why c
 
-pub schema_is : (t : Option Task) (files : Option Files) (rose : Type 0) (s : Status) (old new : Option (List ℕ)) → IsAnswered t files rose s old new → s ≡ status.Schema → IsCounting t
+pub schema_is : (t : Option Task) (files : Option Files) (rose : Type 0) (s : Status) (old new : Option (List ℕ)) → IsAnswered t files rose s old new → s ≡ status.Schema → HasDocument t
 schema_is t files rose s old new a e = schema_by t files s old new (refusal_of t files s old new (came t files rose s old new a) (ap sort_of e)) e
 
 -- ---- no memory
@@ -574,10 +690,25 @@ no_lines : (w : Wish) (o : Result Run Unwritten) → (text_due w o).lines ≡ []
 no_lines w (Ok r) = refl
 no_lines w (Err why) = refl
 
+informed_lines : (w : Wish) (text : List ℕ) (due : Due) (answer : Result Known SchemaRefusal) → OwedInformed (OwedOfText w) answer text due → due.lines ≡ []
+informed_lines w text due (Ok k) is = ap (λ (x : Due). x.lines) is ∙ no_lines w (written_for w (Some k.schema) text)
+informed_lines w text due (Err why) is = ap (λ (x : Due). x.lines) is
+
+files_lines : (w : Wish) (d : Option (List ℕ)) (bs : List (List ℕ)) (due : Due) → OwedOfFiles (OwedOfText w) d bs due → due.lines ≡ []
+files_lines w None [] due owed = absurd owed
+files_lines w None (text ∷ bs) due is = ap (λ (x : Due). x.lines) is ∙ no_lines w (written_for w None text)
+files_lines w (Some name) [] due owed = absurd owed
+files_lines w (Some name) (document ∷ []) due owed = absurd owed
+files_lines w (Some name) (document ∷ text ∷ bs) due (answer, by, owed) = informed_lines w text due answer owed
+
+from_lines : (files : Option Files) (rose : Type 0) (ns : List Need) (rest : List (List ℕ) → Type 0) (due : Due) → ((bs : List (List ℕ)) → rest bs → due.lines ≡ []) → OwedFrom files rose ns rest due → due.lines ≡ []
+from_lines files rose [] rest due none owed = none [] owed
+from_lines files rose (n ∷ ns) rest due none (found b, had, owed) = from_lines files rose ns (λ bs. rest (b ∷ bs)) due (λ bs. none (b ∷ bs)) owed
+from_lines files rose (n ∷ ns) rest due none (long, had, is) = ap (λ (x : Due). x.lines) is
+from_lines files rose (n ∷ ns) rest due none (failed, had, is) = ap (λ (x : Due). x.lines) is
+
 owed_lines : (w : Wish) (name : List ℕ) (files : Option Files) (rose : Type 0) (due : Due) → Owed (Some (writing name w)) files rose due → due.lines ≡ []
-owed_lines w name files rose due (found b, had, is) = ap (λ (x : Due). x.lines) is ∙ no_lines w (written_for w b)
-owed_lines w name files rose due (long, had, is) = ap (λ (x : Due). x.lines) is
-owed_lines w name files rose due (failed, had, is) = ap (λ (x : Due). x.lines) is
+owed_lines w name files rose due owed = from_lines files rose (needs (writing name w)) (OwedBy (writing name w) due) due (λ bs. files_lines w w.document bs due) owed
 
 by_no_lines : (old new : Option (List ℕ)) (text : List ℕ) → GrowsByLines old [] text new → Grows old text new
 by_no_lines old new text ([], others, is, g) = g

@@ -9,35 +9,43 @@ use Rattle.exi_bits.proofs.OctetLaws.{bits_octets}
 use Rattle.exi_bits.specs.declared.fault.Fault.{Fault}
 use Rattle.exi_evtext.specs.Parsing.{events_in}
 use Rattle.exi_gram.specs.Books.{IsPlainBook}
+use Rattle.exi_gram.specs.Outlines.{Outline}
+use Rattle.exi_gram.specs.Schemas.{IsSchema}
 use Rattle.exi_gram.specs.declared.options.Options.{Options}
 use Rattle.exi_gram.specs.declared.options.SchemaWord.{SchemaWord}
 use Rattle.exi_gram.specs.declared.options.SchemaWord.TheVariants as schema
 use Rattle.exi_gram.specs.Switches.{conflicts}
+use Rattle.exi_gram.specs.Wholes.{without_schema}
 use Rattle.exi_header.specs.declared.header.Header.{Header}
 use Rattle.exi_header.specs.Laws.{WrittenIsRead as HeadIsRead}
 use Rattle.exi_meter.specs.Metering.{stream_bounds}
 use Rattle.exi_names.specs.Events.{Happening}
+use Rattle.exi_reader.specs.Configurations.{IsSetting}
 use Rattle.exi_reader.specs.Runs.{Job, done, events_of, first, whole_bytes}
 use Rattle.exi_reader.specs.Spelled.{IsIn}
 use Rattle.exi_reader.specs.declared.start.Start.TheVariants as start
-use Rattle.exi_run.specs.Backs.{ReadsBack, WrittenIsRead, written_end, written_job}
+use Rattle.exi_run.specs.Backs.{IsSound, ReadsBack, WrittenIsRead, written_end, written_from, written_job}
 use Rattle.exi_run.specs.declared.ending.Ending.TheVariants as ending
-use Rattle.exi_opening.specs.Header.{accepted, header_for}
+use Rattle.exi_opening.specs.Header.{known_by, stream_header}
 use Rattle.exi_ports.specs.Ports.{file_at}
 use Rattle.exi_run.specs.declared.command.Command.{Command}
-use Rattle.exi_run.specs.Answers.{OfWriting}
+use Rattle.exi_run.specs.Answers.{IsBack, OfBoth, OfFile, OfWriting, Stands, StandsFor}
 use Rattle.exi_run.specs.Dues.{Files}
 use Rattle.exi_run.specs.Tasks.{IsReady, IsReadyIf, Task, counting, stream, task, tasked, writing}
-use Rattle.exi_opening.specs.Openings.{job_of, setting_of}
+use Rattle.exi_opening.specs.Openings.{setting_of}
+use Rattle.xsd_file.specs.Bases.{Basis, header_by, if_any, job_by}
+use Rattle.exi_run.specs.declared.status.Status.{Status}
+use Rattle.exi_run.specs.declared.status.Status.TheVariants as status
 use Rattle.exi_run.specs.Wholes.{IsBody, IsWhole, IsWholeFrom}
-use Rattle.exi_run.specs.Wishes.{Wish, body_by, body_for, head_bits, head_options, run_or_why, stream_bytes, stream_of, written_for}
+use Rattle.exi_run.specs.Wishes.{Wish, body_by, body_for, head_bits, head_options, run_or_why, setting_for, stream_bytes, stream_of, written_for}
 use Rattle.exi_run.proofs.Places.{body_place}
 use Rattle.exi_run.proofs.Writes.{head_whole}
-use Rattle.exi_writer.proofs.SameLists.{list_same}
-use Rattle.exi_writer.specs.Same.{AreSame, pruned_list}
+use Rattle.exi_writer.specs.Same.{AreSame, AreSameText, ListIsSame, ListIsSameText, pruned_list}
 use Rattle.exi_writing.specs.Laws.{ListIsRead}
 use Rattle.exi_writing.specs.Runs.{Run, body}
 use Rattle.exi_writing.specs.Runs as runs
+use Rattle.xsd_file.specs.Documents.{IsDocument}
+use Rattle.xsd_file.specs.Words.{Known}
 
 -- ---- the bytes of bits
 octet_fits : (text : List Bool) → value_of (take 8 text) < 256
@@ -76,28 +84,38 @@ behind_head head text =
     ap (drop (length head)) parts ∙ drop_at head (text ++ more) (length head) refl
 
 -- ---- the body
-text_events : (w : Wish) (r : Run) (o : Result (List Happening) ℕ) → body_by w o ≡ Ok r → (es : List Happening) × (body_for w es ≡ Ok r)
-text_events w r (Ok es) e = (es, e)
-text_events w r (Err line) e = absurd cc
+text_events : (w : Wish) (known : Option Outline) (r : Run) (o : Result (List Happening) ℕ) → body_by w known o ≡ Ok r → (es : List Happening) × (body_for w known es ≡ Ok r)
+text_events w known r (Ok es) e = (es, e)
+text_events w known r (Err line) e = absurd cc
 
 run_of : (o : Result Run runs.Refusal) (r : Run) → run_or_why o ≡ Ok r → o ≡ Ok r
 run_of (Ok s) r e = let k : Ok s ≡ Ok r = e in cc
 run_of (Err why) r e = absurd cc
 
-abbrev IsBodyRun : Wish → Run → Type 0
-IsBodyRun w r = (es : List Happening) × (body (setting_of w.options) (length (head_bits w)) stream_bounds es ≡ Ok r)
+abbrev run_for : Wish → Option Outline → List Happening → Result Run runs.Refusal
+run_for w known es = body (setting_for w known) (length (head_bits w)) stream_bounds es
 
-body_run : (w : Wish) (text : List ℕ) (r : Run) → written_for w text ≡ Ok r → IsBodyRun w r
+abbrev IsBodyRun : Wish → Option Outline → Run → Type 0
+IsBodyRun w known r = (es : List Happening) × (run_for w known es ≡ Ok r)
+
+body_run : (w : Wish) (known : Option Outline) (text : List ℕ) (r : Run) → written_for w known text ≡ Ok r → IsBodyRun w known r
 unfolding written_for
-body_run w text r h =
-    let t = text_events w r (events_in text) h in
-    (t.0, run_of (body (setting_of w.options) (length (head_bits w)) stream_bounds t.0) r t.1)
+body_run w known text r h =
+    let t = text_events w known r (events_in text) h in
+    (t.0, run_of (run_for w known t.0) r t.1)
 
-book_of : (o : Options) → conflicts o ≡ false → IsPlainBook (setting_of o)
-book_of o free = record { no_conflict = free; states = refl }
+plain_of : (o : Options) → conflicts o ≡ false → IsPlainBook (setting_of o)
+plain_of o free = record { no_conflict = free; states = refl }
 
-stands_in : (w : Wish) (r : Run) → IsIn (setting_of w.options) (stream_of w r) (first (written_job w r) start.Body stream_bounds)
-stands_in w r =
+grammars_of : IsSchema without_schema → (known : Option Outline) → IsSound known → IsSchema (if_any known)
+grammars_of plain None sound = plain
+grammars_of plain (Some schema) sound = sound
+
+read_by : (w : Wish) (known : Option Outline) → IsSchema (if_any known) → conflicts w.options ≡ false → IsSetting (setting_for w known)
+read_by w known grammars free = record { book = record { no_conflict = free; states = refl }; schema = grammars }
+
+stands_in : (w : Wish) (known : Option Outline) (r : Run) → IsIn (setting_for w known) (stream_of w r) (first (written_job w known r) start.Body stream_bounds)
+stands_in w known r =
     let all = head_bits w ++ r.bits in
     let long : length (stream_of w r) ≡ octets (length all) = octets_long (octets (length all)) (padded all) in
     let parts : length all ≡ length (head_bits w) + length r.bits = length-append (head_bits w) r.bits in
@@ -107,13 +125,13 @@ stands_in w r =
       aligned = head_whole (head_options w) w.told w.cookie;
     }
 
-body_back : ListIsRead → (w : Wish) (r : Run) → conflicts w.options ≡ false → IsBodyRun w r → IsBody (written_job w r) (events_of r.events) (written_end w r)
-body_back law w r free (es, is) =
+body_back : ListIsRead → (w : Wish) (known : Option Outline) (r : Run) → IsSchema (if_any known) → conflicts w.options ≡ false → IsBodyRun w known r → IsBody (written_job w known r) (events_of r.events) (written_end w r)
+body_back law w known r grammars free (es, is) =
     let head = head_bits w in
     let all = head ++ r.bits in
-    let at : r.last.place ≡ length all = body_place (setting_of w.options) (length head) stream_bounds es r is ∙ sym (length-append head r.bits) in
+    let at : r.last.place ≡ length all = body_place (setting_for w known) (length head) stream_bounds es r is ∙ sym (length-append head r.bits) in
     let long : length (stream_of w r) ≡ whole_bytes r.last.place = octets_long (octets (length all)) (padded all) ∙ ap whole_bytes (sym at) in
-    let run = law (written_job w r) stream_bounds es r (zeros (to_byte (length all))) (book_of w.options free) (stands_in w r) is (behind_head head r.bits) long in
+    let run = law (written_job w known r) stream_bounds es r (zeros (to_byte (length all))) (read_by w known grammars free) (stands_in w known r) is (behind_head head r.bits) long in
     (done r.last, length r.events, (r.events, run, refl, refl), ap (λ (n : ℕ). ending.Done n) (sym at))
 
 -- ---- with the header in front
@@ -124,15 +142,19 @@ told_or : (b : Bool) (o words : Options) → o ≡ words → (if b then o else w
 told_or true o words is = is
 told_or false o words is = refl
 
-same_job : (bytes : List ℕ) (h : Header) (o : Options) (n : ℕ) → h.options ≡ o → h.body ≡ n → job_of bytes h ≡ record { setting = setting_of o; bytes = bytes; body = n }
-same_job bytes h o n is at = rw (is, at) refl
+-- the same options and schema, by whatever name it is known
+abbrev basis_for : Wish → Option Outline → Option (List ℕ) → Basis
+basis_for w known name = record { options = w.options; schema = known; name = name }
 
-taken_header : (h : Header) (o : Options) → h.options ≡ o → o.schema ≡ schema.Absent → accepted (Ok h) ≡ Ok h
-taken_header h o is plain = let none : h.options.schema ≡ schema.Absent = ap (λ (x : Options). x.schema) is ∙ plain in rw none refl
+same_job : (w : Wish) (known : Option Outline) (name : Option (List ℕ)) (bytes : List ℕ) (h : Header) (n : ℕ) → h.options ≡ w.options → h.body ≡ n → w.options.schema ≡ schema.Absent → job_by (basis_for w known name) bytes h ≡ record { setting = setting_for w known; bytes = bytes; body = n }
+same_job w known name bytes h n is at plain = rw (is, at, plain) refl
 
-whole_back : HeadIsRead → (w : Wish) (name : List ℕ) (r : Run) → IsReady (writing name w) → w.schema ≡ schema.Absent → IsBody (written_job w r) (events_of r.events) (written_end w r) → IsWhole w.options (stream_of w r) (events_of r.events) (written_end w r)
-unfolding header_for
-whole_back law w name r ready none back =
+taken_header : (name : Option (List ℕ)) (h : Header) (o : Options) → h.options ≡ o → o.schema ≡ schema.Absent → known_by name (Ok h) ≡ Ok h
+taken_header name h o is plain = let none : h.options.schema ≡ schema.Absent = ap (λ (x : Options). x.schema) is ∙ plain in rw none refl
+
+whole_back : HeadIsRead → (w : Wish) (known : Option Outline) (file : List ℕ) (r : Run) → IsReady (writing file w) → w.schema ≡ schema.Absent → (name : Option (List ℕ)) → IsBody (written_job w known r) (events_of r.events) (written_end w r) → IsWhole (basis_for w known name) (stream_of w r) (events_of r.events) (written_end w r)
+unfolding stream_header
+whole_back law w known file r ready none name back =
     let all = head_bits w ++ r.bits in
     let same = no_schema_in w ready.2 none in
     let tellable = ready.1 in
@@ -141,30 +163,57 @@ whole_back law w name r ready none back =
     let k = law (head_options w) w.options w.told w.cookie (stream_of w r) (r.bits ++ zeros (to_byte (length all))) tellable free (octets_fit (octets (length all)) (padded all)) front in
     let h = k.0 in
     let options_are : h.options ≡ w.options = k.2.options ∙ told_or w.told (head_options w) w.options same in
-    let read : header_for w.options (stream_of w r) ≡ Ok h = ap accepted k.1 ∙ taken_header h w.options options_are ready.2 in
-    subst (λ (x : Result Header Fault). IsWholeFrom (stream_of w r) x (events_of r.events) (written_end w r)) (sym read)
-    (subst (λ (j : Job). IsBody j (events_of r.events) (written_end w r)) (sym (same_job (stream_of w r) h w.options (length (head_bits w)) options_are k.2.body)) back)
+    let read : header_by (basis_for w known name) (stream_of w r) ≡ Ok h = ap (known_by name) k.1 ∙ taken_header name h w.options options_are ready.2 in
+    subst (λ (x : Result Header Fault). IsWholeFrom (basis_for w known name) (stream_of w r) x (events_of r.events) (written_end w r)) (sym read)
+    (subst (λ (j : Job). IsBody j (events_of r.events) (written_end w r)) (sym (same_job w known name (stream_of w r) h (length (head_bits w)) options_are k.2.body ready.2)) back)
 
-same_events : (w : Wish) (text : List ℕ) (r : Run) → written_for w text ≡ Ok r → (es : List Happening) → events_in text ≡ Ok es → AreSame (pruned_list w.options es) (events_of r.events)
+text_run : (w : Wish) (known : Option Outline) (text : List ℕ) (r : Run) → written_for w known text ≡ Ok r → (es : List Happening) → events_in text ≡ Ok es → run_for w known es ≡ Ok r
 unfolding written_for
-same_events w text r h es is = list_same (setting_of w.options) (length (head_bits w)) stream_bounds es r (run_of (body (setting_of w.options) (length (head_bits w)) stream_bounds es) r (sym (ap (body_by w) is) ∙ h))
+text_run w known text r h es is = run_of (run_for w known es) r (sym (ap (body_by w known) is) ∙ h)
 
-pub written_read : ListIsRead → HeadIsRead → WrittenIsRead
-written_read list head w name text ready r h =
-    let back = body_back list w r ready.0 (body_run w text r h) in
-    record { body = back; whole = λ none. whole_back head w name r ready none back; same = same_events w text r h }
+same_events : ListIsSame → (w : Wish) (known : Option Outline) (text : List ℕ) (r : Run) → written_for w known text ≡ Ok r → (es : List Happening) → events_in text ≡ Ok es → AreSame (setting_for w known) (written_from w known) (pruned_list w.options es) (events_of r.events)
+same_events law w known text r h es is = law (setting_for w known) (length (head_bits w)) stream_bounds es r (text_run w known text r h es is)
+
+same_texts : ListIsSameText → (w : Wish) (known : Option Outline) (text : List ℕ) (r : Run) → conflicts w.options ≡ false → written_for w known text ≡ Ok r → known ≡ None → (es : List Happening) → events_in text ≡ Ok es → AreSameText (pruned_list w.options es) (events_of r.events)
+same_texts law w None text r free h none es is = law (setting_of w.options) (length (head_bits w)) stream_bounds es r (plain_of w.options free) (text_run w None text r h es is)
+same_texts law w (Some schema) text r free h none es is = absurd cc
+
+pub written_read : ListIsRead → ListIsSame → ListIsSameText → IsSchema without_schema → HeadIsRead → WrittenIsRead
+written_read list same texts plain head w name text known ready sound r h =
+    let back = body_back list w known r (grammars_of plain known sound) ready.0 (body_run w known text r h) in
+    record { body = back; whole = λ none other. whole_back head w known name r ready none other back; same = same_events same w known text r h; texts = same_texts texts w known text r ready.0 h }
 
 -- ---- of the words
-file_back : WrittenIsRead → (w : Wish) (name : List ℕ) (file : Option (List ℕ)) → IsReady (writing name w) → IfSome file (ReadsBack w)
-file_back law w name None ready = tt
-file_back law w name (Some text) ready = law w name text ready
+text_back : WrittenIsRead → (w : Wish) (name : List ℕ) (known : Option Outline) (file : Option (List ℕ)) → IsReady (writing name w) → IsSound known → IfSome file (λ text. ReadsBack w known text)
+text_back law w name known None ready sound = tt
+text_back law w name known (Some text) ready sound = law w name text known ready sound
 
-pub reads_back : WrittenIsRead → (t : Option Task) (files : Option Files) → IsReadyIf t → OfWriting t files (λ w text. ReadsBack w text)
-reads_back law None files ready = tt
-reads_back law (Some (stream f name o)) files ready = tt
-reads_back law (Some (counting name)) files ready = tt
-reads_back law (Some (writing name w)) None ready = tt
-reads_back law (Some (writing name w)) (Some held) ready = file_back law w name (file_at held name) ready
+-- by a document, where its schema's grammars fit together
+abbrev IfSchema : Wish → Status → List ℕ → List ℕ → Type 0
+IfSchema w s document text = s ≡ status.Ok → (k : Known) → IsDocument document (Ok k) → ReadsBack w (Some k.schema) text
+
+input_back : WrittenIsRead → (w : Wish) (name : List ℕ) (s : Status) (document : List ℕ) (file : Option (List ℕ)) → IsReady (writing name w) → (s ≡ status.Ok → Stands document) → IfSome file (IfSchema w s document)
+input_back law w name s document None ready stands = tt
+input_back law w name s document (Some text) ready stands = λ ok k is. law w name text (Some k.schema) ready (stands ok k is)
+
+document_back : WrittenIsRead → (w : Wish) (name : List ℕ) (s : Status) (file input : Option (List ℕ)) → IsReady (writing name w) → (s ≡ status.Ok → IfSome file Stands) → IfSome file (λ document. IfSome input (IfSchema w s document))
+document_back law w name s None input ready stands = tt
+document_back law w name s (Some document) input ready stands = input_back law w name s document input ready stands
+
+files_back : WrittenIsRead → (w : Wish) (name : List ℕ) (d : Option (List ℕ)) (held : Files) (s : Status) → IsReady (writing name w) → (s ≡ status.Ok → OfFile d (Some held) Stands) → OfBoth d name (Some held) (λ document text. IsBack w s document text)
+files_back law w name None held s ready stands = text_back law w name None (file_at held name) ready tt
+files_back law w name (Some schema) held s ready stands = document_back law w name s (file_at held schema) (file_at held name) ready stands
+
+no_files_back : (d : Option (List ℕ)) (name : List ℕ) (P : Option (List ℕ) → List ℕ → Type 0) → OfBoth d name None P
+no_files_back None name P = tt
+no_files_back (Some schema) name P = tt
+
+pub reads_back : WrittenIsRead → (t : Option Task) (files : Option Files) (s : Status) → IsReadyIf t → (s ≡ status.Ok → StandsFor t files) → OfWriting t files (λ w document text. IsBack w s document text)
+reads_back law None files s ready stands = tt
+reads_back law (Some (stream f name o)) files s ready stands = tt
+reads_back law (Some (counting name)) files s ready stands = tt
+reads_back law (Some (writing name w)) None s ready stands = no_files_back w.document name (λ document text. IsBack w s document text)
+reads_back law (Some (writing name w)) (Some held) s ready stands = files_back law w name w.document held s ready (λ ok. stands ok tt)
 
 pub ready_of : (o : Option Command) (t : Option Task) → tasked o ≡ t → IfSome o (λ c. IsReady (task c)) → IsReadyIf t
 ready_of None t is ready = subst IsReadyIf is tt

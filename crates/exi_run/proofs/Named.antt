@@ -99,6 +99,7 @@ valued_as : (k : Valued) (t : List ℕ) (g : Given) → IsFit g → IsFitOption 
 unfolding with_value
 valued_as valued.MaxLength t g h = none_or (is_some g.most) (option_map (with_most g) (number_told t)) (mapped (with_most g) (number_told t) (number_fits t) (λ n fits. record { flags = h.flags; most = fits; capacity = h.capacity; named = h.named }))
 valued_as valued.Capacity t g h = none_or (is_some g.capacity) (option_map (with_capacity g) (number_told t)) (mapped (with_capacity g) (number_told t) (number_fits t) (λ n fits. record { flags = h.flags; most = h.most; capacity = fits; named = h.named }))
+valued_as valued.Schema t g h = none_or (is_some g.document) (Some (record g { document = Some t })) record { flags = h.flags; most = h.most; capacity = h.capacity; named = h.named }
 valued_as valued.SchemaId t g h = none_or (is_some g.schema) (if is_schema_name t then Some (record g { schema = Some t }) else None) (name_or (is_schema_name t) g t h refl)
 
 -- ---- an option
@@ -128,9 +129,10 @@ named_fits t =
     (if_flag (bytes_eq t (codes "--prefixes")) (Some (named.Switch (flag 128))) _ (small 128 (omega arith))
     (if_flag (bytes_eq t (codes "--value-max-length")) (Some (named.Value valued.MaxLength)) _ tt
     (if_flag (bytes_eq t (codes "--value-partition-capacity")) (Some (named.Value valued.Capacity)) _ tt
+    (if_flag (bytes_eq t (codes "--schema")) (Some (named.Value valued.Schema)) _ tt
     (if_flag (bytes_eq t (codes "--schema-id")) (Some (named.Value valued.SchemaId)) _ tt
     (if_flag (bytes_eq t (codes "--told")) (Some (named.Mark mark.Told)) _ tt
-    (if_flag (bytes_eq t (codes "--cookie")) (Some (named.Mark mark.Cookie)) None tt tt))))))))))))
+    (if_flag (bytes_eq t (codes "--cookie")) (Some (named.Mark mark.Cookie)) None tt tt)))))))))))))
 
 optioned : (o : Option Named) (value : Option (List ℕ)) (g : Given) → IsFlagOf o → IsFit g → IsFitWalk (with_option o value g)
 optioned None value g fits h = tt

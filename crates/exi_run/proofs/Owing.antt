@@ -4,9 +4,9 @@ use Rattle.std.specs.List.{flat_map}
 use Rattle.std.proofs.lemmas.Grind.{flat_map-append}
 use Rattle.std.proofs.lemmas.List.{append-nil, take-append-drop}
 use Rattle.exi_evtext.specs.Lines.{line_of, lines_of}
-use Rattle.exi_gram.specs.declared.options.Options.{Options}
 use Rattle.exi_index.specs.Hints as hints
 use Rattle.exi_names.specs.Events.{Happening, Grows}
+use Rattle.xsd_file.specs.Bases.{Basis}
 use Rattle.exi_ports.specs.Ports.{GrowsInPart}
 use Rattle.exi_ports.specs.declared.sink.SinkStop.{SinkStop}
 use Rattle.exi_ports.specs.declared.sink.SinkStop.TheVariants as sink_stop
@@ -78,52 +78,52 @@ after_front : (old mid new : Option (List ℕ)) (text more : List ℕ) → Grows
 after_front old mid new text more g (front, rest, is, h) = (text ++ front, rest, ap (λ (t : List ℕ). text ++ t) is ∙ sym (append_assoc text front rest), grows_more old mid new text front g h)
 
 -- ---- of a stream's bytes
-abbrev WasSaid : Form → Options → List ℕ → Ending → Option (List ℕ) → Option (List ℕ) → Type 0
-WasSaid f words bytes e old mid = (es : List Happening) × IsWhole words bytes es e × Grows old (all_said f es) mid
+abbrev WasSaid : Form → Basis → List ℕ → Ending → Option (List ℕ) → Option (List ℕ) → Type 0
+WasSaid f basis bytes e old mid = (es : List Happening) × IsWhole basis bytes es e × Grows old (all_said f es) mid
 
-abbrev pub OwesDid : Form → Options → List ℕ → Result Status Halt → Option (List ℕ) → Option (List ℕ) → Type 0
-OwesDid f words bytes r old new = (due : Due) × OwedOf f words bytes due × Did due r old new
+abbrev pub OwesDid : Form → Basis → List ℕ → Result Status Halt → Option (List ℕ) → Option (List ℕ) → Type 0
+OwesDid f basis bytes r old new = (due : Due) × OwedOf f basis bytes due × Did due r old new
 
-owed_whole : (f : Form) (words : Options) (bytes : List ℕ) (es : List Happening) (e : Ending) → IsWhole words bytes es e → OwedOf f words bytes (whole_due f es e)
-owed_whole f words bytes es e w = (es, e, w, refl)
+owed_whole : (f : Form) (basis : Basis) (bytes : List ℕ) (es : List Happening) (e : Ending) → IsWhole basis bytes es e → OwedOf f basis bytes (whole_due f es e)
+owed_whole f basis bytes es e w = (es, e, w, refl)
 
-pub done_all : (f : Form) (words : Options) (bytes : List ℕ) (e : Ending) (old mid new : Option (List ℕ)) → DidEvents f words bytes (Ok e) old mid → DidLast (last_pieces f e) (Ok tt) mid new → OwesDid f words bytes (Ok (status_of e)) old new
-done_all f words bytes e old mid new (es, w, g) last =
-    (whole_due f es e, owed_whole f words bytes es e w, (refl, subst (λ (t : List ℕ). Grows old t new) (sym (text-whole f es e)) (grows_more old mid new (all_said f es) (text_of (last_pieces f e)) g last)))
+pub done_all : (f : Form) (basis : Basis) (bytes : List ℕ) (e : Ending) (old mid new : Option (List ℕ)) → DidEvents f basis bytes (Ok e) old mid → DidLast (last_pieces f e) (Ok tt) mid new → OwesDid f basis bytes (Ok (status_of e)) old new
+done_all f basis bytes e old mid new (es, w, g) last =
+    (whole_due f es e, owed_whole f basis bytes es e w, (refl, subst (λ (t : List ℕ). Grows old t new) (sym (text-whole f es e)) (grows_more old mid new (all_said f es) (text_of (last_pieces f e)) g last)))
 
 -- the last piece was broken off
-done_part : (f : Form) (words : Options) (bytes : List ℕ) (e : Ending) (old mid new : Option (List ℕ)) → WasSaid f words bytes e old mid → GrowsByFront mid (text_of (last_pieces f e)) new → OwesDid f words bytes (Err halt.Write) old new
-done_part f words bytes e old mid new (es, w, g) last =
-    (whole_due f es e, owed_whole f words bytes es e w, subst (λ (t : List ℕ). GrowsByFront old t new) (sym (text-whole f es e)) (after_front old mid new (all_said f es) (text_of (last_pieces f e)) g last))
+done_part : (f : Form) (basis : Basis) (bytes : List ℕ) (e : Ending) (old mid new : Option (List ℕ)) → WasSaid f basis bytes e old mid → GrowsByFront mid (text_of (last_pieces f e)) new → OwesDid f basis bytes (Err halt.Write) old new
+done_part f basis bytes e old mid new (es, w, g) last =
+    (whole_due f es e, owed_whole f basis bytes es e w, subst (λ (t : List ℕ). GrowsByFront old t new) (sym (text-whole f es e)) (after_front old mid new (all_said f es) (text_of (last_pieces f e)) g last))
 
 -- the last piece was not begun
-done_first : (f : Form) (words : Options) (bytes : List ℕ) (e : Ending) (old new : Option (List ℕ)) → WasSaid f words bytes e old new → OwesDid f words bytes (Err halt.Memory) old new
-done_first f words bytes e old new (es, w, g) =
+done_first : (f : Form) (basis : Basis) (bytes : List ℕ) (e : Ending) (old new : Option (List ℕ)) → WasSaid f basis bytes e old new → OwesDid f basis bytes (Err halt.Memory) old new
+done_first f basis bytes e old new (es, w, g) =
     let lines = flat_map (pieces f) es in
-    (whole_due f es e, owed_whole f words bytes es e w, (lines, [], sym (append-nil lines), subst (λ (t : List ℕ). Grows old t new) (sym (append-nil (text_of lines) ∙ text-pieces f es)) g))
+    (whole_due f es e, owed_whole f basis bytes es e w, (lines, [], sym (append-nil lines), subst (λ (t : List ℕ). Grows old t new) (sym (append-nil (text_of lines) ∙ text-pieces f es)) g))
 
-pub last_err : (h : Halt) (f : Form) (words : Options) (bytes : List ℕ) (e : Ending) (old mid new : Option (List ℕ)) → DidEvents f words bytes (Ok e) old mid → DidLast (last_pieces f e) (Err h) mid new → OwesDid f words bytes (Err h) old new
-last_err (halt.Refused r) f words bytes e old mid new d last = absurd last
-last_err halt.Write f words bytes e old mid new d last = done_part f words bytes e old mid new d last
-last_err halt.Memory f words bytes e old mid new d last = subst (λ (o : Option (List ℕ)). OwesDid f words bytes (Err halt.Memory) old o) (sym last) (done_first f words bytes e old mid d)
+pub last_err : (h : Halt) (f : Form) (basis : Basis) (bytes : List ℕ) (e : Ending) (old mid new : Option (List ℕ)) → DidEvents f basis bytes (Ok e) old mid → DidLast (last_pieces f e) (Err h) mid new → OwesDid f basis bytes (Err h) old new
+last_err (halt.Refused r) f basis bytes e old mid new d last = absurd last
+last_err halt.Write f basis bytes e old mid new d last = done_part f basis bytes e old mid new d last
+last_err halt.Memory f basis bytes e old mid new d last = subst (λ (o : Option (List ℕ)). OwesDid f basis bytes (Err halt.Memory) old o) (sym last) (done_first f basis bytes e old mid d)
 
 -- not all events were said
-events_first : (f : Form) (words : Options) (bytes : List ℕ) (old new : Option (List ℕ)) → DidEvents f words bytes (Err halt.Memory) old new → OwesDid f words bytes (Err halt.Memory) old new
-events_first f words bytes old new (es, (more, e, w), g) =
+events_first : (f : Form) (basis : Basis) (bytes : List ℕ) (old new : Option (List ℕ)) → DidEvents f basis bytes (Err halt.Memory) old new → OwesDid f basis bytes (Err halt.Memory) old new
+events_first f basis bytes old new (es, (more, e, w), g) =
     let lines = flat_map (pieces f) es in
-    (whole_due f (es ++ more) e, owed_whole f words bytes (es ++ more) e w, (lines, flat_map (pieces f) more, flat_map-append (pieces f) es more, subst (λ (t : List ℕ). Grows old t new) (sym (append-nil (text_of lines) ∙ text-pieces f es)) g))
+    (whole_due f (es ++ more) e, owed_whole f basis bytes (es ++ more) e w, (lines, flat_map (pieces f) more, flat_map-append (pieces f) es more, subst (λ (t : List ℕ). Grows old t new) (sym (append-nil (text_of lines) ∙ text-pieces f es)) g))
 
-events_part : (f : Form) (words : Options) (bytes : List ℕ) (old new : Option (List ℕ)) → DidEvents f words bytes (Err halt.Write) old new → OwesDid f words bytes (Err halt.Write) old new
-events_part f words bytes old new (es, (more, e, w), (piece, after, is, g)) =
+events_part : (f : Form) (basis : Basis) (bytes : List ℕ) (old new : Option (List ℕ)) → DidEvents f basis bytes (Err halt.Write) old new → OwesDid f basis bytes (Err halt.Write) old new
+events_part f basis bytes old new (es, (more, e, w), (piece, after, is, g)) =
     let last = text_of (last_pieces f e) in
     let all : all_said f (es ++ more) ++ last ≡ piece ++ (after ++ (all_said f more ++ last)) =
     ap (λ (x : List ℕ). x ++ last) (flat_map-append (said f) es more) ∙ append_assoc (all_said f es) (all_said f more) last ∙ ap (λ (x : List ℕ). x ++ (all_said f more ++ last)) is ∙ append_assoc piece after (all_said f more ++ last) in
-    (whole_due f (es ++ more) e, owed_whole f words bytes (es ++ more) e w, (piece, after ++ (all_said f more ++ last), text-whole f (es ++ more) e ∙ all, g))
+    (whole_due f (es ++ more) e, owed_whole f basis bytes (es ++ more) e w, (piece, after ++ (all_said f more ++ last), text-whole f (es ++ more) e ∙ all, g))
 
-pub events_err : (h : Halt) (f : Form) (words : Options) (bytes : List ℕ) (old new : Option (List ℕ)) → DidEvents f words bytes (Err h) old new → OwesDid f words bytes (Err h) old new
-events_err (halt.Refused r) f words bytes old new d = absurd d
-events_err halt.Write f words bytes old new d = events_part f words bytes old new d
-events_err halt.Memory f words bytes old new d = events_first f words bytes old new d
+pub events_err : (h : Halt) (f : Form) (basis : Basis) (bytes : List ℕ) (old new : Option (List ℕ)) → DidEvents f basis bytes (Err h) old new → OwesDid f basis bytes (Err h) old new
+events_err (halt.Refused r) f basis bytes old new d = absurd d
+events_err halt.Write f basis bytes old new d = events_part f basis bytes old new d
+events_err halt.Memory f basis bytes old new d = events_first f basis bytes old new d
 
 -- ---- the last line, in one put
 pub line_ok : (line old_line : List ℕ) (old new : Option (List ℕ)) → line ≡ old_line → Grows old line new → DidLast (old_line ∷ []) (Ok tt) old new

@@ -3,14 +3,16 @@ use Rattle.std.proofs.Common.{◌≡◌, ◌+◌, ℕ, suc, List, [], ◌∷◌,
 use Rattle.std.specs.Prelude.{Result, Ok, Err}
 use Rattle.std.proofs.lemmas.Bool.{cases_Bool}
 use Rattle.std.proofs.lemmas.List.{length-append}
+use Rattle.exi_builtin.specs.declared.learnable.Learned.{Learned}
+use Rattle.exi_builtin.specs.declared.learnable.Learned.TheVariants as used
 use Rattle.exi_meter.specs.Metering.{Bounds}
 use Rattle.exi_names.specs.declared.names.QName.{QName}
 use Rattle.exi_names.specs.Events.{Happening}
-use Rattle.exi_reader.specs.Changes.{resumed}
+use Rattle.exi_reader.specs.Changes.{Effect, effect_of, effected, emptied, leads, learns_name, resumed, retyped, stays}
 use Rattle.exi_reader.specs.Configurations.{Body, Config, Setting, first_config}
 use Rattle.exi_reader.specs.OneEvent.{remembered}
 use Rattle.exi_reader.specs.Plans.{Alone, Given, alone_in, at_end, at_first, at_start, ended_in, nowhere, plan_on, rooted_in}
-use Rattle.exi_reader.specs.Rules.{Rule, Terminal, attribute, characters, comment, declaration, document_type, element, end_document, end_element, entity, informed, instruction, known, self_contained, spelled, start_document}
+use Rattle.exi_reader.specs.Rules.{Rule, Telling, Terminal, attribute, characters, comment, declaration, document_type, element, end_document, end_element, entity, instruction, known, self_contained, spelled, start_document, under}
 use Rattle.exi_reader.specs.Runs.{has_ended}
 use Rattle.exi_reader.specs.Spelled.{IsOne, further}
 use Rattle.exi_reader.specs.declared.start.Start.TheVariants as start
@@ -38,14 +40,23 @@ rooted_place at_start name c = refl
 rooted_place at_first name c = refl
 rooted_place at_end name c = refl
 
+learned_place : (t : Telling) (use_of : Learned) (c : Config) → (learns_name t use_of c).place ≡ c.place
+learned_place spelled use_of c = refl
+learned_place (under uri) use_of c = refl
+learned_place (known id) use_of c = refl
+
+effected_place : (e : Effect) (to : ℕ) (c : Config) → (effected e to c).place ≡ c.place
+effected_place leads to c = refl
+effected_place (retyped grammar) to c = refl
+effected_place emptied to c = refl
+effected_place stays to c = refl
+
 made_place : (g : Setting) (a : Alone) (c0 : Config) (r : Rule) (t : Terminal) (x : (plan_on g a c0 r t).Item) (c : Config) → (remembered ((plan_on g a c0 r t).make x c)).1.place ≡ c.place
 made_place g a c0 r start_document x c = refl
 made_place g a c0 r end_document x c = ended_place a c
-made_place g a c0 r (element spelled) x c = rooted_place a x.name c
-made_place g a c0 r (element (known id)) x c = rooted_place a x.name c
-made_place g a c0 r (attribute spelled) x c = refl
-made_place g a c0 r (attribute (known id)) x c = refl
-made_place g a c0 r characters x c = refl
+made_place g a c0 r (element t) x c = learned_place t (used.Se x.id) (rooted_in a x.name c) ∙ rooted_place a x.name c
+made_place g a c0 r (attribute t v) x c = effected_place (effect_of g v x.0.id x.1) r.to (learns_name t (used.At x.0.id) c) ∙ learned_place t (used.At x.0.id) c
+made_place g a c0 r (characters d) x c = refl
 made_place g a c0 r end_element x c = refl
 made_place g a c0 r declaration x c = refl
 made_place g a c0 r self_contained x c = refl
@@ -53,7 +64,6 @@ made_place g a c0 r comment x c = refl
 made_place g a c0 r instruction x c = refl
 made_place g a c0 r document_type x c = refl
 made_place g a c0 r entity x c = refl
-made_place g a c0 r (informed symbol) x c = refl
 
 -- ---- one event
 spelled_place : (g : Setting) (c : Config) (w : Written) → IsOne g c w.given w.bits → w.given.1.place ≡ c.place + length w.bits

@@ -23,8 +23,11 @@ use Rattle.exi_run.specs.Answers.{Composes, DidLast, DidWrite, GrowsByFront, Lis
 use Rattle.exi_run.specs.Dues.{Due, all_pieces, refusal_due, stream_due, text_due, text_of}
 use Rattle.exi_run.specs.Printing.{grows_none}
 use Rattle.exi_run.specs.Stops.{halt_for}
-use Rattle.exi_opening.specs.Openings.{setting_of}
-use Rattle.exi_run.specs.Wishes.{Wish, body_by, head_bits, head_options, run_or_why, stream_bytes, written_for}
+use Rattle.exi_gram.specs.Outlines.{Outline}
+use Rattle.exi_gram.specs.declared.options.SchemaWord.TheVariants as schema
+use Rattle.exi_opening.specs.Openings.{setting_by}
+use Rattle.xsd_file.specs.Bases.{chosen}
+use Rattle.exi_run.specs.Wishes.{Wish, body_by, head_bits, head_options, run_or_why, setting_for, stream_bytes, written_for}
 use Rattle.exi_writer.specs.Writing.{Bodies}
 use Rattle.exi_writer.specs.declared.fault.WriteFault.{WriteFault}
 use Rattle.exi_writer.specs.declared.fault.WriteFault.TheVariants as fault
@@ -56,61 +59,65 @@ unfolding header_bits
 head_whole o told marked = head_by (byte_aligned o) (front_bits o told marked)
 
 -- ---- what is written of a text
-pub listed_err : (h : Halt) (w : Wish) (text : List ℕ) → Lists (Err h) (events_in text) → Composes w text (Err h)
+pub listed_err : (h : Halt) (w : Wish) (known : Option Outline) (text : List ℕ) → Lists (Err h) (events_in text) → Composes w known text (Err h)
 unfolding written_for
-listed_err (halt.Refused r) w text (line, is, e) = (unwritten.Syntax line, is, ap (body_by w) e)
-listed_err halt.Write w text e = absurd e
-listed_err halt.Memory w text e = tt
+listed_err (halt.Refused r) w known text (line, is, e) = (unwritten.Syntax line, is, ap (body_by w known) e)
+listed_err halt.Write w known text e = absurd e
+listed_err halt.Memory w known text e = tt
 
 -- the same head, book, limits and events
-pub record IsBodyOf (w : Wish) (text : List ℕ) (head : List Bool) (b : Setting) (limits : Bounds) (es : List Happening) : Type 0 where
+pub record IsBodyOf (w : Wish) (known : Option Outline) (text : List ℕ) (head : List Bool) (b : Setting) (limits : Bounds) (es : List Happening) : Type 0 where
   pub events : events_in text ≡ Ok es
   pub head_is : head ≡ head_bits w
-  pub book : b ≡ setting_of w.options
+  pub book : b ≡ setting_for w known
   pub within : limits ≡ stream_bounds
 
-abbrev given_body : Wish → List Happening → Result Run runs.Refusal
-given_body w es = body (setting_of w.options) (length (head_bits w)) stream_bounds es
+-- the book is made of the options of the words, which tell no schema, and of the one that is known
+pub book_for : (w : Wish) (known : Option Outline) (o : Options) (b : Setting) → w.options.schema ≡ schema.Absent → o ≡ w.options → b ≡ setting_by (chosen known o.schema) o → b ≡ setting_for w known
+book_for w known o b plain same is = is ∙ rw (same, plain) refl
 
-same_body : (w : Wish) (text : List ℕ) (head : List Bool) (b : Setting) (limits : Bounds) (es : List Happening) → IsBodyOf w text head b limits es → body b (length head) limits es ≡ given_body w es
-same_body w text head b limits es is = rw (is.book, is.head_is, is.within) refl
+abbrev given_body : Wish → Option Outline → List Happening → Result Run runs.Refusal
+given_body w known es = body (setting_for w known) (length (head_bits w)) stream_bounds es
 
-text_body : (w : Wish) (text : List ℕ) (head : List Bool) (b : Setting) (limits : Bounds) (es : List Happening) (o : Result Run runs.Refusal) → IsBodyOf w text head b limits es → body b (length head) limits es ≡ o → written_for w text ≡ run_or_why o
+same_body : (w : Wish) (known : Option Outline) (text : List ℕ) (head : List Bool) (b : Setting) (limits : Bounds) (es : List Happening) → IsBodyOf w known text head b limits es → body b (length head) limits es ≡ given_body w known es
+same_body w known text head b limits es is = rw (is.book, is.head_is, is.within) refl
+
+text_body : (w : Wish) (known : Option Outline) (text : List ℕ) (head : List Bool) (b : Setting) (limits : Bounds) (es : List Happening) (o : Result Run runs.Refusal) → IsBodyOf w known text head b limits es → body b (length head) limits es ≡ o → written_for w known text ≡ run_or_why o
 unfolding written_for
-text_body w text head b limits es o is e = ap (body_by w) is.events ∙ ap run_or_why (sym (same_body w text head b limits es is) ∙ e)
+text_body w known text head b limits es o is e = ap (body_by w known) is.events ∙ ap run_or_why (sym (same_body w known text head b limits es is) ∙ e)
 
-pub body_ok : (w : Wish) (text : List ℕ) (head : List Bool) (b : Setting) (limits : Bounds) (es : List Happening) (out : List Bool) → IsBodyOf w text head b limits es → Bodies (Ok out) head (body b (length head) limits es) → Composes w text (Ok out)
-body_ok w text head b limits es out is (r, e, o) = (r, text_body w text head b limits es (Ok r) is e, o ∙ ap (λ (h : List Bool). h ++ r.bits) is.head_is)
+pub body_ok : (w : Wish) (known : Option Outline) (text : List ℕ) (head : List Bool) (b : Setting) (limits : Bounds) (es : List Happening) (out : List Bool) → IsBodyOf w known text head b limits es → Bodies (Ok out) head (body b (length head) limits es) → Composes w known text (Ok out)
+body_ok w known text head b limits es out is (r, e, o) = (r, text_body w known text head b limits es (Ok r) is e, o ∙ ap (λ (h : List Bool). h ++ r.bits) is.head_is)
 
-pub body_err : (f : WriteFault) (w : Wish) (text : List ℕ) (head : List Bool) (b : Setting) (limits : Bounds) (es : List Happening) → IsBodyOf w text head b limits es → Bodies (Err f) head (body b (length head) limits es) → Composes w text (Err (halt_for f))
-body_err (fault.NotDerived n) w text head b limits es is e = (unwritten.NotDerived n, refl, text_body w text head b limits es _ is e)
-body_err (fault.Limit n k) w text head b limits es is (m, e) = (unwritten.Limit n k, refl, text_body w text head b limits es _ is e)
-body_err fault.Memory w text head b limits es is e = tt
+pub body_err : (f : WriteFault) (w : Wish) (known : Option Outline) (text : List ℕ) (head : List Bool) (b : Setting) (limits : Bounds) (es : List Happening) → IsBodyOf w known text head b limits es → Bodies (Err f) head (body b (length head) limits es) → Composes w known text (Err (halt_for f))
+body_err (fault.NotDerived n) w known text head b limits es is e = (unwritten.NotDerived n, refl, text_body w known text head b limits es _ is e)
+body_err (fault.Limit n k) w known text head b limits es is (m, e) = (unwritten.Limit n k, refl, text_body w known text head b limits es _ is e)
+body_err fault.Memory w known text head b limits es is e = tt
 
 -- ---- what is put of it
-pub write_err : (h : Halt) (w : Wish) (text : List ℕ) (old : Option (List ℕ)) → Composes w text (Err h) → DidWrite w text (Err h) old old
-write_err (halt.Refused r) w text old (why, is, e) = (ap (text_due w) e ∙ ap refusal_due (sym is), refl)
-write_err halt.Write w text old e = absurd e
-write_err halt.Memory w text old e = ([], (text_due w (written_for w text)).lines, refl, grows_none old)
+pub write_err : (h : Halt) (w : Wish) (known : Option Outline) (text : List ℕ) (old : Option (List ℕ)) → Composes w known text (Err h) → DidWrite w known text (Err h) old old
+write_err (halt.Refused r) w known text old (why, is, e) = (ap (text_due w) e ∙ ap refusal_due (sym is), refl)
+write_err halt.Write w known text old e = absurd e
+write_err halt.Memory w known text old e = ([], (text_due w (written_for w known text)).lines, refl, grows_none old)
 
-due_is : (w : Wish) (text : List ℕ) (out : List Bool) → Composes w text (Ok out) → text_due w (written_for w text) ≡ stream_due (stream_bytes out)
-due_is w text out (r, is, e) = ap (text_due w) is ∙ ap (λ (b : List Bool). stream_due (stream_bytes b)) (sym e)
+due_is : (w : Wish) (known : Option Outline) (text : List ℕ) (out : List Bool) → Composes w known text (Ok out) → text_due w (written_for w known text) ≡ stream_due (stream_bytes out)
+due_is w known text out (r, is, e) = ap (text_due w) is ∙ ap (λ (b : List Bool). stream_due (stream_bytes b)) (sym e)
 
-pub put_ok : (w : Wish) (text : List ℕ) (out : List Bool) (old new : Option (List ℕ)) → Composes w text (Ok out) → DidLast (stream_bytes out ∷ []) (Ok tt) old new → DidWrite w text (Ok status.Ok) old new
-put_ok w text out old new c put =
-    let d = sym (due_is w text out c) in
+pub put_ok : (w : Wish) (known : Option Outline) (text : List ℕ) (out : List Bool) (old new : Option (List ℕ)) → Composes w known text (Ok out) → DidLast (stream_bytes out ∷ []) (Ok tt) old new → DidWrite w known text (Ok status.Ok) old new
+put_ok w known text out old new c put =
+    let d = sym (due_is w known text out c) in
     (ap (λ (x : Due). x.status) d, subst (λ (x : Due). Grows old (text_of (all_pieces x)) new) d put)
 
-pub put_err : (h : Halt) (w : Wish) (text : List ℕ) (out : List Bool) (old new : Option (List ℕ)) → Composes w text (Ok out) → DidLast (stream_bytes out ∷ []) (Err h) old new → DidWrite w text (Err h) old new
-put_err (halt.Refused r) w text out old new c put = absurd put
-put_err halt.Write w text out old new c put = subst (λ (x : Due). GrowsByFront old (text_of (all_pieces x)) new) (sym (due_is w text out c)) put
-put_err halt.Memory w text out old new c put = ([], (text_due w (written_for w text)).lines, refl, subst (λ (o : Option (List ℕ)). Grows old [] o) (sym put) (grows_none old))
+pub put_err : (h : Halt) (w : Wish) (known : Option Outline) (text : List ℕ) (out : List Bool) (old new : Option (List ℕ)) → Composes w known text (Ok out) → DidLast (stream_bytes out ∷ []) (Err h) old new → DidWrite w known text (Err h) old new
+put_err (halt.Refused r) w known text out old new c put = absurd put
+put_err halt.Write w known text out old new c put = subst (λ (x : Due). GrowsByFront old (text_of (all_pieces x)) new) (sym (due_is w known text out c)) put
+put_err halt.Memory w known text out old new c put = ([], (text_due w (written_for w known text)).lines, refl, subst (λ (o : Option (List ℕ)). Grows old [] o) (sym put) (grows_none old))
 
 -- ---- no file was at fault
-pub composed_read : (h : Halt) (w : Wish) (text : List ℕ) → Composes w text (Err h) → h ≡ halt.Refused refusal.ReadFailed → ⊥
-composed_read (halt.Refused r) w text (why, is, e) f = cc
-composed_read halt.Write w text e f = e
-composed_read halt.Memory w text e f = cc
+pub composed_read : (h : Halt) (w : Wish) (known : Option Outline) (text : List ℕ) → Composes w known text (Err h) → h ≡ halt.Refused refusal.ReadFailed → ⊥
+composed_read (halt.Refused r) w known text (why, is, e) f = cc
+composed_read halt.Write w known text e f = e
+composed_read halt.Memory w known text e f = cc
 
 pub put_read : (h : Halt) (pieces : List (List ℕ)) (old new : Option (List ℕ)) → DidLast pieces (Err h) old new → h ≡ halt.Refused refusal.ReadFailed → ⊥
 put_read (halt.Refused r) pieces old new d f = d

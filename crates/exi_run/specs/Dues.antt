@@ -1,8 +1,9 @@
 -- What the program owes for its words, its files and its stream.
 use Rattle.std.specs.Prelude.{◌≡◌, ◌⊎◌, ℕ, List, [], ◌∷◌, ◌++◌, Option, Some, None, Result, Ok, Err, codes, decimal}
 use Rattle.std.specs.List.{flat_map}
-use Rattle.exi_gram.specs.declared.options.Options.{Options}
+use Rattle.exi_gram.specs.Outlines.{Outline}
 use Rattle.exi_names.specs.Events.{Happening}
+use Rattle.xsd_file.specs.Bases.{Basis, plain_basis}
 use Rattle.exi_ports.specs.Ports.{file_at, Fetched}
 use Rattle.exi_ports.specs.declared.shelf.Fetch.TheVariants as fetch
 use Rattle.exi_run.specs.declared.files.TheConstants.{MOST_BYTES}
@@ -17,14 +18,14 @@ use Rattle.exi_run.specs.declared.unwritten.Unwritten.{Unwritten}
 use Rattle.exi_run.specs.Refusals.{refusal_line, refusal_status}
 use Rattle.exi_run.specs.Wholes.{IsWhole}
 use Rattle.exi_run.specs.Wishes.{Wish, stream_of, written_for}
-use Rattle.exi_run.specs.Tasks.{Task, stream, writing, counting, Need, needs}
+use Rattle.exi_run.specs.Tasks.{Task, Terms, stream, writing, counting, Need, needs}
 use Rattle.exi_run.specs.Endings.{status_of}
 use Rattle.exi_writing.specs.Runs.{Run}
 use Rattle.xsd_file.specs.Counts.{attributes_counted, elements_counted, types_counted}
 use Rattle.xsd_file.specs.Documents.{IsDocument}
 use Rattle.xsd_file.specs.declared.refusal.SchemaRefusal.{SchemaRefusal}
-use Rattle.xsd_known.specs.Knowing.{Known}
-use Rattle.xsd_parts.specs.Documents.{Declared}
+use Rattle.xsd_file.specs.Words.{Known}
+use Rattle.xsd_file.specs.Words.{Declared}
 use Rattle.exi_run.specs.Forms.{pieces, last_pieces}
 
 -- the pieces that are owed, each in one put: lines, and then a last one or none; and the status behind them
@@ -86,8 +87,16 @@ abbrev pub whole_due : Form → List Happening → Ending → Due
 whole_due f es e = record { lines = flat_map (pieces f) es; last = last_pieces f e; status = status_of e }
 
 -- of a stream: the events and the end of the file's bytes
-abbrev pub OwedOf : Form → Options → List ℕ → Due → Type 0
-OwedOf f words bytes due = (es : List Happening) × (e : Ending) × IsWhole words bytes es e × (due ≡ whole_due f es e)
+abbrev pub OwedOf : Form → Basis → List ℕ → Due → Type 0
+OwedOf f basis bytes due = (es : List Happening) × (e : Ending) × IsWhole basis bytes es e × (due ≡ whole_due f es e)
+
+-- what is known beside it: by the words alone, or with a schema too, by which it may be named
+abbrev pub basis_by : Terms → Option Outline → Basis
+basis_by o None = plain_basis o.options
+basis_by o (Some schema) = record { options = o.options; schema = Some schema; name = o.name }
+
+abbrev pub OwedOfStream : Form → Terms → Option Outline → List ℕ → Due → Type 0
+OwedOfStream f o known bytes due = OwedOf f (basis_by o known) bytes due
 
 -- of an event text: the stream, or the line that says why there is none
 abbrev pub stream_due : List ℕ → Due
@@ -96,6 +105,9 @@ stream_due bytes = record { lines = []; last = bytes ∷ []; status = status.Ok 
 abbrev pub text_due : Wish → Result Run Unwritten → Due
 text_due w (Ok r) = stream_due (stream_of w r)
 text_due w (Err why) = refusal_due (refusal.Events why)
+
+abbrev pub OwedOfText : Wish → Option Outline → List ℕ → Due → Type 0
+OwedOfText w known text due = due ≡ text_due w (written_for w known text)
 
 -- of a schema document: a line for each kind of component, with how many of them the whole schema knows by name
 abbrev pub count_line : List ℕ → ℕ → List ℕ
@@ -118,12 +130,27 @@ document_due (Err why) = refusal_due (refusal.Schema why)
 abbrev pub OwedOfDocument : List ℕ → Due → Type 0
 OwedOfDocument bytes due = (found : Result Known SchemaRefusal) × IsDocument bytes found × (due ≡ document_due found)
 
+-- with a schema's document: where that is refused, the line that says so, whatever else there is; and else what is owed by the
+-- schema that it makes known
+abbrev pub OwedInformed : (Option Outline → List ℕ → Due → Type 0) → Result Known SchemaRefusal → List ℕ → Due → Type 0
+OwedInformed owed (Ok k) input due = owed (Some k.schema) input due
+OwedInformed owed (Err why) input due = due ≡ refusal_due (refusal.Schema why)
+
+abbrev pub OwedOfBoth : (Option Outline → List ℕ → Due → Type 0) → List ℕ → List ℕ → Due → Type 0
+OwedOfBoth owed document input due = (found : Result Known SchemaRefusal) × IsDocument document found × OwedInformed owed found input due
+
+-- by the bytes of its files: before those of its own file stand the schema document's, where one is given
+abbrev pub OwedOfFiles : (Option Outline → List ℕ → Due → Type 0) → Option (List ℕ) → List (List ℕ) → Due → Type 0
+OwedOfFiles owed None [] due = ⊥
+OwedOfFiles owed None (input ∷ others) due = owed None input due
+OwedOfFiles owed (Some name) [] due = ⊥
+OwedOfFiles owed (Some name) (document ∷ []) due = ⊥
+OwedOfFiles owed (Some name) (document ∷ input ∷ others) due = OwedOfBoth owed document input due
+
 -- of a command whose files were found, by their bytes in their order
 abbrev pub OwedBy : Task → Due → List (List ℕ) → Type 0
-OwedBy (stream f file o) due [] = ⊥
-OwedBy (stream f file o) due (input ∷ others) = OwedOf f o input due
-OwedBy (writing file w) due [] = ⊥
-OwedBy (writing file w) due (input ∷ others) = due ≡ text_due w (written_for w input)
+OwedBy (stream f file o) due files = OwedOfFiles (OwedOfStream f o) o.document files due
+OwedBy (writing file w) due files = OwedOfFiles (OwedOfText w) w.document files due
 OwedBy (counting file) due [] = ⊥
 OwedBy (counting file) due (input ∷ others) = OwedOfDocument input due
 

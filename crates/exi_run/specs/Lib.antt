@@ -9,5 +9,5 @@ pub mod Tasks
 pub mod Forms
 pub mod Printing
 pub mod Dues
-pub mod Answers
 pub mod Backs
+pub mod Answers

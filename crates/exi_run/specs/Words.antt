@@ -7,12 +7,12 @@
 --     schema FILE
 --
 --     --strict --fragment --byte-aligned --self-contained --comments --pis --dtd --prefixes
---     --value-max-length N   --value-partition-capacity N   --schema-id TEXT
+--     --value-max-length N   --value-partition-capacity N   --schema FILE   --schema-id TEXT
 --
--- `schema` takes FILE alone. A value is the next word, or stands in the same word behind `=`. A word that begins with a hyphen and
--- has more behind it names an option; so neither a value that is a word nor FILE is of that form, but behind the word `--`, which
--- may stand once before FILE, each word is FILE. N is 1 to 10 decimal digits; TEXT has at most 65,536 characters, each of XML. A
--- word is compared by its bytes in UTF-8.
+-- `schema` takes FILE alone. A value is the next word, or stands in the same word behind `=`. A word that begins with a hyphen and has
+-- more behind it names an option; so neither a value that is a word nor FILE is of that form, but behind the word `--`, which may
+-- stand once before FILE, each word is FILE. N is 1 to 10 decimal digits; TEXT has at most 65,536 characters, each of XML. A word is
+-- compared by its bytes in UTF-8.
 use Rattle.std.specs.Prelude.{◌≡◌, ◌<◌, ◌^◌, IfSome, ℕ, zero, suc, ◌==◌, ◌&&◌, Bool, true, false, List, [], ◌∷◌, length, nat_le, nat_lt, Option, Some, None, is_some, option_map, chars, codes, encode_utf8_all, if◌then◌else◌}
 use Rattle.std.specs.Int.RustNames.{bit_and, bit_or}
 use Rattle.std.specs.List.{before_first, after_first, position_or_len}
@@ -68,6 +68,7 @@ option_named t =
     else if bytes_eq t (codes "--prefixes") then Some (named.Switch (flag 128))
     else if bytes_eq t (codes "--value-max-length") then Some (named.Value valued.MaxLength)
     else if bytes_eq t (codes "--value-partition-capacity") then Some (named.Value valued.Capacity)
+    else if bytes_eq t (codes "--schema") then Some (named.Value valued.Schema)
     else if bytes_eq t (codes "--schema-id") then Some (named.Value valued.SchemaId)
     else if bytes_eq t (codes "--told") then Some (named.Mark mark.Told)
     else if bytes_eq t (codes "--cookie") then Some (named.Mark mark.Cookie)
@@ -80,6 +81,8 @@ pub record Given : Type 0 where
   pub flags : OptionFlags
   pub most : Option ℕ
   pub capacity : Option ℕ
+  -- the file with the schema's document, by the bytes of its name
+  pub document : Option (List ℕ)
   -- the schema's name, by its bytes
   pub schema : Option (List ℕ)
   -- whether the header of a stream that is written has the options document, and the cookie
@@ -87,7 +90,7 @@ pub record Given : Type 0 where
   pub cookie : Bool
 
 abbrev pub nothing : Given
-nothing = record { file = None; flags = flag 0; most = None; capacity = None; schema = None; told = false; cookie = false }
+nothing = record { file = None; flags = flag 0; most = None; capacity = None; document = None; schema = None; told = false; cookie = false }
 
 -- FILE, which is given once at most
 abbrev pub with_file : List ℕ → Given → Option Given
@@ -138,6 +141,7 @@ with_capacity g n = record g { capacity = Some n }
 unfoldable pub with_value : Valued → List ℕ → Given → Option Given
 with_value valued.MaxLength t g = if is_some g.most then None else option_map (with_most g) (number_told t)
 with_value valued.Capacity t g = if is_some g.capacity then None else option_map (with_capacity g) (number_told t)
+with_value valued.Schema t g = if is_some g.document then None else Some (record g { document = Some t })
 with_value valued.SchemaId t g = if is_some g.schema then None else (if is_schema_name t then Some (record g { schema = Some t }) else None)
 
 -- ---- one word after another

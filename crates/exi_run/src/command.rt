@@ -32,6 +32,10 @@ pub(crate) struct Telling<'a> {
     pub file: &'a Txt,
     /// The options that its header may leave to the words.
     pub options: Options,
+    /// The name of the file with a schema's document, where one is given.
+    pub document: Option<&'a str>,
+    /// The schema's name, where one is given.
+    pub name: Option<&'a str>,
 }
 
 /// A stream is written.
@@ -84,6 +88,8 @@ fn command_of<'a>(verb: Verb, file: &'a Txt, given: Given<'a>) -> Option<Command
             form,
             file,
             options: given.options(),
+            document: given.document,
+            name: given.schema,
         })),
         Verb::Write => Some(Command::Write(Writing { file, given })),
         Verb::Count if given.is_bare() => Some(Command::Count(file)),

@@ -1,34 +1,37 @@
 //! A stream of an event text.
 
-ghost use Rattle.std.specs.Prelude.{◌≡◌, ◌≤◌, ◌∷◌, [], Some, IfOk, IsErrOf, option_copied};
+ghost use Rattle.std.specs.Prelude.{◌≡◌, ◌≤◌, ◌∷◌, [], Some, None, IfOk, IsErrOf, length, option_copied};
 ghost use Rattle.exi_bits.specs.Bits.{IsBytes};
 ghost use Rattle.exi_bits.specs.Written.{IsWholeBytes};
 ghost use Rattle.exi_evtext.specs.Parsing.{events_in};
 ghost use Rattle.exi_gram.specs.Switches.{align_of};
 ghost use Rattle.exi_names.specs.Events.{Rose};
 ghost use Rattle.exi_options.specs.Writing.{IsNamable};
-ghost use Rattle.exi_run.specs.Answers.{Composes, DidLast, DidWrite, GrowsByFront, Lists, Served};
+ghost use Rattle.exi_run.specs.Answers.{Composes, Did, DidLast, DidWrite, GrowsByFront, Lists, OfDocument, Served, Stands};
+ghost use Rattle.exi_run.specs.Dues.{Due, OwedOfBoth, OwedOfText, most_bytes};
 ghost use Rattle.exi_run.specs.Statuses.{IsTold};
 ghost use Rattle.exi_run.specs.Stops.{halt_for};
-ghost use Rattle.exi_run.specs.Tasks.{IsReady, gathered, writing_task};
+ghost use Rattle.exi_run.specs.Tasks.{IsReady, gathered, names_of, writing_task};
 ghost use Rattle.exi_run.specs.Wishes.{head_bits, head_options, named_schema, stream_bytes, wish_of};
 
 use crate::command::Writing;
 use crate::files::fetch_file;
 use crate::halt::{Halt, Refusal, Role};
 use crate::status::Status;
+use crate::stream::schema_in;
 use crate::unwritten::Unwritten;
 use exi_bits::BitOut;
 use exi_evtext::parse_events;
-use exi_gram::{Options, SchemaWord};
+use exi_gram::{Options, Schema, SchemaWord};
 use exi_header::write_header;
 use exi_meter::Limits;
-use exi_names::{EventList, TextStop, Txt};
-use exi_opening::book_of;
+use exi_names::{EventList, Octets, TextStop, Txt};
 use exi_ports::{Shelf, Sink};
 use exi_tables::HashTables;
 use exi_writer::{WriteFault, write_body};
 use std::alloc::{AllocError, Global};
+use xsd_file::book_by;
+use xsd_file::laws::one_document;
 
 /// Why a command stops whose events are not written.
 fn halt_for(fault: WriteFault) -> Halt
@@ -88,14 +91,19 @@ fn head_of(alloc: Global, writing: &Writing<'_>) -> Result<BitOut, AllocError>
     write_header(alloc, &options, writing.given.told, writing.given.cookie)
 }
 
-/// The bits of the stream of an event text.
-fn compose(alloc: Global, writing: &Writing<'_>, text: &[u8]) -> Result<BitOut, Halt>
+/// The bits of the stream of an event text, by a schema that is known, if there is one.
+fn compose(
+    alloc: Global,
+    writing: &Writing<'_>,
+    schema: Option<Schema>,
+    text: &[u8],
+) -> Result<BitOut, Halt>
     requires ready { IsReady (writing_task writing.now) }
-    ensures { Composes (wish_of (gathered writing.now.given)) text.now result }
+    ensures { Composes (wish_of (gathered writing.now.given)) schema text.now result }
 {
     let events = events_of(alloc, text)?;
     let head = head_of(alloc, writing)?;
-    let book = book_of(alloc, writing.given.options())?;
+    let book = book_by(alloc, schema, writing.given.options())?;
     let limits = Limits::of_stream();
     match write_body::<HashTables>(alloc, &book, limits, events.as_slice(), head) {
         Ok(stream) => Ok(stream),
@@ -123,23 +131,92 @@ fn put_stream<O: Sink>(stream: &BitOut, out: &mut O) -> Result<(), Halt>
     put_bytes(stream.bytes(), out)
 }
 
-/// The stream of an event text.
+/// The stream of an event text, by a schema that is known, if there is one.
 fn write_text<O: Sink>(
     alloc: Global,
     writing: &Writing<'_>,
+    schema: Option<Schema>,
     text: &[u8],
     out: &mut O,
 ) -> Result<Status, Halt>
     requires ready { IsReady (writing_task writing.now) }
-    ensures written { DidWrite (wish_of (gathered writing.now.given)) text.now result (O.taken out.old) (O.taken out.new) }
+    ensures written { DidWrite (wish_of (gathered writing.now.given)) schema text.now result (O.taken out.old) (O.taken out.new) }
     ensures later { O.faults out.old ≤ O.faults out.new }
     ensures write { IsErrOf result Halt.Write → Rose (O.faults out.old) (O.faults out.new) }
     ensures failed { IsErrOf result (Halt.Refused Refusal.ReadFailed) → ⊥ }
     ensures told { IfOk result IsTold }
 {
-    let stream = compose(alloc, writing, text)?;
+    let stream = compose(alloc, writing, schema, text)?;
     put_stream(&stream, out)?;
     Ok(Status::Ok)
+}
+
+/// The stream of the event text in a file, without a schema's document.
+fn write_plain<F: Shelf, O: Sink>(
+    alloc: Global,
+    writing: &Writing<'_>,
+    shelf: &mut F,
+    out: &mut O,
+) -> Result<Status, Halt>
+    requires ready { IsReady (writing_task writing.now) }
+    requires plain { option_copied writing.now.given.document ≡ None }
+    ensures served { Served (Some (writing_task writing.now)) (F.files shelf.old) (Rose (F.faults shelf.old) (F.faults shelf.new)) result (O.taken out.old) (O.taken out.new) }
+    ensures asked { GrowsByFront (F.asked shelf.old) (names_of (Some (writing_task writing.now))) (F.asked shelf.new) }
+    ensures later { O.faults out.old ≤ O.faults out.new }
+    ensures write { IsErrOf result Halt.Write → Rose (O.faults out.old) (O.faults out.new) }
+    ensures failed { IsErrOf result (Halt.Refused Refusal.ReadFailed) → Rose (F.faults shelf.old) (F.faults shelf.new) }
+    ensures told { IfOk result IsTold }
+    ensures stands { IfOk result (λ s. OfDocument (Some (writing_task writing.now)) (F.files shelf.old) Stands) }
+{
+    let input = fetch_file(alloc, shelf, writing.file, Role::Input)?;
+    write_text(alloc, writing, None, input.as_slice(), out)
+}
+
+/// The stream of an event text, by the schema that a document makes known.
+fn write_by<O: Sink>(
+    alloc: Global,
+    writing: &Writing<'_>,
+    document: Octets,
+    text: &[u8],
+    out: &mut O,
+) -> Result<Status, Halt>
+    requires document { length document ≤ most_bytes }
+    requires ready { IsReady (writing_task writing.now) }
+    ensures written { (due : Due) × OwedOfBoth (OwedOfText (wish_of (gathered writing.now.given))) document text.now due × Did due result (O.taken out.old) (O.taken out.new) }
+    ensures later { O.faults out.old ≤ O.faults out.new }
+    ensures write { IsErrOf result Halt.Write → Rose (O.faults out.old) (O.faults out.new) }
+    ensures failed { IsErrOf result (Halt.Refused Refusal.ReadFailed) → ⊥ }
+    ensures told { IfOk result IsTold }
+    ensures stands { IfOk result (λ s. Stands document) }
+{
+    one_document();
+    let schema = schema_in(alloc, document)?;
+    write_text(alloc, writing, Some(schema), text, out)
+}
+
+/// The stream of the event text in a file with a schema's document in another, which is fetched first.
+fn write_informed<F: Shelf, O: Sink>(
+    alloc: Global,
+    writing: &Writing<'_>,
+    document: &str,
+    shelf: &mut F,
+    out: &mut O,
+) -> Result<Status, Halt>
+    requires ready { IsReady (writing_task writing.now) }
+    requires informed { option_copied writing.now.given.document ≡ Some document.now }
+    ensures served { Served (Some (writing_task writing.now)) (F.files shelf.old) (Rose (F.faults shelf.old) (F.faults shelf.new)) result (O.taken out.old) (O.taken out.new) }
+    ensures asked { GrowsByFront (F.asked shelf.old) (names_of (Some (writing_task writing.now))) (F.asked shelf.new) }
+    ensures later { O.faults out.old ≤ O.faults out.new }
+    ensures write { IsErrOf result Halt.Write → Rose (O.faults out.old) (O.faults out.new) }
+    ensures failed { IsErrOf result (Halt.Refused Refusal.ReadFailed) → Rose (F.faults shelf.old) (F.faults shelf.new) }
+    ensures told { IfOk result IsTold }
+    ensures stands { IfOk result (λ s. OfDocument (Some (writing_task writing.now)) (F.files shelf.old) Stands) }
+{
+    one_document();
+    let name = Txt::of(alloc, document)?;
+    let document = fetch_file(alloc, shelf, &name, Role::Schema)?;
+    let text = fetch_file(alloc, shelf, writing.file, Role::Input)?;
+    write_by(alloc, writing, document, text.as_slice(), out)
 }
 
 /// The stream of the event text in a file. Nothing of it is put before all of it is known.
@@ -151,12 +228,15 @@ pub(crate) fn write_stream<F: Shelf, O: Sink>(
 ) -> Result<Status, Halt>
     requires ready { IsReady (writing_task writing.now) }
     ensures served { Served (Some (writing_task writing.now)) (F.files shelf.old) (Rose (F.faults shelf.old) (F.faults shelf.new)) result (O.taken out.old) (O.taken out.new) }
-    ensures asked { GrowsByFront (F.asked shelf.old) (writing.now.file.now ∷ []) (F.asked shelf.new) }
+    ensures asked { GrowsByFront (F.asked shelf.old) (names_of (Some (writing_task writing.now))) (F.asked shelf.new) }
     ensures later { O.faults out.old ≤ O.faults out.new }
     ensures write { IsErrOf result Halt.Write → Rose (O.faults out.old) (O.faults out.new) }
     ensures failed { IsErrOf result (Halt.Refused Refusal.ReadFailed) → Rose (F.faults shelf.old) (F.faults shelf.new) }
     ensures told { IfOk result IsTold }
+    ensures stands { IfOk result (λ s. OfDocument (Some (writing_task writing.now)) (F.files shelf.old) Stands) }
 {
-    let input = fetch_file(alloc, shelf, writing.file, Role::Input)?;
-    write_text(alloc, writing, input.as_slice(), out)
+    match writing.given.document {
+        Some(document) => write_informed(alloc, writing, document, shelf, out),
+        None => write_plain(alloc, writing, shelf, out),
+    }
 }

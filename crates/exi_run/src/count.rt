@@ -7,7 +7,7 @@ ghost use Rattle.exi_run.specs.Dues.{Due, OwedOfDocument, count_line, count_line
 ghost use Rattle.exi_run.specs.Refusals.{schema_line};
 ghost use Rattle.exi_run.specs.Statuses.{IsTold};
 ghost use Rattle.exi_run.specs.Tasks.{counting};
-ghost use Rattle.xsd_fits.specs.Views.{as_told};
+ghost use Rattle.xsd_file.specs.Words.{as_told};
 
 use crate::ending::{push_kind, push_number};
 use crate::files::fetch_file;

@@ -1,5 +1,5 @@
-ghost use Rattle.std.specs.Prelude.{◌≡◌, ◌≤◌, ◌∷◌, [], Err, IsErrOf};
-ghost use Rattle.exi_names.specs.Events.{Rose};
+ghost use Rattle.std.specs.Prelude.{◌≡◌, ◌≤◌, ◌∷◌, [], Err, IfOk, IsErrOf};
+ghost use Rattle.exi_names.specs.Events.{Grows, Rose};
 ghost use Rattle.exi_run.specs.Answers.{Fetches, GrowsByFront};
 
 use crate::halt::{Halt, Refusal, Role};
@@ -23,6 +23,7 @@ pub(crate) fn fetch_file<F: Shelf>(
 ) -> Result<Octets, Halt>
     ensures fetched { Fetches (F.files shelf.old) (Rose (F.faults shelf.old) (F.faults shelf.new)) name.now role result }
     ensures asked { GrowsByFront (F.asked shelf.old) (name.now ∷ []) (F.asked shelf.new) }
+    ensures found { IfOk result (λ bytes. Grows (F.asked shelf.old) (name.now ∷ []) (F.asked shelf.new)) }
     ensures same { F.files shelf.new ≡ F.files shelf.old }
     ensures later { F.faults shelf.old ≤ F.faults shelf.new }
     ensures failed { IsErrOf result (Halt.Refused Refusal.ReadFailed) → Rose (F.faults shelf.old) (F.faults shelf.new) }

@@ -26,6 +26,8 @@ pub(crate) struct Given<'a> {
     pub most: Option<u128>,
     /// The value of `--value-partition-capacity`.
     pub capacity: Option<u128>,
+    /// The name of the file with the schema's document.
+    pub document: Option<&'a str>,
     /// The schema's name, which a stream's own name of it is compared with.
     pub schema: Option<&'a str>,
     /// Whether `--told` stands.
@@ -72,6 +74,7 @@ impl<'a> Given<'a> {
             flags: OptionFlags::from_bits_retain(0),
             most: None,
             capacity: None,
+            document: None,
             schema: None,
             told: false,
             cookie: false,
@@ -147,6 +150,20 @@ impl<'a> Given<'a> {
         })
     }
 
+    /// With the file of the schema's document, where none was given.
+    #[tactic(auto, unfolding(crate::specs::Words::with_value))]
+    fn with_document(self, text: &'a str) -> Option<Given<'a>>
+        ensures { option_map gathered result ≡ with_value Valued.Schema text.now (gathered self.entry) }
+    {
+        if self.document.is_some() {
+            return None;
+        }
+        Some(Given {
+            document: Some(text),
+            ..self
+        })
+    }
+
     /// With the schema's name, where none was given.
     #[tactic(auto, unfolding(crate::specs::Words::with_value))]
     fn with_schema(self, text: &'a str) -> Option<Given<'a>>
@@ -168,6 +185,7 @@ impl<'a> Given<'a> {
         match option {
             Valued::MaxLength => self.with_most(text),
             Valued::Capacity => self.with_capacity(text),
+            Valued::Schema => self.with_document(text),
             Valued::SchemaId => self.with_schema(text),
         }
     }
@@ -179,6 +197,7 @@ impl<'a> Given<'a> {
         self.flags.is_empty()
             && self.most.is_none()
             && self.capacity.is_none()
+            && self.document.is_none()
             && self.schema.is_none()
             && !self.told
             && !self.cookie

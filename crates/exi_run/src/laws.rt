@@ -1,16 +1,16 @@
 ghost use Rattle.std.specs.Prelude.{◌≡◌, ◌++◌, List, ℕ};
-ghost use Rattle.exi_gram.specs.declared.options.Options.{Options};
 ghost use Rattle.exi_names.specs.Events.{Happening};
+ghost use Rattle.xsd_file.specs.Bases.{Basis};
 ghost use Rattle.exi_run.specs.Backs.{WrittenIsRead};
 ghost use Rattle.exi_run.specs.declared.ending.Ending.{Ending};
 ghost use Rattle.exi_run.specs.Wholes.{IsWhole, IsFront};
 
 use exi_reader::laws::{a_sequence_is_there, one_sequence};
 
-/// Bytes have, under the options of the words, exactly one list of events, with one end.
+/// Bytes have, by the options of the words and by a schema, if one is known, exactly one list of events, with one end.
 pub fn one_whole()
-    ensures there { (words : Options) (bytes : List ℕ) → (es : List Happening) × (e : Ending) × IsWhole words bytes es e }
-    ensures one { (words : Options) (bytes : List ℕ) (es fs : List Happening) (d e : Ending) → IsWhole words bytes es d → IsWhole words bytes fs e → (es ≡ fs) × (d ≡ e) }
+    ensures there { (basis : Basis) (bytes : List ℕ) → (es : List Happening) × (e : Ending) × IsWhole basis bytes es e }
+    ensures one { (basis : Basis) (bytes : List ℕ) (es fs : List Happening) (d e : Ending) → IsWhole basis bytes es d → IsWhole basis bytes fs e → (es ≡ fs) × (d ≡ e) }
 {
     a_sequence_is_there();
     one_sequence();
@@ -18,16 +18,19 @@ pub fn one_whole()
 
 /// First events of the bytes are the first of all of them.
 pub fn front_of_whole()
-    ensures { (words : Options) (bytes : List ℕ) (es fs : List Happening) (e : Ending) → IsFront words bytes es → IsWhole words bytes fs e → (rest : List Happening) × (fs ≡ es ++ rest) }
+    ensures { (basis : Basis) (bytes : List ℕ) (es fs : List Happening) (e : Ending) → IsFront basis bytes es → IsWhole basis bytes fs e → (rest : List Happening) × (fs ≡ es ++ rest) }
 {
     one_sequence();
 }
 
-/// What is written of a text is read again, to the last bit that was written: the events that the options leave of those that
-/// the text says, one by one.
+/// What is written of a text, by a schema or without one, is read again, to the last bit that was written: the events that the
+/// options leave of those that the text says, one by one.
 pub fn written_is_read()
     ensures { WrittenIsRead }
 {
     exi_writing::laws::written_is_read();
+    exi_writer::laws::written_is_same();
+    exi_writer::laws::written_is_same_text();
+    exi_gram::laws::without_schema_is_schema();
     exi_header::laws::written_is_read();
 }

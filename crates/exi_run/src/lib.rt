@@ -3,7 +3,8 @@
 //! ```text
 //!   words ──▶ run ◀── shelf: the files that the words name
 //!              │
-//!              ├─ header       its options, or those of the words
+//!              ├─ schema       the grammars of a document, where the words name one
+//!              ├─ header       its options, or those of the words; and which schema, if any
 //!              ├─ body         read_from ──▶ printer: one event, one line; or one self-contained element, one line
 //!              └─ last line    done BIT, or fault KIND BIT
 //!                                  ──▶ sink

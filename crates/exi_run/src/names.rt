@@ -12,6 +12,8 @@ pub(crate) enum Valued {
     MaxLength,
     /// `--value-partition-capacity N`.
     Capacity,
+    /// `--schema FILE`.
+    Schema,
     /// `--schema-id TEXT`.
     SchemaId,
 }
@@ -81,6 +83,8 @@ impl Named {
             Some(Named::Value(Valued::MaxLength))
         } else if name == "--value-partition-capacity" {
             Some(Named::Value(Valued::Capacity))
+        } else if name == "--schema" {
+            Some(Named::Value(Valued::Schema))
         } else if name == "--schema-id" {
             Some(Named::Value(Valued::SchemaId))
         } else if name == "--told" {

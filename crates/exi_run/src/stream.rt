@@ -1,16 +1,17 @@
-ghost use Rattle.std.specs.Prelude.{◌≡◌, ◌≤◌, ◌∷◌, [], Some, ℕ, false, length, IfOk, IsErrOf};
+ghost use Rattle.std.specs.Prelude.{◌≡◌, ◌≤◌, ◌∷◌, [], Some, None, ℕ, false, length, option_copied, IfOk, IsErrOf};
+ghost use Rattle.exi_gram.specs.Schemas.{IsSchema};
 ghost use Rattle.exi_gram.specs.Switches.{conflicts};
 ghost use Rattle.exi_names.specs.Events.{Rose};
 ghost use Rattle.exi_reader.specs.Reading.{IsJob, Sequences, job_of};
 ghost use Rattle.exi_meter.specs.Metering.{stream_bounds};
 ghost use Rattle.exi_reader.specs.declared.start.Start.TheVariants as start;
-ghost use Rattle.exi_run.specs.Answers.{Did, DidEvents, DidLast, GrowsByFront, Served};
-ghost use Rattle.exi_run.specs.Dues.{Due, OwedOf, most_bytes};
+ghost use Rattle.exi_run.specs.Answers.{Did, DidEvents, DidLast, GrowsByFront, Informs, Served};
+ghost use Rattle.exi_run.specs.Dues.{Due, OwedOf, OwedOfBoth, OwedOfStream, most_bytes};
 ghost use Rattle.exi_run.specs.Endings.{last_line};
 ghost use Rattle.exi_run.specs.Forms.{last_pieces};
 ghost use Rattle.exi_run.specs.Printing.{PrintsBody};
 ghost use Rattle.exi_run.specs.Statuses.{IsTold};
-ghost use Rattle.exi_run.specs.Tasks.{telling_task};
+ghost use Rattle.exi_run.specs.Tasks.{names_of, telling_task, terms_told};
 ghost use Rattle.exi_run.specs.declared.form.Form.TheVariants as form;
 
 use crate::command::Telling;
@@ -23,10 +24,10 @@ use crate::printer::TextPrinter;
 use crate::starts::StartPrinter;
 use crate::status::Status;
 use exi_bits::Stop;
-use exi_gram::Options;
+use exi_gram::{Options, Schema};
 use exi_meter::Limits;
-use exi_names::EventOut;
-use exi_opening::{accepted_header, book_of};
+use exi_names::{EventOut, Octets, Txt};
+use exi_opening::stream_header;
 use exi_ports::{Shelf, Sink};
 use exi_reader::{End, Job, ReadStop, Start, read_from};
 use exi_steps::Steps;
@@ -34,6 +35,8 @@ use exi_tables::PlaceTables;
 use std::alloc::Global;
 use std::marker::Brand;
 use std::sync::ledger::{Blank, Ledger};
+use xsd_file::laws::one_document;
+use xsd_file::{SchemaHalt, book_by, read_document};
 
 /// The events of a body, to what takes them. The steps that it counts are not looked at.
 fn read_on<L: Ledger, E: EventOut>(
@@ -97,28 +100,31 @@ fn print_body<O: Sink>(
     }
 }
 
-/// The events of a stream in a form.
+/// The events of a stream in a form, by the options of the words and by a schema that is known, if there is one, which the stream may
+/// name by this name.
 fn print_events<O: Sink>(
     alloc: Global,
     form: Form,
     words: &Options,
+    schema: Option<Schema>,
+    name: Option<&str>,
     bytes: &[u8],
     out: &mut O,
 ) -> Result<Ending, Halt>
     requires few { length bytes.now ≤ most_bytes }
     requires free { conflicts words.now ≡ false }
-    ensures printed { DidEvents form words.now bytes.now result (O.taken out.old) (O.taken out.new) }
+    ensures printed { DidEvents form (record { options = words.now; schema = schema; name = option_copied name.entry }) bytes.now result (O.taken out.old) (O.taken out.new) }
     ensures later { O.faults out.old ≤ O.faults out.new }
     ensures write { IsErrOf result Halt.Write → Rose (O.faults out.old) (O.faults out.new) }
 {
     one_whole();
-    let header = match accepted_header(alloc, bytes, words) {
+    let header = match stream_header(alloc, bytes, words, name) {
         Ok(header) => header,
         Err(Stop::Fault(fault)) => return Ok(Ending::Fault(fault)),
         Err(Stop::Memory) => return Err(Halt::Memory),
     };
     let body = header.body;
-    let book = book_of(alloc, header.options)?;
+    let book = book_by(alloc, schema, header.options)?;
     let job = Job {
         book: &book,
         bytes,
@@ -157,19 +163,120 @@ fn print_stream<O: Sink>(
     alloc: Global,
     form: Form,
     words: &Options,
+    schema: Option<Schema>,
+    name: Option<&str>,
     bytes: &[u8],
     out: &mut O,
 ) -> Result<Status, Halt>
     requires few { length bytes.now ≤ most_bytes }
     requires free { conflicts words.now ≡ false }
-    ensures printed { (due : Due) × OwedOf form words.now bytes.now due × Did due result (O.taken out.old) (O.taken out.new) }
+    ensures printed { (due : Due) × OwedOf form (record { options = words.now; schema = schema; name = option_copied name.entry }) bytes.now due × Did due result (O.taken out.old) (O.taken out.new) }
     ensures later { O.faults out.old ≤ O.faults out.new }
     ensures write { IsErrOf result Halt.Write → Rose (O.faults out.old) (O.faults out.new) }
     ensures told { IfOk result IsTold }
+    ensures failed { IsErrOf result (Halt.Refused Refusal.ReadFailed) → ⊥ }
 {
-    let end = print_events(alloc, form, words, bytes, out)?;
+    let end = print_events(alloc, form, words, schema, name, bytes, out)?;
     put_last(alloc, form, end, out)?;
     Ok(end.status())
+}
+
+/// The schema that a document makes known.
+pub(crate) fn schema_in(alloc: Global, document: Octets) -> Result<Schema, Halt>
+    requires few { length document ≤ most_bytes }
+    ensures informs { Informs document result }
+    ensures schema { IfOk result (λ s. IsSchema s) }
+{
+    match read_document(alloc, document.as_slice()) {
+        Ok(known) => Ok(known.schema),
+        Err(SchemaHalt::Refused(why)) => Err(Halt::Refused(Refusal::Schema(why))),
+        Err(SchemaHalt::Memory) => Err(Halt::Memory),
+    }
+}
+
+/// A stream in a form, by the schema that a document makes known.
+fn print_informed<O: Sink>(
+    alloc: Global,
+    telling: &Telling<'_>,
+    document: Octets,
+    bytes: &[u8],
+    out: &mut O,
+) -> Result<Status, Halt>
+    requires document { length document ≤ most_bytes }
+    requires few { length bytes.now ≤ most_bytes }
+    requires free { conflicts telling.now.options ≡ false }
+    ensures printed { (due : Due) × OwedOfBoth (OwedOfStream telling.now.form (terms_told telling.now)) document bytes.now due × Did due result (O.taken out.old) (O.taken out.new) }
+    ensures later { O.faults out.old ≤ O.faults out.new }
+    ensures write { IsErrOf result Halt.Write → Rose (O.faults out.old) (O.faults out.new) }
+    ensures failed { IsErrOf result (Halt.Refused Refusal.ReadFailed) → ⊥ }
+    ensures told { IfOk result IsTold }
+{
+    one_whole();
+    one_document();
+    let schema = schema_in(alloc, document)?;
+    print_stream(
+        alloc,
+        telling.form,
+        &telling.options,
+        Some(schema),
+        telling.name,
+        bytes,
+        out,
+    )
+}
+
+/// The stream of a file without a schema's document.
+fn tell_plain<F: Shelf, O: Sink>(
+    alloc: Global,
+    telling: &Telling<'_>,
+    shelf: &mut F,
+    out: &mut O,
+) -> Result<Status, Halt>
+    requires free { conflicts telling.now.options ≡ false }
+    requires plain { option_copied telling.now.document ≡ None }
+    ensures served { Served (Some (telling_task telling.now)) (F.files shelf.old) (Rose (F.faults shelf.old) (F.faults shelf.new)) result (O.taken out.old) (O.taken out.new) }
+    ensures asked { GrowsByFront (F.asked shelf.old) (names_of (Some (telling_task telling.now))) (F.asked shelf.new) }
+    ensures later { O.faults out.old ≤ O.faults out.new }
+    ensures write { IsErrOf result Halt.Write → Rose (O.faults out.old) (O.faults out.new) }
+    ensures failed { IsErrOf result (Halt.Refused Refusal.ReadFailed) → Rose (F.faults shelf.old) (F.faults shelf.new) }
+    ensures told { IfOk result IsTold }
+{
+    one_whole();
+    let input = fetch_file(alloc, shelf, telling.file, Role::Input)?;
+    print_stream(
+        alloc,
+        telling.form,
+        &telling.options,
+        None,
+        None,
+        input.as_slice(),
+        out,
+    )
+}
+
+/// The stream of a file with a schema's document in another, which is fetched first.
+fn tell_informed<F: Shelf, O: Sink>(
+    alloc: Global,
+    telling: &Telling<'_>,
+    document: &str,
+    shelf: &mut F,
+    out: &mut O,
+) -> Result<Status, Halt>
+    requires free { conflicts telling.now.options ≡ false }
+    requires informed { option_copied telling.now.document ≡ Some document.now }
+    ensures served { Served (Some (telling_task telling.now)) (F.files shelf.old) (Rose (F.faults shelf.old) (F.faults shelf.new)) result (O.taken out.old) (O.taken out.new) }
+    ensures asked { GrowsByFront (F.asked shelf.old) (names_of (Some (telling_task telling.now))) (F.asked shelf.new) }
+    ensures later { O.faults out.old ≤ O.faults out.new }
+    ensures write { IsErrOf result Halt.Write → Rose (O.faults out.old) (O.faults out.new) }
+    ensures failed { IsErrOf result (Halt.Refused Refusal.ReadFailed) → Rose (F.faults shelf.old) (F.faults shelf.new) }
+    ensures told { IfOk result IsTold }
+{
+    one_whole();
+    one_document();
+    let name = Txt::of(alloc, document)?;
+    let document = fetch_file(alloc, shelf, &name, Role::Schema)?;
+    let input = fetch_file(alloc, shelf, telling.file, Role::Input)?;
+    print_informed(alloc, telling, document, input.as_slice(), out)
 }
 
 /// The stream of a file, in the form that a command tells it.
@@ -181,13 +288,14 @@ pub(crate) fn tell_stream<F: Shelf, O: Sink>(
 ) -> Result<Status, Halt>
     requires free { conflicts telling.now.options ≡ false }
     ensures served { Served (Some (telling_task telling.now)) (F.files shelf.old) (Rose (F.faults shelf.old) (F.faults shelf.new)) result (O.taken out.old) (O.taken out.new) }
-    ensures asked { GrowsByFront (F.asked shelf.old) (telling.now.file.now ∷ []) (F.asked shelf.new) }
+    ensures asked { GrowsByFront (F.asked shelf.old) (names_of (Some (telling_task telling.now))) (F.asked shelf.new) }
     ensures later { O.faults out.old ≤ O.faults out.new }
     ensures write { IsErrOf result Halt.Write → Rose (O.faults out.old) (O.faults out.new) }
     ensures failed { IsErrOf result (Halt.Refused Refusal.ReadFailed) → Rose (F.faults shelf.old) (F.faults shelf.new) }
     ensures told { IfOk result IsTold }
 {
-    one_whole();
-    let input = fetch_file(alloc, shelf, telling.file, Role::Input)?;
-    print_stream(alloc, telling.form, &telling.options, input.as_slice(), out)
+    match telling.document {
+        Some(document) => tell_informed(alloc, telling, document, shelf, out),
+        None => tell_plain(alloc, telling, shelf, out),
+    }
 }

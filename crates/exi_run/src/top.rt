@@ -1,7 +1,6 @@
 ghost use Rattle.std.specs.Prelude.{◌≡◌, ◌≤◌, ◌≢◌, ◌⊎◌, IfOk, IfSome, IsErrOf, None};
 ghost use Rattle.exi_names.specs.Events.{Rose};
-ghost use Rattle.exi_run.specs.Answers.{Answered, AreWithin, Counts, Ends, GrowsByFront, HasLong, IsAnswered, IsCounting, IsLater, IsWriting, OfDocument, OfStream, OfWriting, RefusalPut, RefusesDocument, Served, Starves, StarvesOnly, Tells, Writes, WritesNone};
-ghost use Rattle.exi_run.specs.Backs.{ReadsBack};
+ghost use Rattle.exi_run.specs.Answers.{Answered, AreWithin, Counts, Ends, GrowsByFront, HasDocument, HasLong, IsAnswered, IsBack, IsCounting, IsLater, IsWriting, OfDocument, OfStream, OfWriting, RefusalPut, RefusesDocument, Served, StandsFor, Starves, StarvesOnly, Tells, Writes, WritesNone};
 ghost use Rattle.exi_run.specs.Dues.{refusal_due};
 ghost use Rattle.exi_run.specs.Statuses.{IsOr, IsTold};
 ghost use Rattle.exi_run.specs.Tasks.{IsReadyIf, names_of, needs_of, task_of};
@@ -35,6 +34,7 @@ fn serve<F: Shelf, O: Sink>(
     ensures failed { IsErrOf result (Halt.Refused Refusal.ReadFailed) → Rose (F.faults shelf.old) (F.faults shelf.new) }
     ensures told { IfOk result IsTold }
     ensures ready { IsReadyIf (task_of words.now) }
+    ensures stands { IfOk result (λ s. StandsFor (task_of words.now) (F.files shelf.old)) }
 {
     match command_in(words) {
         Some(Command::Tell(telling)) => tell_stream(alloc, &telling, shelf, out),
@@ -75,6 +75,7 @@ fn respond<F: Shelf, O: Sink>(alloc: Global, words: &[Txt], shelf: &mut F, out: 
     ensures write_fault { result ≡ Status.WriteFault → Rose (O.faults out.old) (O.faults out.new) }
     ensures read_fault { result ≡ Status.ReadFault → Rose (F.faults shelf.old) (F.faults shelf.new) }
     ensures ready { IsReadyIf (task_of words.now) }
+    ensures stands { result ≡ Status.Ok → StandsFor (task_of words.now) (F.files shelf.old) }
 {
     match serve(alloc, words, shelf, out) {
         Ok(status) => status,
@@ -85,15 +86,18 @@ fn respond<F: Shelf, O: Sink>(alloc: Global, words: &[Txt], shelf: &mut F, out: 
 }
 
 /// Does what the words ask for: `read FILE` reads an EXI stream and puts it as text, `index FILE` puts where its
-/// self-contained elements begin; options that the stream's header leaves to the words stand beside FILE. `write FILE`
-/// writes the stream of an event text, as `read` puts it without its last line, by the options of the words. `schema FILE` reads a
-/// schema document, which is such a stream, and puts how many elements, attributes and types it declares for the whole schema.
+/// self-contained elements begin; options that the stream's header leaves to the words stand beside FILE, and so may a file with a
+/// schema's document, whose grammars the stream then goes by, unless its header says otherwise. `write FILE`
+/// writes the stream of an event text, as `read` puts it without its last line, by the options of the words and by the grammars of a
+/// schema's document, if one stands beside FILE. `schema FILE` reads a schema document, which is such a stream, and puts how many
+/// elements, attributes and types it declares for the whole schema.
 ///
-/// The file is fetched from `shelf` once, at most 64 MiB of it. Of `read`, `out` takes one line for each event and
+/// Each file is fetched from `shelf` once, at most 64 MiB of it, and all of them before any is read. Of `read`, `out` takes one line for each event and
 /// then one for the end, `done BIT` or `fault KIND BIT`; of `index`, one line for each self-contained element, the byte
 /// at which it begins, and then that of a fault. Each line is one put, and nothing more is put after one that fails.
 /// Of `write`, `out` takes the whole stream in one put, or one line that says why there is none. Of `schema`, `out` takes three
-/// lines, `elements N`, `attributes N` and `types N`, or one line that says why the document is refused.
+/// lines, `elements N`, `attributes N` and `types N`. Where a schema's document is refused, `out` takes the one line that says why,
+/// and no stream is read or written.
 /// `rt` and `gate` are for workers, of which these commands have none yet.
 pub fn run<R: Threads + Wait + Sync, F: Shelf, O: Sink, G: Gate>(
     _rt: &R,
@@ -104,23 +108,25 @@ pub fn run<R: Threads + Wait + Sync, F: Shelf, O: Sink, G: Gate>(
     _gate: &G,
 ) -> Status
     // The stream was read to its end or its fault: the sink took the text of exactly the events and the
-    // end that sequential processing gives for the bytes of the file.
-    ensures read { OfStream form.Text (task_of words.now) (F.files shelf.old) (λ options bytes. IsTold result → Tells form.Text options result (O.taken out.old) (O.taken out.new) bytes) }
+    // end that sequential processing gives for the bytes of the file, by the schema of the document where one is given.
+    ensures read { OfStream form.Text (task_of words.now) (F.files shelf.old) (λ terms document bytes. IsTold result → Tells form.Text terms result (O.taken out.old) (O.taken out.new) document bytes) }
 
     // The same for an index: exactly the bytes at which sequential processing meets self-contained elements, in order.
-    ensures index { OfStream form.Starts (task_of words.now) (F.files shelf.old) (λ options bytes. IsTold result → Tells form.Starts options result (O.taken out.old) (O.taken out.new) bytes) }
+    ensures index { OfStream form.Starts (task_of words.now) (F.files shelf.old) (λ terms document bytes. IsTold result → Tells form.Starts terms result (O.taken out.old) (O.taken out.new) document bytes) }
 
     // With status Ok of `write` the sink took the header and the body that the definition of writing gives for the
-    // events that the text says, and nothing else.
-    ensures write { OfWriting (task_of words.now) (F.files shelf.old) (λ wish text. result ≡ Status.Ok → Writes wish (O.taken out.old) (O.taken out.new) text) }
+    // events that the text says, by the schema of the document where one is given, and nothing else.
+    ensures write { OfWriting (task_of words.now) (F.files shelf.old) (λ wish document text. result ≡ Status.Ok → Writes wish (O.taken out.old) (O.taken out.new) document text) }
 
-    // Reading that stream by the same options ends at the last bit that was written, and gives the events of the text that the
-    // options leave, one by one: each value as the string that it was written as.
-    ensures read_back { OfWriting (task_of words.now) (F.files shelf.old) (λ wish text. ReadsBack wish text) }
+    // Reading that stream by the same options and the same schema ends at the last bit that was written, and gives the events of the
+    // text that the options leave, one by one: each value as the one that its canonical text has under the datatype by which it was
+    // written, without a schema as that text.
+    ensures read_back { OfWriting (task_of words.now) (F.files shelf.old) (λ wish document text. IsBack wish result document text) }
 
     // With status Events there is no such stream, and the sink took one line: the first line of the text that says no
-    // event, or else the first event that no production stands for or that passes a limit.
-    ensures events { OfWriting (task_of words.now) (F.files shelf.old) (λ wish text. result ≡ Status.Events → WritesNone wish (O.taken out.old) (O.taken out.new) text) }
+    // event, or else the first event that no production stands for or that passes a limit. The schema's document, where one is given,
+    // was not refused.
+    ensures events { OfWriting (task_of words.now) (F.files shelf.old) (λ wish document text. result ≡ Status.Events → WritesNone wish (O.taken out.old) (O.taken out.new) document text) }
     ensures events_only { result ≡ Status.Events → IsWriting (task_of words.now) }
 
     // Where memory runs out, nothing of a stream was put. So it is with a refusal, by the clause below.
@@ -128,11 +134,12 @@ pub fn run<R: Threads + Wait + Sync, F: Shelf, O: Sink, G: Gate>(
 
     // With status Ok of `schema` the sink took how many elements, attributes and types the document declares that the whole
     // schema knows by name: three lines, and nothing else.
-    ensures schema { OfDocument (task_of words.now) (F.files shelf.old) (λ bytes. result ≡ Status.Ok → Counts (O.taken out.old) (O.taken out.new) bytes) }
+    ensures schema { IsCounting (task_of words.now) → OfDocument (task_of words.now) (F.files shelf.old) (λ bytes. result ≡ Status.Ok → Counts (O.taken out.old) (O.taken out.new) bytes) }
 
-    // With status Schema it is refused, and the sink took one line: the fault of its stream, or else the document's first fault.
+    // With status Schema, of `schema` and of a stream that is read or written beside a schema's document, this is refused, and the
+    // sink took one line: the fault of its stream, or else the document's first fault.
     ensures schema_refused { OfDocument (task_of words.now) (F.files shelf.old) (λ bytes. result ≡ Status.Schema → RefusesDocument (O.taken out.old) (O.taken out.new) bytes) }
-    ensures schema_only { result ≡ Status.Schema → IsCounting (task_of words.now) }
+    ensures schema_only { result ≡ Status.Schema → HasDocument (task_of words.now) }
 
     // With every status: what is owed for the words, the files and the stream was put, all of it, or for
     // WriteFault a front of it, or for NoMemory first pieces of it and a word on the want of memory.

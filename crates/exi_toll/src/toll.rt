@@ -1,5 +1,5 @@
 ghost use Rattle.std.specs.Prelude.{◌≡◌, [], ◌∷◌, Ok, true};
-ghost use Rattle.exi_toll.specs.Charges.{Settles, charge, charge_event, charge_level};
+ghost use Rattle.exi_toll.specs.Charges.{AreKept, Settles, charge, charge_event, charge_level, is_within};
 
 use crate::stop::PutStop;
 use exi_bits::Kind;
@@ -56,6 +56,19 @@ impl Toll {
     {
         if self.refused.is_none() && !self.meter.text(u128::from(units)) {
             self.refused = Some(Kind::TextLimit);
+        }
+    }
+
+    /// Whether each charge so far is within its limit.
+    pub fn is_within(&self) -> bool
+        ensures value { result ≡ is_within self.now }
+        ensures kept { AreKept self.now }
+    {
+        // what a meter took is within its limits
+        let _ = self.meter.used();
+        match self.refused {
+            None => true,
+            Some(_) => false,
         }
     }
 

@@ -189,7 +189,7 @@ chosen_up : {X : Type 0} (n : Adding) (b : Bool) (one two : ContextReader X) →
 chosen_up n true one two f g = f
 chosen_up n false one two f g = g
 
-placed_up : (s : Spot) (o : Option (List ℕ)) → Grows {X = List ℕ} none_added (placed_at s o)
+pub placed_up : (s : Spot) (o : Option (List ℕ)) → Grows {X = List ℕ} none_added (placed_at s o)
 unfolding charged_at
 placed_up s None x c d r = absurd cc
 placed_up s (Some text) x c d r = paying_up none_added (length text) (λ e. told {X = List ℕ × ReadState} (text, e)) (told_up (λ e. text)) x c d r
@@ -249,7 +249,7 @@ module _ (keep : Bool) (a : Align) where
   abbrev in_space : ℕ → List ℕ → List ℕ → Option (List ℕ) → ReadState → Named
   in_space uri space local prefix c = named_of (record { uri = uri; local = place_in (locals c.context.tables uri) local }) space local prefix
 
-  under_up : (uri : ℕ) (space : List ℕ) → Grows {X = Named} one_local (name_under keep a uri space)
+  pub under_up : (uri : ℕ) (space : List ℕ) → Grows {X = Named} one_local (name_under keep a uri space)
   unfolding name_under
   under_up uri space = chained_up one_local none_added (local_at a uri) (λ local c. prefix_at keep a uri c >>= λ prefix. told {X = Named × ReadState} (in_space uri space local prefix.0 prefix.1, prefix.1)) (local_up a uri)
       (λ local. chained_up none_added none_added (prefix_at keep a uri) (λ prefix c. told {X = Named × ReadState} (in_space uri space local prefix c, c)) (prefix_up keep a uri) (λ prefix. told_up (in_space uri space local prefix)))

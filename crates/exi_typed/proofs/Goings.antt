@@ -164,7 +164,7 @@ chosen_goes true one two f g = f
 chosen_goes false one two f g = g
 
 -- ---- texts
-placed_goes : (s : Spot) (o : Option (List ℕ)) → ReadsOn {X = List ℕ} (placed_at s o)
+pub placed_goes : (s : Spot) (o : Option (List ℕ)) → ReadsOn {X = List ℕ} (placed_at s o)
 unfolding charged_at
 placed_goes s None x c d r = absurd cc
 placed_goes s (Some text) x c d r = paying_goes (length text) (λ e. told {X = List ℕ × ReadState} (text, e)) (told_goes (λ e. text)) x c d r
@@ -236,7 +236,7 @@ module _ (keep : Bool) (a : Align) where
   abbrev in_space : ℕ → List ℕ → List ℕ → Option (List ℕ) → ReadState → Named
   in_space uri space local prefix c = named_of (record { uri = uri; local = place_in (locals c.context.tables uri) local }) space local prefix
 
-  under_goes : (uri : ℕ) (space : List ℕ) → ReadsOn {X = Named} (name_under keep a uri space)
+  pub under_goes : (uri : ℕ) (space : List ℕ) → ReadsOn {X = Named} (name_under keep a uri space)
   unfolding name_under
   under_goes uri space = chained_goes (local_at a uri) (λ local c. prefix_at keep a uri c >>= λ prefix. told {X = Named × ReadState} (in_space uri space local prefix.0 prefix.1, prefix.1)) (local_goes a uri)
       (λ local. chained_goes (prefix_at keep a uri) (λ prefix c. told {X = Named × ReadState} (in_space uri space local prefix c, c)) (prefix_goes keep a uri) (λ prefix. told_goes (in_space uri space local prefix)))

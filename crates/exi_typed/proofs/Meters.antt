@@ -95,7 +95,7 @@ charged_metered : (text : List ℕ) → IsMetered (charged_at text)
 unfolding charged_at
 charged_metered text = paying_metered (length text) (λ c. told {X = List ℕ × ReadState} (text, c)) (pure_metered text)
 
-placed_metered : (s : Spot) (o : Option (List ℕ)) → IsMetered (placed_at s o)
+pub placed_metered : (s : Spot) (o : Option (List ℕ)) → IsMetered (placed_at s o)
 placed_metered s (Some text) t p = charged_metered text t p
 placed_metered s None t p = record { charges = []; rest = Err (record { kind = kind.BadPlace; bit = s.place }); is = λ m. refl }
 
@@ -152,7 +152,7 @@ module _ (keep : Bool) (a : Align) where
   abbrev in_space : ℕ → List ℕ → List ℕ → Option (List ℕ) → Partitions → Named
   in_space uri space local prefix p = named_of (record { uri = uri; local = place_in (locals p uri) local }) space local prefix
 
-  under_metered : (uri : ℕ) (space : List ℕ) → IsMetered (name_under keep a uri space)
+  pub under_metered : (uri : ℕ) (space : List ℕ) → IsMetered (name_under keep a uri space)
   unfolding name_under
   under_metered uri space = bind_metered (local_at a uri) (λ local c. prefix_at keep a uri c >>= λ prefix. told {X = Named × ReadState} (in_space uri space local prefix.0 prefix.1.context.tables, prefix.1)) (local_metered a uri)
       (λ local. bind_metered (prefix_at keep a uri) (λ prefix c. told {X = Named × ReadState} (in_space uri space local prefix c.context.tables, c)) (prefix_metered keep a uri)

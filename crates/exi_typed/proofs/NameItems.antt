@@ -110,9 +110,9 @@ module _ (keep : Bool) (a : Align) where
         spelled = record { between = h.between; first = h.first; second = h.second; parts = h.parts; paid = h.paid; owed = h.owed; charges = h.charges; front = h.front; behind = record { from = n.name.prefix; is = is; spelled = h.behind } };
       }
 
-  under : (uri : ℕ) (space : List ℕ) → ContextItem {X = Named} a (name_under keep a uri space) (SpellsNameUnder keep a uri space)
+  pub item_under : (uri : ℕ) (space : List ℕ) → ContextItem {X = Named} a (name_under keep a uri space) (SpellsNameUnder keep a uri space)
   unfolding name_under
-  under uri space = in_words a (name_under keep a uri space) (UnderBits uri space) (SpellsNameUnder keep a uri space) (to_under uri space) (from_under uri space)
+  item_under uri space = in_words a (name_under keep a uri space) (UnderBits uri space) (SpellsNameUnder keep a uri space) (to_under uri space) (from_under uri space)
       (chained a (local_at a uri) (λ local c. prefix_at keep a uri c >>= λ prefix. told {X = Named × ReadState} (named_in uri space local prefix.0 prefix.1.context.tables, prefix.1)) (SpellsLocal a uri) (λ local. MadeInContext (named_in uri space local) (SpellsPrefix keep a uri))
       (item_local a uri) (λ local. made a (prefix_at keep a uri) (named_in uri space local) (SpellsPrefix keep a uri) (item_prefix keep a uri)))
 
@@ -145,7 +145,7 @@ module _ (keep : Bool) (a : Align) where
   unfolding name_at
   item_name = in_words a (name_at keep a) NameBits (SpellsName keep a) to_name from_name
       (chained a (uri_at a) (λ space c. name_under keep a (place_in (uris c.context.tables) space) space c) (SpellsUri a) UnderUri
-      (item_uri a) (λ space. at_start a (λ s p. name_under keep a (place_in (uris p) space) space) (λ w. SpellsNameUnder keep a (place_in (uris w) space) space) (λ s p. under (place_in (uris p) space) space)))
+      (item_uri a) (λ space. at_start a (λ s p. name_under keep a (place_in (uris p) space) space) (λ w. SpellsNameUnder keep a (place_in (uris w) space) space) (λ s p. item_under (place_in (uris p) space) space)))
 
 -- ---- a name that the event code tells
 module _ (keep : Bool) (a : Align) (id : NameId) where

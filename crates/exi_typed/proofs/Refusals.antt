@@ -457,7 +457,7 @@ module _ (a : Align) where
   abbrev in_space : ℕ → List ℕ → List ℕ → Option (List ℕ) → ReadState → Named
   in_space uri space local prefix c = named_of (record { uri = uri; local = place_in (locals c.context.tables uri) local }) space local prefix
 
-  under_refusal : (keep : Bool) (uri : ℕ) (space : List ℕ) → IsRefusal {X = Named} a (name_under keep a uri space) (RefusesNameUnder keep a uri)
+  pub under_refusal : (keep : Bool) (uri : ℕ) (space : List ℕ) → IsRefusal {X = Named} a (name_under keep a uri space) (RefusesNameUnder keep a uri)
   unfolding name_under
   under_refusal keep uri space = next_refusal (local_at a uri) (λ local c. prefix_at keep a uri c >>= λ prefix. told {X = Named × ReadState} (in_space uri space local prefix.0 prefix.1, prefix.1)) (RefusesLocal a uri) (SpellsLocal a uri) (λ local. RefusesPrefix keep a uri)
       (local_refusal uri) (item_local a uri) (λ local. told_refusal (prefix_at keep a uri) (RefusesPrefix keep a uri) (in_space uri space local) (prefix_refusal keep uri))
@@ -468,13 +468,13 @@ module _ (a : Align) where
       uri_refusal (item_uri a) (λ space. start_refusal (λ s w. name_under keep a (place_in (uris w.tables) space) space) (λ s w. RefusesNameUnder keep a (place_in (uris w.tables) space)) (λ s w. under_refusal keep (place_in (uris w.tables) space) space))
 
   -- a text that stands at a place of the tables
-  told_item : (s : Spot) (text_in : Partitions → Option (List ℕ)) → ContextItem {X = List ℕ} a (λ c. placed_at s (text_in c.context.tables) c) (λ x p. SpellsPlaced (text_in p) x p)
+  pub told_item : (s : Spot) (text_in : Partitions → Option (List ℕ)) → ContextItem {X = List ℕ} a (λ c. placed_at s (text_in c.context.tables) c) (λ x p. SpellsPlaced (text_in p) x p)
   told_item s text_in = in_words a (λ c. placed_at s (text_in c.context.tables) c) (λ x p. IsTold (text_in p) x p) (λ x p. SpellsPlaced (text_in p) x p)
       (λ x p q ks text h. record { stands = h.stands; charged = record { bits = h.bits; charges = h.charges; after = h.after } })
       (λ x p q ks text h. record { stands = h.stands; bits = h.charged.bits; charges = h.charged.charges; after = h.charged.after })
       (at_start a (λ t r. placed_at s (text_in r)) (λ p. IsTold (text_in p)) (λ t r. placed a s (text_in r)))
 
-  told_at : (s : Spot) (text_in : Partitions → Option (List ℕ)) → IsRefusal {X = List ℕ} a (λ c. placed_at s (text_in c.context.tables) c) (λ v t. RefusesPlaced s (text_in v.tables) v t)
+  pub told_at : (s : Spot) (text_in : Partitions → Option (List ℕ)) → IsRefusal {X = List ℕ} a (λ c. placed_at s (text_in c.context.tables) c) (λ v t. RefusesPlaced s (text_in v.tables) v t)
   told_at s text_in = start_refusal (λ t w. placed_at s (text_in w.tables)) (λ t w. RefusesPlaced s (text_in w.tables)) (λ t w. placed_refusal s (text_in w.tables))
 
   pub known_refusal : (keep : Bool) (id : NameId) → IsRefusal {X = Named} a (known_at keep a id) (RefusesKnown keep a id)

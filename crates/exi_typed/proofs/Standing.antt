@@ -41,7 +41,7 @@ at_the_end (y ∷ xs) x = at_the_end xs x
 abbrev Leaves : List (List ℕ) → Growth → List ℕ → ReadState → ReadState → Type 0
 Leaves partition grow x c d = (StandsIn partition x × (d.context.tables ≡ c.context.tables)) ⊎ (d.context.tables ≡ grow c.context.tables x)
 
-placed_leaves : (s : Spot) (o : Option (List ℕ)) (x : List ℕ) (c d : ReadState) → placed_at s o c ≡ told (x, d) → (o ≡ Some x) × (d.context.tables ≡ c.context.tables)
+pub placed_leaves : (s : Spot) (o : Option (List ℕ)) (x : List ℕ) (c d : ReadState) → placed_at s o c ≡ told (x, d) → (o ≡ Some x) × (d.context.tables ≡ c.context.tables)
 unfolding charged_at
 placed_leaves s None x c d r = absurd cc
 placed_leaves s (Some text) x c d r =
@@ -126,7 +126,7 @@ local_stands a uri x c d within r = either (local_leaves a uri x c d r)
 abbrev named_in : ℕ → List ℕ → List ℕ → Option (List ℕ) → ReadState → Named
 named_in uri space local prefix c = record { id = record { uri = uri; local = place_in (locals c.context.tables uri) local }; name = record { uri = space; local = local; prefix = prefix } }
 
-under_stands : (keep : Bool) (a : Align) (uri : ℕ) (space : List ℕ) (n : Named) (c d : ReadState) → IsLeast (uris c.context.tables) space uri → name_under keep a uri space c ≡ told (n, d) → Stands d.context.tables n
+pub under_stands : (keep : Bool) (a : Align) (uri : ℕ) (space : List ℕ) (n : Named) (c d : ReadState) → IsLeast (uris c.context.tables) space uri → name_under keep a uri space c ≡ told (n, d) → Stands d.context.tables n
 unfolding name_under
 under_stands keep a uri space n c d least r =
     let u = bind_told (local_at a uri c) (λ (local : List ℕ × ReadState). prefix_at keep a uri local.1 >>= λ prefix. told {X = Named × ReadState} (named_in uri space local.0 prefix.0 prefix.1, prefix.1)) (n, d) r in

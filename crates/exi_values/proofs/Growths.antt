@@ -120,7 +120,7 @@ one_grows r a name adds v c d e =
 same_grows : (c : ReadState) → GrowsBy 0 c c
 same_grows c = record { charged = omega arith; few = λ most new le few. few_more most new c.context.tables (omega (arith, le)) few }
 
-grows_then : (m n k : ℕ) (c d e : ReadState) → m + n ≡ k → GrowsBy m c d → GrowsBy n d e → GrowsBy k c e
+pub grows_then : (m n k : ℕ) (c d e : ReadState) → m + n ≡ k → GrowsBy m c d → GrowsBy n d e → GrowsBy k c e
 grows_then m n k c d e sum f g = record {
   charged = omega (arith, f.charged, g.charged);
   few = λ most new le few. (

@@ -20,7 +20,7 @@ use Rattle.exi_typed.specs.Written.{after_item, after_name, after_string, after_
 use Rattle.exi_typed.proofs.Additions.{Adding, Up, Within, few_up, local_more, none_added, nothing_within, one_item, up_same, up_then, up_within, uri_more, value_more}
 use Rattle.exi_typed.proofs.Goings.{same_keeps}
 use Rattle.exi_values.specs.WriteStops.{HasPlaces, LeavesWritten}
-use Rattle.exi_values.specs.Written.{after_list, after_row, after_set, after_valued, has_xml, have_xml, items_among, items_in, row_bits, valued_bits}
+use Rattle.exi_values.specs.Written.{after_list, after_row, after_set, after_valued, has_xml, have_xml, items_among, items_in, items_listed, row_bits, valued_bits}
 use Rattle.exi_values.proofs.Growths.{few_more}
 use Rattle.exi_values.proofs.Rows.{name_kept}
 
@@ -94,39 +94,39 @@ set_up p name (value.binary h o) = none_up p
 set_up p name (value.items vs) = none_up p
 set_up p name (value.name n) = none_up p
 
-row_grows : (after : Partitions → Value → Partitions) → ((v : Value) (k : ℕ) (p : Partitions) → NoneLonger k p → NoneLonger (k + 1 + items_in v) (after p v)) → (vs : Values) (k : ℕ) (p : Partitions) → NoneLonger k p → NoneLonger (k + items_among vs) (after_row after p vs)
-row_grows after one no_more k p few = few_more k (k + 0) p (omega arith) few
-row_grows after one (and v vs) k p few = few_more (k + 1 + items_in v + items_among vs) (k + (suc (items_in v) + items_among vs)) (after_row after (after p v) vs) (omega arith) (row_grows after one vs (k + 1 + items_in v) (after p v) (one v k p few))
+row_grows : (after : Partitions → Value → Partitions) (more : Value → ℕ) → ((v : Value) (k : ℕ) (p : Partitions) → NoneLonger k p → NoneLonger (k + 1 + more v) (after p v)) → (vs : Values) (k : ℕ) (p : Partitions) → NoneLonger k p → NoneLonger (k + items_among more vs) (after_row after p vs)
+row_grows after more one no_more k p few = few_more k (k + 0) p (omega arith) few
+row_grows after more one (and v vs) k p few = few_more (k + 1 + more v + items_among more vs) (k + (suc (more v) + items_among more vs)) (after_row after (after p v) vs) (omega arith) (row_grows after more one vs (k + 1 + more v) (after p v) (one v k p few))
 
-list_grows : (after : Partitions → Value → Partitions) → ((v : Value) (k : ℕ) (p : Partitions) → NoneLonger k p → NoneLonger (k + 1 + items_in v) (after p v)) → (v : Value) (k : ℕ) (p : Partitions) → NoneLonger k p → NoneLonger (k + 1 + items_in v) (after_list after p v)
-list_grows after one (value.items vs) k p few = few_more (k + items_among vs) (k + 1 + items_among vs) (after_row after p vs) (omega arith) (row_grows after one vs k p few)
-list_grows after one (value.text x) k p few = few_more k (k + 1 + 0) p (omega arith) few
-list_grows after one (value.boolean t d) k p few = few_more k (k + 1 + 0) p (omega arith) few
-list_grows after one (value.integer n) k p few = few_more k (k + 1 + 0) p (omega arith) few
-list_grows after one (value.decimal m w b) k p few = few_more k (k + 1 + 0) p (omega arith) few
-list_grows after one (value.float m e) k p few = few_more k (k + 1 + 0) p (omega arith) few
-list_grows after one (value.moment m) k p few = few_more k (k + 1 + 0) p (omega arith) few
-list_grows after one (value.binary h o) k p few = few_more k (k + 1 + 0) p (omega arith) few
-list_grows after one (value.name n) k p few = few_more k (k + 1 + 0) p (omega arith) few
+list_grows : (after : Partitions → Value → Partitions) (more : Value → ℕ) → ((v : Value) (k : ℕ) (p : Partitions) → NoneLonger k p → NoneLonger (k + 1 + more v) (after p v)) → (v : Value) (k : ℕ) (p : Partitions) → NoneLonger k p → NoneLonger (k + 1 + items_listed more v) (after_list after p v)
+list_grows after more one (value.items vs) k p few = few_more (k + items_among more vs) (k + 1 + items_among more vs) (after_row after p vs) (omega arith) (row_grows after more one vs k p few)
+list_grows after more one (value.text x) k p few = few_more k (k + 1 + 0) p (omega arith) few
+list_grows after more one (value.boolean t d) k p few = few_more k (k + 1 + 0) p (omega arith) few
+list_grows after more one (value.integer n) k p few = few_more k (k + 1 + 0) p (omega arith) few
+list_grows after more one (value.decimal m w b) k p few = few_more k (k + 1 + 0) p (omega arith) few
+list_grows after more one (value.float m e) k p few = few_more k (k + 1 + 0) p (omega arith) few
+list_grows after more one (value.moment m) k p few = few_more k (k + 1 + 0) p (omega arith) few
+list_grows after more one (value.binary h o) k p few = few_more k (k + 1 + 0) p (omega arith) few
+list_grows after more one (value.name n) k p few = few_more k (k + 1 + 0) p (omega arith) few
 
-one_grows : (v : Value) (k : ℕ) (p q : Partitions) → Up one_item p q → NoneLonger k p → NoneLonger (k + 1 + items_in v) q
-one_grows v k p q up few = few_up k 1 (k + 1 + items_in v) one_item p q (omega arith) (omega arith) (omega arith) (omega arith) (omega arith) up few
+one_grows : (k : ℕ) (p q : Partitions) → Up one_item p q → NoneLonger k p → NoneLonger (k + 1 + 0) q
+one_grows k p q up few = few_up k 1 (k + 1 + 0) one_item p q (omega arith) (omega arith) (omega arith) (omega arith) (omega arith) up few
 
-grows_written : (r : Representation) (name : NameId) (v : Value) (k : ℕ) (p : Partitions) → NoneLonger k p → NoneLonger (k + 1 + items_in v) (after_valued r name p v)
+grows_written : (r : Representation) (name : NameId) (v : Value) (k : ℕ) (p : Partitions) → NoneLonger k p → NoneLonger (k + 1 + items_in r v) (after_valued r name p v)
 unfolding after_valued
-grows_written (datatype.small least count) name v k p few = one_grows v k p p (none_up p) few
-grows_written datatype.unsigned name v k p few = one_grows v k p p (none_up p) few
-grows_written datatype.integer name v k p few = one_grows v k p p (none_up p) few
-grows_written (datatype.boolean pattern) name v k p few = one_grows v k p p (none_up p) few
-grows_written (datatype.binary hex) name v k p few = one_grows v k p p (none_up p) few
-grows_written datatype.decimal name v k p few = one_grows v k p p (none_up p) few
-grows_written datatype.float name v k p few = one_grows v k p p (none_up p) few
-grows_written (datatype.moment m) name v k p few = one_grows v k p p (none_up p) few
-grows_written (datatype.list item) name v k p few = list_grows (after_valued item name) (grows_written item name) v k p few
-grows_written (datatype.choice base vs) name v k p few = one_grows v k p p (none_up p) few
-grows_written datatype.text name v k p few = one_grows v k p (after_item datatype.text p name v) (text_up p name v) few
-grows_written (datatype.chars set) name v k p few = one_grows v k p (after_set p name v) (set_up p name v) few
-grows_written (datatype.name keep) name v k p few = one_grows v k p (after_item (datatype.name keep) p name v) (named_up keep p name v) few
+grows_written (datatype.small least count) name v k p few = one_grows k p p (none_up p) few
+grows_written datatype.unsigned name v k p few = one_grows k p p (none_up p) few
+grows_written datatype.integer name v k p few = one_grows k p p (none_up p) few
+grows_written (datatype.boolean pattern) name v k p few = one_grows k p p (none_up p) few
+grows_written (datatype.binary hex) name v k p few = one_grows k p p (none_up p) few
+grows_written datatype.decimal name v k p few = one_grows k p p (none_up p) few
+grows_written datatype.float name v k p few = one_grows k p p (none_up p) few
+grows_written (datatype.moment m) name v k p few = one_grows k p p (none_up p) few
+grows_written (datatype.list item) name v k p few = list_grows (after_valued item name) (items_in item) (grows_written item name) v k p few
+grows_written (datatype.choice base vs) name v k p few = one_grows k p p (none_up p) few
+grows_written datatype.text name v k p few = one_grows k p (after_item datatype.text p name v) (text_up p name v) few
+grows_written (datatype.chars set) name v k p few = one_grows k p (after_set p name v) (set_up p name v) few
+grows_written (datatype.name keep) name v k p few = one_grows k p (after_item (datatype.name keep) p name v) (named_up keep p name v) few
 
 -- ---- each place keeps its text
 keeps_both : (p q r : Partitions) → KeepsAll p q → KeepsAll q r → KeepsAll p r
@@ -241,10 +241,10 @@ module _ (item : Representation) (a : Align) (name : NameId) (all : List Value) 
     pub tables : q ≡ after_row after p (values_of (take i all))
     pub form : AreOf item (values_of (drop i all))
     pub xml : have_xml (values_of (drop i all)) ≡ true
-    pub room : HasPlaces (items_among (values_of (drop i all))) q
+    pub room : HasPlaces (items_among (items_in item) (values_of (drop i all))) q
     pub named : IsName q name
 
-  pub in_row_starts : AreOf item (values_of all) → have_xml (values_of all) ≡ true → HasPlaces (items_among (values_of all)) p → IsName p name → InRow 0 p old
+  pub in_row_starts : AreOf item (values_of all) → have_xml (values_of all) ≡ true → HasPlaces (items_among (items_in item) (values_of all)) p → IsName p name → InRow 0 p old
   in_row_starts form xml room named = record { going = goes_starts old total; tables = refl; form = form; xml = xml; room = room; named = named }
 
   module _ (i : ℕ) (q : Partitions) (out : List Bool) (x : Value) (h : InRow i q out) (parts : drop i all ≡ x ∷ drop (i + 1) all) where
@@ -257,8 +257,8 @@ module _ (item : Representation) (a : Align) (name : NameId) (all : List Value) 
     xml_here : (has_xml x ≡ true) × (have_xml (values_of rest) ≡ true)
     xml_here = and_parts (has_xml x) (have_xml (values_of rest)) (ap (λ (ws : List Value). have_xml (values_of ws)) (sym parts) ∙ h.xml)
 
-    count_here : items_among (values_of (drop i all)) ≡ suc (items_in x) + items_among (values_of rest)
-    count_here = ap (λ (ws : List Value). items_among (values_of ws)) parts
+    count_here : items_among (items_in item) (values_of (drop i all)) ≡ suc (items_in item x) + items_among (items_in item) (values_of rest)
+    count_here = ap (λ (ws : List Value). items_among (items_in item) (values_of ws)) parts
 
     left_here : row_bits one after q (values_of (drop i all)) ≡ one q x ++ row_bits one after (after q x) (values_of rest)
     left_here = ap (λ (ws : List Value). row_bits one after q (values_of ws)) parts
@@ -272,18 +272,18 @@ module _ (item : Representation) (a : Align) (name : NameId) (all : List Value) 
     pub item_xml : has_xml x ≡ true
     item_xml = xml_here.0
 
-    pub item_room : HasPlaces (items_in x) q
+    pub item_room : HasPlaces (items_in item x) q
     item_room = record { most = h.room.most; few = h.room.few; fits = omega (arith, h.room.fits, count_here) }
 
     pub in_row_goes : (next : Partitions) (new : List Bool) → take (i + 1) all ≡ take i all ++ x ∷ [] → next ≡ after q x → new ≡ out ++ one q x → InRow (i + 1) next new
     in_row_goes next new took tables wrote =
-        let few : NoneLonger (h.room.most + 1 + items_in x) next = subst (λ (z : Partitions). NoneLonger (h.room.most + 1 + items_in x) z) (sym tables) (grows_written item name x h.room.most q h.room.few) in
+        let few : NoneLonger (h.room.most + 1 + items_in item x) next = subst (λ (z : Partitions). NoneLonger (h.room.most + 1 + items_in item x) z) (sym tables) (grows_written item name x h.room.most q h.room.few) in
         record {
           going = subst (λ (z : Partitions). Goes old total (row_bits one after z (values_of rest)) new) (sym tables) (goes_on old total (one q x) (row_bits one after (after q x) (values_of rest)) (row_bits one after q (values_of (drop i all))) out new h.going left_here wrote);
           tables = tables ∙ ap (λ (z : Partitions). after z x) h.tables ∙ sym (row_next after (take i all) x p) ∙ ap (λ (ws : List Value). after_row after p (values_of ws)) (sym took);
           form = form_here.1;
           xml = xml_here.1;
-          room = record { most = h.room.most + 1 + items_in x; few = few; fits = omega (arith, h.room.fits, count_here) };
+          room = record { most = h.room.most + 1 + items_in item x; few = few; fits = omega (arith, h.room.fits, count_here) };
           named = name_kept q next name (subst (λ (z : Partitions). KeepsAll q z) (sym tables) (keeps_written item name x q)) h.named;
         }
 

@@ -40,8 +40,8 @@ pub record HasPlaces (items : ℕ) (p : Partitions) : Type 0 where
   pub few : NoneLonger most p
   pub fits : most + items ≤ 2 ^ 31
 
-abbrev pub HasRoomFor : Value → Partitions → Type 0
-HasRoomFor v p = HasPlaces (items_in v) p
+abbrev pub HasRoomFor : Representation → Value → Partitions → Type 0
+HasRoomFor r v p = HasPlaces (items_in r v) p
 
-abbrev pub HaveRoomFor : Values → Partitions → Type 0
-HaveRoomFor vs p = HasPlaces (items_among vs) p
+abbrev pub HaveRoomFor : Representation → Values → Partitions → Type 0
+HaveRoomFor item vs p = HasPlaces (items_among (items_in item) vs) p

@@ -122,12 +122,26 @@ abbrev mutual
   have_xml no_more = true
   have_xml (and v vs) = has_xml v && have_xml vs
 
-abbrev mutual
-  -- how many values it has in it
-  pub items_in : Value → ℕ
-  items_in (value.items vs) = items_among vs
-  items_in v = 0
+-- how many values the lists of a value have in them, by its datatype
+abbrev pub items_among : (Value → ℕ) → Values → ℕ
+items_among one no_more = 0
+items_among one (and v vs) = suc (one v) + items_among one vs
 
-  pub items_among : Values → ℕ
-  items_among no_more = 0
-  items_among (and v vs) = suc (items_in v) + items_among vs
+abbrev pub items_listed : (Value → ℕ) → Value → ℕ
+items_listed one (value.items vs) = items_among one vs
+items_listed one v = 0
+
+abbrev pub items_in : Representation → Value → ℕ
+items_in (datatype.small least count) v = 0
+items_in datatype.unsigned v = 0
+items_in datatype.integer v = 0
+items_in (datatype.boolean pattern) v = 0
+items_in (datatype.binary hex) v = 0
+items_in datatype.decimal v = 0
+items_in datatype.float v = 0
+items_in (datatype.moment kind) v = 0
+items_in (datatype.list item) v = items_listed (items_in item) v
+items_in (datatype.choice base values) v = 0
+items_in datatype.text v = 0
+items_in (datatype.chars set) v = 0
+items_in (datatype.name keep) v = 0

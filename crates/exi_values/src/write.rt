@@ -33,7 +33,7 @@ fn write_in_set<T: Tables>(
     requires form { IsOf (chars set.now) (seen value.now) }
     requires xml { IsTrue (has_xml (seen value.now)) }
     requires name { IsName (T.held tables.old) name }
-    requires few { HasRoomFor (seen value.now) (T.held tables.old) }
+    requires few { HasRoomFor (chars set.now) (seen value.now) (T.held tables.old) }
     requires aligned { IsWholeBytes align out.old }
     ensures ok { OnOk result (out.new ≡ out.old ++ set_bits set.now align (T.held tables.old) name (seen value.now)) }
     ensures tables { OnOk result (T.held tables.new ≡ after_set (T.held tables.old) name (seen value.now)) }
@@ -61,7 +61,7 @@ fn write_items<T: Tables>(
     requires form { AreOf (represented item.now) (values_of (vals values.now)) }
     requires xml { IsTrue (have_xml (values_of (vals values.now))) }
     requires name { IsName (T.held tables.old) name }
-    requires few { HaveRoomFor (values_of (vals values.now)) (T.held tables.old) }
+    requires few { HaveRoomFor (represented item.now) (values_of (vals values.now)) (T.held tables.old) }
     requires aligned { IsWholeBytes align out.old }
     ensures ok { OnOk result (out.new ≡ out.old ++ row_bits (valued_bits (represented item.now) align name) (after_valued (represented item.now) name) (T.held tables.old) (values_of (vals values.now))) }
     ensures tables { OnOk result (T.held tables.new ≡ after_row (after_valued (represented item.now) name) (T.held tables.old) (values_of (vals values.now))) }
@@ -98,7 +98,7 @@ fn write_values<T: Tables>(
     requires form { AreOf (represented item.now) (values_of (vals values.now)) }
     requires xml { IsTrue (have_xml (values_of (vals values.now))) }
     requires name { IsName (T.held tables.old) name }
-    requires few { HaveRoomFor (values_of (vals values.now)) (T.held tables.old) }
+    requires few { HaveRoomFor (represented item.now) (values_of (vals values.now)) (T.held tables.old) }
     requires aligned { IsWholeBytes align out.old }
     ensures ok { OnOk result (out.new ≡ out.old ++ list_bits (valued_bits (represented item.now) align name) (after_valued (represented item.now) name) (T.held tables.old) (items (values_of (vals values.now)))) }
     ensures tables { OnOk result (T.held tables.new ≡ after_list (after_valued (represented item.now) name) (T.held tables.old) (items (values_of (vals values.now)))) }
@@ -125,7 +125,7 @@ fn write_list<T: Tables>(
     requires form { IsOf (list (represented item.now)) (seen value.now) }
     requires xml { IsTrue (has_xml (seen value.now)) }
     requires name { IsName (T.held tables.old) name }
-    requires few { HasRoomFor (seen value.now) (T.held tables.old) }
+    requires few { HasRoomFor (list (represented item.now)) (seen value.now) (T.held tables.old) }
     requires aligned { IsWholeBytes align out.old }
     ensures ok { OnOk result (out.new ≡ out.old ++ valued_bits (list (represented item.now)) align name (T.held tables.old) (seen value.now)) }
     ensures tables { OnOk result (T.held tables.new ≡ after_valued (list (represented item.now)) name (T.held tables.old) (seen value.now)) }
@@ -162,7 +162,7 @@ pub fn write_value<T: Tables>(
     requires form { IsOf (represented kind.now) (seen value.now) }
     requires xml { IsTrue (has_xml (seen value.now)) }
     requires name { IsName (T.held tables.old) name }
-    requires few { HasRoomFor (seen value.now) (T.held tables.old) }
+    requires few { HasRoomFor (represented kind.now) (seen value.now) (T.held tables.old) }
     requires aligned { IsWholeBytes align out.old }
     ensures ok { OnOk result (out.new ≡ out.old ++ valued_bits (represented kind.now) align name (T.held tables.old) (seen value.now)) }
     ensures tables { OnOk result (T.held tables.new ≡ after_valued (represented kind.now) name (T.held tables.old) (seen value.now)) }

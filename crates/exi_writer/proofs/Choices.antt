@@ -23,6 +23,7 @@ pub record IsChosen (g : Setting) (c : Config) (e : Happening) (w : Written) : T
   pub rule : Rule
   pub index : ℕ
   pub parts : List ℕ
+  pub is : chosen g c e ≡ Some (record { parts = parts; item = rule })
   pub there : slice_get (coded (rules_of g c)) index ≡ Some (record { parts = parts; item = rule })
   pub free : (plan_of g c rule).barred ≡ None
   pub placed : (plan_of g c rule).misplaced ≡ None
@@ -81,7 +82,7 @@ chosen_by g c e w (Some x) is h =
     let b = behind_made code (followed plan on (written_by g c x.item e c.tables)) w h in
     let by_piece : followed_by plan on t.0 ≡ Ok b.0 = ap (followed plan on) (sym t.1) ∙ b.1 in
     let f = piece_made plan on t.0 b.0 w.given b.2 by_piece in
-    record { rule = x.item; index = stands.place; parts = x.parts; there = stands.there; free = none_is plan.barred free.0; placed = none_is plan.misplaced free.1; piece = t.0; spelled_so = t.1; fits = t.2; place = c.place + length code; bits = f.bits; meter = f.meter; given = f.is }
+    record { rule = x.item; index = stands.place; parts = x.parts; is = is; there = stands.there; free = none_is plan.barred free.0; placed = none_is plan.misplaced free.1; piece = t.0; spelled_so = t.1; fits = t.2; place = c.place + length code; bits = f.bits; meter = f.meter; given = f.is }
 
 pub chosen_of : (g : Setting) (c : Config) (e : Happening) (w : Written) → written g c e ≡ Ok w → IsChosen g c e w
 unfolding written

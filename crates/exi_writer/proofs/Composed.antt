@@ -79,15 +79,16 @@ pub ready : (w : Composing) (p : Page) → IsComposed w → p ≡ record { setti
 ready w p k e =
     let f = filled (length w.bits) w.bits (omega arith) in
     let l = k.leads f.bytes f.more f.octets f.are in
-    let s : IsSteady (record { setting = w.setting; bytes = f.bytes; config = w.config }) = steady (record { setting = w.setting; bytes = f.bytes; body = k.body }) k.start k.limits l.0 w.config k.within k.book k.names l.1 in
+    let s : IsSteady (record { setting = w.setting; bytes = f.bytes; config = w.config }) = steady (record { setting = w.setting; bytes = f.bytes; body = k.body }) k.start k.limits l.0 w.config k.within k.is_setting k.names l.1 in
     rw e record {
       place = k.place;
       there = s.there;
       elements = s.elements;
       room = s.room;
       levels = s.levels;
-      sound = reached_are_sound (record { setting = w.setting; bytes = f.bytes; body = k.body }) k.start k.limits l.0 w.config k.book k.names l.1;
-      book = k.book;
+      sound = reached_are_sound (record { setting = w.setting; bytes = f.bytes; body = k.body }) k.start k.limits l.0 w.config k.is_setting k.names l.1;
+      is_setting = k.is_setting;
+      names = k.names;
     }
 
 -- ---- the same bits, as far
@@ -97,7 +98,7 @@ composed_same v w a b c k = rw (← a, ← b, ← c) record {
   start = k.start;
   limits = k.limits;
   within = k.within;
-  book = k.book;
+  is_setting = k.is_setting;
   names = k.names;
   sound = k.sound;
   place = k.place;
@@ -128,7 +129,7 @@ record IsBehind (w : Composing) (v : Written) : Type 0 where
 read_of : OneIsRead → (w : Composing) (e : Happening) (v : Written) (bytes : List ℕ) (more : List Bool) → IsComposed w → written w.setting w.config e ≡ Ok v → IsBytes bytes → bits bytes ≡ w.bits ++ (v.bits ++ more) → IsStep w.setting bytes w.config v more
 read_of law w e v bytes more k h octets are =
     let left : rest (spot_in bytes w.config) ≡ v.bits ++ more = ap (λ (i : ℕ). drop i (bits bytes)) k.place ∙ ap (drop (length w.bits)) are ∙ drop_front w.bits (v.bits ++ more) in
-    law w.setting bytes w.config e v more k.book (is_in w bytes (v.bits ++ more) k octets are) k.sound h left
+    law w.setting bytes w.config e v more k.is_setting (is_in w bytes (v.bits ++ more) k octets are) k.sound h left
 
 ends_at : (place : ℕ) (bytes : List ℕ) (text more : List Bool) → bits bytes ≡ text ++ more → place ≤ 8 * length bytes → drop place (bits bytes) ≡ more → place ≡ length text
 ends_at place bytes text more are within left =
@@ -152,7 +153,7 @@ composed_on law w new e v k h setting text config going =
       start = k.start;
       limits = k.limits;
       within = k.within;
-      book = k.book;
+      is_setting = k.is_setting;
       names = k.names;
       sound = one_sound w.setting w.config e v k.sound h;
       place = b.place;
@@ -172,7 +173,7 @@ reading w bytes = view (record { setting = w.setting; bytes = bytes; config = w.
 reached : (w : Composing) (bytes : List ℕ) (more : List Bool) → IsComposed w → IsBytes bytes → bits bytes ≡ w.bits ++ more → IsReached (reading w bytes)
 reached w bytes more k octets are =
     let l = k.leads bytes more octets are in
-    record { body = k.body; start = k.start; limits = k.limits; within = k.within; book = k.book; names = k.names; octets = octets; turns = l.0; leads = l.1; fragment = λ e. absurd cc }
+    record { body = k.body; start = k.start; limits = k.limits; within = k.within; book = k.is_setting; names = k.names; octets = octets; turns = l.0; leads = l.1; fragment = λ e. absurd cc }
 
 given_is : (v : Written) (e : Happening) (c : Config) → v.given.0 ≡ Some e → v.given.1 ≡ c → v.given ≡ (Some e, c)
 given_is v e c h k = ap (λ (o : Option Happening). (o, v.given.1)) h ∙ ap (λ (z : Config). (Some e, z)) k

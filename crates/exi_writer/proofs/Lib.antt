@@ -3,8 +3,11 @@ pub mod Composed
 pub mod Lists
 pub mod Moves
 pub mod Parts
+pub mod PlainRules
 pub mod Putting
 pub mod SameLists
 pub mod SameOne
+pub mod SameTexts
 pub mod Sameness
 pub mod Starts
+pub mod TypedValues

@@ -10,17 +10,21 @@ use Rattle.exi_gram.specs.Switches.{align_of}
 use Rattle.exi_meter.specs.Metering.{Metering}
 use Rattle.exi_names.specs.Events.{Happening}
 use Rattle.exi_names.specs.Events as event
-use Rattle.exi_reader.specs.Changes.{enclosing, fragment_at, has_level, moved_elements, outer_behind, resumed}
+use Rattle.exi_builtin.specs.declared.learnable.Learned.{Learned}
+use Rattle.exi_builtin.specs.declared.learnable.Learned.TheVariants as used
+use Rattle.exi_reader.specs.Changes.{Effect, effect_of, effected, emptied, emptied_elements, enclosing, fragment_at, has_level, leads, learns_name, moved_elements, outer_behind, restated, resumed, retyped, stays}
 use Rattle.exi_reader.specs.Configurations.{Body, Config, Setting, outer_rules, rules_in, rules_of}
 use Rattle.exi_reader.specs.OneEvent.{remembered}
 use Rattle.exi_reader.specs.Plans.{Alone, Given, Plan, alone_in, at_end, at_first, at_start, ended_in, nowhere, outer_alone, plan_of, plan_on}
-use Rattle.exi_reader.specs.Rules.{Rule, Terminal, attribute, characters, comment, declaration, document_type, element, end_document, end_element, entity, fragment_start, informed, instruction, known, self_contained, spelled, start_document}
+use Rattle.exi_reader.specs.Rules.{Rule, Telling, Terminal, attribute, characters, comment, declaration, document_type, element, end_document, end_element, entity, fragment_start, instruction, known, self_contained, spelled, start_document, under}
 use Rattle.exi_reader.specs.Runs.{has_ended, is_end}
 use Rattle.exi_reader.specs.Sound.{IsSound, IsSoundAside, IsWhereOpen}
 use Rattle.exi_reader.specs.Spelled.{further}
 use Rattle.exi_reader.specs.declared.frames.Element.{Element}
 use Rattle.exi_reader.specs.declared.frames.Outer.{Outer}
 use Rattle.exi_reader.specs.declared.frames.Outer.TheVariants as outer
+use Rattle.exi_reader.specs.declared.frames.State.{State}
+use Rattle.exi_reader.specs.declared.frames.State.TheVariants as state
 use Rattle.exi_pen.specs.Steps.{begins_fragment}
 use Rattle.exi_writing.specs.Contents.{is_sc, written_on}
 use Rattle.exi_writing.specs.OneEvent.{Refused, Written, at_end as finished, behind, behind_code, by_code, chosen, followed, followed_by, matches, one_deeper, one_more, padding, paid, written, written_by}
@@ -89,15 +93,14 @@ sc_on g a c d r self_contained b given piece h e = (_, ap (λ (z : Given). z.0) 
 sc_on g a c d r start_document b given piece h e = absurd cc
 sc_on g a c d r end_document b given piece h e = absurd cc
 sc_on g a c d r (element t) b given piece h e = absurd cc
-sc_on g a c d r (attribute t) b given piece h e = absurd cc
-sc_on g a c d r characters b given piece h e = absurd cc
+sc_on g a c d r (attribute t u) b given piece h e = absurd cc
+sc_on g a c d r (characters k) b given piece h e = absurd cc
 sc_on g a c d r end_element b given piece h e = absurd cc
 sc_on g a c d r declaration b given piece h e = absurd cc
 sc_on g a c d r comment b given piece h e = absurd cc
 sc_on g a c d r instruction b given piece h e = absurd cc
 sc_on g a c d r document_type b given piece h e = absurd cc
 sc_on g a c d r entity b given piece h e = absurd cc
-sc_on g a c d r (informed s) b given piece h e = absurd cc
 
 pub sc_given : (g : Setting) (c : Config) (b : ℕ) (w : Written) → written g c (event.sc b) ≡ Ok w → (byte : ℕ) × (w.given.0 ≡ Some (event.sc byte))
 sc_given g c b w h =
@@ -158,30 +161,49 @@ level_away [] o where_open h = absurd cc
 level_away (e ∷ []) o where_open h = open_away o (where_open (some_open e []))
 level_away (e ∷ f ∷ es) o where_open h = nowhere_away
 
-resumed_away : (bs : List Body) (c : Config) → All IsSoundAside bs → Away (resumed bs c).elements (resumed bs c).outer
-resumed_away [] c all = ended_away c.elements
-resumed_away (b ∷ bs) c all =
-    let s : IsSoundAside b = All-head IsSoundAside b bs all in
+resumed_away : (g : Setting) (bs : List Body) (c : Config) → All (IsSoundAside g) bs → Away (resumed bs c).elements (resumed bs c).outer
+resumed_away g [] c all = ended_away c.elements
+resumed_away g (b ∷ bs) c all =
+    let s : IsSoundAside g b = All-head (IsSoundAside g) b bs all in
     level_away b.elements b.outer s.body.outside s.level
 
-out_away : (a : Alone) (c : Config) → All IsSoundAside c.aside → Away (ended_in a c).elements (ended_in a c).outer
-out_away nowhere c all = ended_away c.elements
-out_away at_start c all = resumed_away c.aside c all
-out_away at_first c all = resumed_away c.aside c all
-out_away at_end c all = resumed_away c.aside c all
+out_away : (g : Setting) (a : Alone) (c : Config) → All (IsSoundAside g) c.aside → Away (ended_in a c).elements (ended_in a c).outer
+out_away g nowhere c all = ended_away c.elements
+out_away g at_start c all = resumed_away g c.aside c all
+out_away g at_first c all = resumed_away g c.aside c all
+out_away g at_end c all = resumed_away g c.aside c all
 
-record CanBeAway (c : Config) : Type 0 where
+learned_away : (t : Telling) (use_of : Learned) (c : Config) → Away c.elements c.outer → Away (learns_name t use_of c).elements (learns_name t use_of c).outer
+learned_away spelled use_of c s = s
+learned_away (under uri) use_of c s = s
+learned_away (known id) use_of c s = s
+
+-- of an attribute, which changes the innermost element at most
+restated_away : (s : State) (es : List Element) (o : Outer) → Away es o → Away (restated s es) o
+restated_away s [] o away = away
+restated_away s (e ∷ es) o away = nowhere_away
+
+emptied_away : (es : List Element) (o : Outer) → Away es o → Away (emptied_elements es) o
+emptied_away [] o away = away
+emptied_away (e ∷ es) o away = nowhere_away
+
+effected_away : (e : Effect) (to : ℕ) (c : Config) → Away c.elements c.outer → Away (effected e to c).elements (effected e to c).outer
+effected_away leads to c s = moved_away to c.elements c.outer
+effected_away (retyped grammar) to c s = restated_away (state.Informed grammar 0 false) c.elements c.outer s
+effected_away emptied to c s = emptied_away c.elements c.outer s
+effected_away stays to c s = s
+
+record CanBeAway (g : Setting) (c : Config) : Type 0 where
   here : Away c.elements c.outer
   where_open : c.elements ≢ [] → IsWhereOpen c.outer
-  aside : All IsSoundAside c.aside
+  aside : All (IsSoundAside g) c.aside
 
-make_away : (g : Setting) (a : Alone) (c d : Config) (r : Rule) (t : Terminal) (x : (plan_on g a c r t).Item) → t ≢ self_contained → CanBeAway d → Away ((plan_on g a c r t).make x d).1.elements ((plan_on g a c r t).make x d).1.outer
+make_away : (g : Setting) (a : Alone) (c d : Config) (r : Rule) (t : Terminal) (x : (plan_on g a c r t).Item) → t ≢ self_contained → CanBeAway g d → Away ((plan_on g a c r t).make x d).1.elements ((plan_on g a c r t).make x d).1.outer
 make_away g a c d r start_document x other s = moved_away r.to d.elements d.outer
-make_away g a c d r end_document x other s = out_away a d s.aside
+make_away g a c d r end_document x other s = out_away g a d s.aside
 make_away g a c d r (element t) x other s = nowhere_away
-make_away g a c d r (attribute spelled) x other s = moved_away r.to d.elements d.outer
-make_away g a c d r (attribute (known id)) x other s = moved_away r.to d.elements d.outer
-make_away g a c d r characters x other s = moved_away r.to d.elements d.outer
+make_away g a c d r (attribute t v) x other s = effected_away (effect_of g v x.0.id x.1) r.to (learns_name t (used.At x.0.id) d) (learned_away t (used.At x.0.id) d s.here)
+make_away g a c d r (characters k) x other s = moved_away r.to d.elements d.outer
 make_away g a c d r end_element x other s = closed_away d.elements d.outer s.here s.where_open
 make_away g a c d r declaration x other s = moved_away r.to d.elements d.outer
 make_away g a c d r self_contained x other s = absurd (other refl)
@@ -189,7 +211,6 @@ make_away g a c d r comment x other s = moved_away r.to d.elements d.outer
 make_away g a c d r instruction x other s = moved_away r.to d.elements d.outer
 make_away g a c d r document_type x other s = moved_away r.to d.elements d.outer
 make_away g a c d r entity x other s = moved_away r.to d.elements d.outer
-make_away g a c d r (informed k) x other s = s.here
 
 -- ---- what is no SC is written by another production
 plain_is : (e : Happening) → begins_fragment e ≡ false → is_sc e ≡ None
@@ -211,15 +232,14 @@ not_sc g a c r self_contained e piece h plain = absurd (let k = rw plain at h in
 not_sc g a c r start_document e piece h plain = λ k. absurd cc
 not_sc g a c r end_document e piece h plain = λ k. absurd cc
 not_sc g a c r (element t) e piece h plain = λ k. absurd cc
-not_sc g a c r (attribute t) e piece h plain = λ k. absurd cc
-not_sc g a c r characters e piece h plain = λ k. absurd cc
+not_sc g a c r (attribute t u) e piece h plain = λ k. absurd cc
+not_sc g a c r (characters k) e piece h plain = λ k. absurd cc
 not_sc g a c r end_element e piece h plain = λ k. absurd cc
 not_sc g a c r declaration e piece h plain = λ k. absurd cc
 not_sc g a c r comment e piece h plain = λ k. absurd cc
 not_sc g a c r instruction e piece h plain = λ k. absurd cc
 not_sc g a c r document_type e piece h plain = λ k. absurd cc
 not_sc g a c r entity e piece h plain = λ k. absurd cc
-not_sc g a c r (informed s) e piece h plain = λ k. absurd cc
 
 -- ---- at the start of a fragment
 record AtStart (es : List Element) (o : Outer) : Type 0 where
@@ -261,8 +281,8 @@ sd_on : (g : Setting) (a : Alone) (c d : Config) (r : Rule) (t : Terminal) (x : 
 sd_on g a c d r start_document x given on e = (ap (λ (z : Given). z.1.elements) e, ap (λ (z : Given). z.1.outer) e)
 sd_on g a c d r end_document x given on e = absurd cc
 sd_on g a c d r (element t) x given on e = absurd cc
-sd_on g a c d r (attribute t) x given on e = absurd cc
-sd_on g a c d r characters x given on e = absurd cc
+sd_on g a c d r (attribute t u) x given on e = absurd cc
+sd_on g a c d r (characters k) x given on e = absurd cc
 sd_on g a c d r end_element x given on e = absurd cc
 sd_on g a c d r declaration x given on e = absurd cc
 sd_on g a c d r self_contained x given on e = absurd cc
@@ -270,7 +290,6 @@ sd_on g a c d r comment x given on e = absurd cc
 sd_on g a c d r instruction x given on e = absurd cc
 sd_on g a c d r document_type x given on e = absurd cc
 sd_on g a c d r entity x given on e = absurd cc
-sd_on g a c d r (informed s) x given on e = absurd cc
 
 start_moved : (g : Setting) (c : Config) (e : Happening) (w : Written) → alone_in c.elements c.outer ≡ at_start → IsMade g c e w → (to : ℕ) × (w.given.1.elements ≡ moved_elements to c.elements) × (w.given.1.outer ≡ outer_behind to c.elements c.outer)
 start_moved g c e w h m =
@@ -302,7 +321,7 @@ start_or at_first = inr first_away
 start_or at_end = inr end_away
 
 -- what is no SC leads to no start of a fragment
-pub next_away : (g : Setting) (c : Config) (e : Happening) (w : Written) → IsSound c → begins_fragment e ≡ false → written g c e ≡ Ok w → Away w.given.1.elements w.given.1.outer
+pub next_away : (g : Setting) (c : Config) (e : Happening) (w : Written) → IsSound g c → begins_fragment e ≡ false → written g c e ≡ Ok w → Away w.given.1.elements w.given.1.outer
 next_away g c e w sound plain h =
     let m = made g c e w h in
     elim (start_or (alone_in c.elements c.outer)) [

@@ -65,7 +65,7 @@ part_composed law w text tally at whole fitting part =
       start = k.start;
       limits = k.limits;
       within = k.within;
-      book = k.book;
+      is_setting = k.is_setting;
       names = k.names;
       sound = resumed_sound w.config.aside behind refl record { here = k.sound.here; aside = k.sound.aside };
       place = resumed_place w.config.aside behind;
@@ -74,7 +74,7 @@ part_composed law w text tally at whole fitting part =
           let l = k.leads bytes (text ++ more) octets (are ∙ append_assoc w.bits text more) in
           let e : End = end.Done (length (w.bits ++ text)) tally (Some part.name) in
           let s : IsSequence (record { setting = w.setting; bytes = bytes; body = 0 }) (start.Fragment at.byte) part.limits part.events e part.count = subst (λ (n : ℕ). IsSequence (record { setting = w.setting; bytes = bytes; body = 0 }) (start.Fragment n) part.limits part.events e part.count) (same_byte part.byte at.byte w.config.place part.stands at.at.place) (part.read bytes more octets are) in
-          let go = law (record { setting = w.setting; bytes = bytes; body = 0 }) at.byte w.config part.limits part.events e part.count octets k.book k.names at.at s fitting in
+          let go = law (record { setting = w.setting; bytes = bytes; body = 0 }) at.byte w.config part.limits part.events e part.count octets k.is_setting k.names at.at s fitting in
           let on : GoesAs w.setting bytes w.config part.events (on_behind w.config e) = subst (λ (z : Spliced). GoesAs w.setting bytes w.config part.events z) (with_same w.config.aside w.config e part.name part.same) go in
           (l.0 ++ on.0, leads_append w.setting bytes l.0 on.0 (first_config w.setting k.body k.start k.limits) w.config (resumed w.config.aside behind) l.1 on.1)
           );

@@ -4,13 +4,12 @@ use Rattle.std.proofs.Common.{◌≡◌, ◌≢◌, ◌⊎◌, inl, inr, ℕ, �
 use Rattle.std.specs.Prelude.{Result, Ok, Err, OnOk}
 use Rattle.std.proofs.lemmas.List.Elements.{All-head}
 use Rattle.exi_builtin.specs.Learning.{Learning}
-use Rattle.exi_choice.specs.Wanted.{ChosenIsWanted, place_of, wanted_of}
 use Rattle.exi_gram.specs.declared.options.Options.{Options}
 use Rattle.exi_meter.specs.Metering.{Metering}
 use Rattle.exi_names.specs.Events.{Happening}
 use Rattle.exi_names.specs.Events as event
 use Rattle.exi_names.specs.declared.names.QName.{QName}
-use Rattle.exi_pen.specs.Pages.{IsReady, Page, Writes, WritesFragment, by_choice, fragment_page, page_behind}
+use Rattle.exi_pen.specs.Pages.{IsReady, Page, Writes, WritesFragment, by_chosen, fragment_page, page_behind}
 use Rattle.exi_pen.specs.Steps.{StepsAs, begins_fragment, left_of}
 use Rattle.exi_reader.proofs.Steady.{open_name}
 use Rattle.exi_reader.specs.Changes.{has_level, innermost, put_aside, texts_of}
@@ -26,14 +25,12 @@ use Rattle.exi_reader.specs.declared.alone.Alone.TheVariants as kept
 use Rattle.exi_reader.specs.declared.frames.Element.{Element}
 use Rattle.exi_reader.specs.declared.frames.Outer.{Outer}
 use Rattle.exi_reader.specs.declared.frames.Outer.TheVariants as outer
-use Rattle.exi_reader.specs.declared.rule.Content.TheVariants as content
 use Rattle.exi_reader.specs.declared.start.Start.{Start}
 use Rattle.exi_tables.specs.Partitions.{IsName, Partitions}
 use Rattle.exi_toll.specs.declared.stop.PutStop.{PutStop}
 use Rattle.exi_toll.specs.declared.stop.PutStop.TheVariants as stop
 use Rattle.exi_writing.specs.Laws.{OneIsRead}
 use Rattle.exi_writing.specs.OneEvent.{Refused, Written, ◌>>=◌, limit, not_derived, written}
-use Rattle.exi_writing.specs.OneEvent.{by_code}
 use Rattle.exi_writing.specs.Pruned.{pruned, pruned_name}
 use Rattle.exi_writing.specs.Runs.{Run, in_front, nothing_from, own, put, then_run, written_all}
 use Rattle.exi_writing.proofs.OneEvent.{one_going}
@@ -86,10 +83,10 @@ writes_stop stop.NotDerived p q e es h = all_refused p.setting p.config e es not
 writes_stop (stop.Limit k) p q e es h = all_refused p.setting p.config e es (limit k q.config.meter) h
 writes_stop stop.Memory p q e es h = tt
 
--- ---- by the production that is wanted
-pub by_wanted : ChosenIsWanted → (p : Page) (e : Happening) → IsReady p → has_ended p.config ≡ false → by_choice p.setting p.config (wanted_of p.config.tables e) e ≡ written p.setting p.config e
+-- ---- by the production that is chosen, where it goes on
+pub by_going : (p : Page) (e : Happening) → has_ended p.config ≡ false → by_chosen p.setting p.config e ≡ written p.setting p.config e
 unfolding written
-by_wanted law p e k going = rw going (ap (by_code p.setting p.config e) (sym (law p.setting p.config e k.book k.sound)))
+by_going p e going = rw going refl
 
 -- behind one event it may go on
 pub page_may : OneIsRead → (p q : Page) (e : Happening) (v : Written) → MayGoOn (composing_at p) → written p.setting p.config e ≡ Ok v → q ≡ page_behind p v → MayGoOn (composing_at q)
@@ -243,7 +240,7 @@ leaves_ready law p q false r e is g k s at =
     ready (composing_at q) q (page_may law p q e s.0 (subst MayGoOn (sym is) k) s.1 s.2 (end_goes q.config.elements q.config.outer at)) refl
 
 -- what it has of its own behind it is what is written behind it
-own_of : (p q : Page) (e : Happening) (v : Written) → IsSound p.config → begins_fragment e ≡ false → written p.setting p.config e ≡ Ok v → q ≡ page_behind p v → written_all q.setting q.config (closing_events q.config) ≡ written_all p.setting v.given.1 (own v.given.1)
+own_of : (p q : Page) (e : Happening) (v : Written) → IsSound p.setting p.config → begins_fragment e ≡ false → written p.setting p.config e ≡ Ok v → q ≡ page_behind p v → written_all q.setting q.config (closing_events q.config) ≡ written_all p.setting v.given.1 (own v.given.1)
 own_of p q e v sound plain h is =
     ap (λ (z : Page). written_all z.setting z.config (closing_events z.config)) is ∙ ap (λ (es : List Happening). written_all p.setting v.given.1 es) (sym (own_closing v.given.1 (next_away p.setting p.config e v sound plain h)))
 
@@ -299,10 +296,10 @@ enter_name p false r e h k = no_wait (sym (ap (λ (z : Composing). z.waits) e �
 enter_name p true r e h k =
     let at : IsAtFragment (view p true) = subst IsAtFragment (sym e) k in
     let q : Page = record { setting = p.setting; bits = p.bits; config = put_aside p.setting p.config } in
-    let s : IsSound q.config = (ready (view p true) q at.composed refl).sound in
+    let s : IsSound q.setting q.config = (ready (view p true) q at.composed refl).sound in
     let b : Body = record { tables = p.config.tables; learned = p.config.learned; elements = p.config.elements; outer = p.config.outer; name = texts_of p.config.tables (innermost p.config.elements) } in
-    let head : IsSoundAside b = All-head IsSoundAside b p.config.aside s.aside in
-    open_name p.config.tables p.config.learned p.config.elements head.body.elements (level_some p.config.elements p.config.outer head.level)
+    let head : IsSoundAside p.setting b = All-head (IsSoundAside p.setting) b p.config.aside s.aside in
+    open_name p.setting p.config.tables p.config.learned p.config.elements head.body.elements (level_some p.config.elements p.config.outer head.level)
 
 pub entered_composed : (p q : Page) (w : Bool) (r : Composing) → view p w ≡ r → r.waits ≡ true → IsAtFragment r → q ≡ fragment_page p → IsComposed (composing_at q)
 entered_composed p q false r e h k is = no_wait (sym (ap (λ (z : Composing). z.waits) e ∙ h))
@@ -319,10 +316,10 @@ enters_may law q s es k h =
 closes_by : (res : Result (Unit {0}) PutStop) (p q : Page) (a : Alone) → a ≡ alone_in p.config.elements p.config.outer → WritesAll res p q (written_all p.setting p.config (closing_in a)) → WritesAll res p q (written_all p.setting p.config (closing_events p.config))
 closes_by res p q a e h = subst (λ (z : Alone). WritesAll res p q (written_all p.setting p.config (closing_in z))) e h
 
-pub closes_at_end : ChosenIsWanted → (res : Result (Unit {0}) PutStop) (p q : Page) → at_end ≡ alone_in p.config.elements p.config.outer → IsReady p → Writes res p q (by_choice p.setting p.config content.EndDocument event.ed) → WritesAll res p q (written_all p.setting p.config (closing_events p.config))
-closes_at_end law res p q at k h =
+pub closes_at_end : (res : Result (Unit {0}) PutStop) (p q : Page) → at_end ≡ alone_in p.config.elements p.config.outer → Writes res p q (by_chosen p.setting p.config event.ed) → WritesAll res p q (written_all p.setting p.config (closing_events p.config))
+closes_at_end res p q at h =
     let goes : has_ended p.config ≡ false = end_goes p.config.elements p.config.outer (sym at) in
-    closes_by res p q at_end at (writes_one res p q event.ed (subst (λ (z : Result Written Refused). Writes res p q z) (by_wanted law p event.ed k goes) h))
+    closes_by res p q at_end at (writes_one res p q event.ed (subst (λ (z : Result Written Refused). Writes res p q z) (by_going p event.ed goes) h))
 
 pub closes_none : (p : Page) (a : Kept) → a ≡ kept.Nowhere ⊎ a ≡ kept.AtStart ⊎ a ≡ kept.AtFirst → alone_of a ≡ alone_in p.config.elements p.config.outer → WritesAll {X = Unit {0}} (Ok tt) p p (written_all p.setting p.config (closing_events p.config))
 closes_none p a (inl e) h = closes_by (Ok tt) p p nowhere (ap alone_of (sym e) ∙ h) (writes_none p)
@@ -330,22 +327,22 @@ closes_none p a (inr (inl e)) h = closes_by (Ok tt) p p at_start (ap alone_of (s
 closes_none p a (inr (inr e)) h = closes_by (Ok tt) p p at_first (ap alone_of (sym e) ∙ h) (writes_none p)
 
 -- ---- its start
-start_by : ChosenIsWanted → (p : Page) → alone_in p.config.elements p.config.outer ≡ at_start → IsComposed (composing_at p) → by_choice p.setting p.config content.StartDocument event.sd ≡ written p.setting p.config event.sd
-start_by law p at k = by_wanted law p event.sd (ready (composing_at p) p k refl) (begin_goes p.config.elements p.config.outer at)
+start_by : (p : Page) → alone_in p.config.elements p.config.outer ≡ at_start → by_chosen p.setting p.config event.sd ≡ written p.setting p.config event.sd
+start_by p at = by_going p event.sd (begin_goes p.config.elements p.config.outer at)
 
-pub starts_stop : ChosenIsWanted → (s : PutStop) (p q : Page) (es : List Happening) → alone_in p.config.elements p.config.outer ≡ at_start → IsComposed (composing_at p) → Writes {X = Unit {0}} (Err s) p q (by_choice p.setting p.config content.StartDocument event.sd) → WritesAll {X = Unit {0}} (Err s) p q (written_all p.setting p.config (event.sd ∷ es))
-starts_stop law s p q es at k h = writes_stop s p q event.sd es (subst (λ (z : Result Written Refused). Writes {X = Unit {0}} (Err s) p q z) (start_by law p at k) h)
+pub starts_stop : (s : PutStop) (p q : Page) (es : List Happening) → alone_in p.config.elements p.config.outer ≡ at_start → Writes {X = Unit {0}} (Err s) p q (by_chosen p.setting p.config event.sd) → WritesAll {X = Unit {0}} (Err s) p q (written_all p.setting p.config (event.sd ∷ es))
+starts_stop s p q es at h = writes_stop s p q event.sd es (subst (λ (z : Result Written Refused). Writes {X = Unit {0}} (Err s) p q z) (start_by p at) h)
 
-pub starts_ready : ChosenIsWanted → OneIsRead → (p q : Page) → alone_in p.config.elements p.config.outer ≡ at_start → IsComposed (composing_at p) → Writes {X = Unit {0}} (Ok tt) p q (by_choice p.setting p.config content.StartDocument event.sd) → IsReady q
-starts_ready law read p q at k h = started_ready read p q h.0 at k (sym (start_by law p at k) ∙ h.1) h.2
+pub starts_ready : OneIsRead → (p q : Page) → alone_in p.config.elements p.config.outer ≡ at_start → IsComposed (composing_at p) → Writes {X = Unit {0}} (Ok tt) p q (by_chosen p.setting p.config event.sd) → IsReady q
+starts_ready read p q at k h = started_ready read p q h.0 at k (sym (start_by p at) ∙ h.1) h.2
 
-pub starts_on : ChosenIsWanted → OneIsRead → (res : Result (Unit {0}) PutStop) (p q r : Page) (n : QName) → alone_in p.config.elements p.config.outer ≡ at_start → IsComposed (composing_at p) → Writes {X = Unit {0}} (Ok tt) p q (by_choice p.setting p.config content.StartDocument event.sd)
-    → Writes res q r (by_choice q.setting q.config (content.Element (place_of q.config.tables (pruned_name q.setting.options n))) (event.se (pruned_name q.setting.options n))) → WritesAll res p r (written_all p.setting p.config (event.sd ∷ event.se (pruned_name p.setting.options n) ∷ []))
-starts_on law read res p q r n at k h more =
-    let first : written p.setting p.config event.sd ≡ Ok h.0 = sym (start_by law p at k) ∙ h.1 in
+pub starts_on : (res : Result (Unit {0}) PutStop) (p q r : Page) (n : QName) → alone_in p.config.elements p.config.outer ≡ at_start → Writes {X = Unit {0}} (Ok tt) p q (by_chosen p.setting p.config event.sd)
+    → Writes res q r (by_chosen q.setting q.config (event.se (pruned_name q.setting.options n))) → WritesAll res p r (written_all p.setting p.config (event.sd ∷ event.se (pruned_name p.setting.options n) ∷ []))
+starts_on res p q r n at h more =
+    let first : written p.setting p.config event.sd ≡ Ok h.0 = sym (start_by p at) ∙ h.1 in
     let goes : has_ended q.config ≡ false = ap (λ (z : Page). has_ended z.config) h.2 ∙ start_goes p.setting p.config event.sd h.0 at first in
     let e : Happening = event.se (pruned_name q.setting.options n) in
-    let second : WritesAll res q r (written_all q.setting q.config (e ∷ [])) = writes_one res q r e (subst (λ (z : Result Written Refused). Writes res q r z) (by_wanted law q e (starts_ready law read p q at k h) goes) more) in
+    let second : WritesAll res q r (written_all q.setting q.config (e ∷ [])) = writes_one res q r e (subst (λ (z : Result Written Refused). Writes res q r z) (by_going q e goes) more) in
     writes_more res p q r event.sd (event.se (pruned_name p.setting.options n) ∷ []) h.0 first h.2
     (subst (λ (z : Page). WritesAll res q r (written_all z.setting z.config (event.se (pruned_name z.setting.options n) ∷ []))) h.2 second)
 

@@ -4,22 +4,28 @@ use Rattle.std.proofs.Common.{◌≡◌, ◌⊎◌, inl, inr, ℕ, zero, suc, Bo
 use Rattle.std.specs.Prelude.{Result, Ok, Err, if◌then◌else◌}
 use Rattle.std.proofs.lemmas.Bool.{cases_Bool}
 use Rattle.exi_bits.specs.declared.fault.Kind.TheVariants as kind
+use Rattle.exi_gram.specs.Codes.{Coded}
 use Rattle.exi_gram.specs.Switches.{fragment}
 use Rattle.exi_names.specs.Events.{Happening}
 use Rattle.exi_names.specs.Events as event
+use Rattle.exi_names.specs.Seen.{Value}
 use Rattle.exi_names.specs.declared.names.QName.{QName}
 use Rattle.exi_typed.specs.Strings.{Named}
-use Rattle.exi_reader.specs.Changes.{enclosing, fragment_at, has_level, inner_state, moved_elements, moves, outer_behind, resumed}
+use Rattle.exi_builtin.specs.declared.learnable.Learned.{Learned}
+use Rattle.exi_builtin.specs.declared.learnable.Learned.TheVariants as used
+use Rattle.exi_reader.specs.Changes.{Effect, effect_of, effected, emptied, emptied_elements, enclosing, fragment_at, has_level, inner_state, leads, learns_name, moved_elements, moves, opener, outer_behind, restated, resumed, retyped, stays}
 use Rattle.exi_reader.specs.Configurations.{Body, Config, Setting, body_outer, first_config}
 use Rattle.exi_reader.specs.OneEvent.{remembered}
 use Rattle.exi_reader.specs.Plans.{Alone, Given, alone_in, at_end, at_first, at_start, element_made, ended_in, nowhere, outer_alone, plan_on, seen_in}
-use Rattle.exi_reader.specs.Rules.{Rule, Telling, Terminal, attribute, characters, comment, declaration, document_type, element, end_document, end_element, entity, informed, instruction, known, self_contained, spelled, start_document}
+use Rattle.exi_reader.specs.Rules.{Rule, Telling, Terminal, attribute, characters, comment, declaration, document_type, element, end_document, end_element, entity, instruction, known, self_contained, spelled, start_document, under}
 use Rattle.exi_reader.specs.Runs.{events_of, has_ended}
 use Rattle.exi_reader.specs.Spelled.{further}
 use Rattle.exi_reader.proofs.Turning.{events_append}
 use Rattle.exi_reader.specs.declared.frames.Element.{Element}
 use Rattle.exi_reader.specs.declared.frames.Outer.{Outer}
 use Rattle.exi_reader.specs.declared.frames.Outer.TheVariants as outer
+use Rattle.exi_reader.specs.declared.frames.State.{State}
+use Rattle.exi_reader.specs.declared.frames.State.TheVariants as state
 use Rattle.exi_reader.specs.declared.start.Start.TheVariants as start
 use Rattle.exi_writing.specs.Contents.{written_on}
 use Rattle.exi_writing.specs.OneEvent.{Refused, Written, written}
@@ -27,10 +33,10 @@ use Rattle.exi_writing.specs.Pieces.{Piece}
 use Rattle.exi_writing.specs.Pruned.{pruned}
 use Rattle.exi_writing.specs.Runs.{Refusal, Run, behind_run, body, go_on, in_front, nothing_from, own, put, put_from, put_then, written_all}
 use Rattle.exi_writing.proofs.OneEvent.{bind_parts, context}
-use Rattle.exi_writer.specs.Same.{AreSame, IsSame, ListIsSame, kept_before, pruned_list}
+use Rattle.exi_writer.specs.Same.{AreSame, IsSame, IsTyped, IsTypedBy, ListIsSame, kept_before, pruned_list}
 use Rattle.exi_writer.proofs.Choices.{chosen_of}
 use Rattle.exi_writer.proofs.Composed.{then_parts}
-use Rattle.exi_writer.proofs.Sameness.{Seen, same_on}
+use Rattle.exi_writer.proofs.Sameness.{Seen, same_on, seen_map}
 
 -- ---- between two events
 -- where an element is open, the one that a fragment stands for has come
@@ -160,15 +166,47 @@ placed_start : (b : Bool) → (if b then None else Some kind.ScPlace) ≡ None �
 placed_start true h = refl
 placed_start false h = absurd cc
 
+-- what an attribute does beside
+record IsInside (c : Config) : Type 0 where
+  within : IsWithin c.elements c.outer
+  aside : ArePutAside c.aside
+
+learned_same : (t : Telling) (use_of : Learned) (c : Config) → IsInside c → IsInside (learns_name t use_of c)
+learned_same spelled use_of c s = record { within = s.within; aside = s.aside }
+learned_same (under uri) use_of c s = record { within = s.within; aside = s.aside }
+learned_same (known id) use_of c s = s
+
+restated_within : (s : State) (es : List Element) (o : Outer) → IsWithin es o → IsWithin (restated s es) o
+restated_within s [] o h = h
+restated_within s (e ∷ es) o h = h
+
+emptied_within : (es : List Element) (o : Outer) → IsWithin es o → IsWithin (emptied_elements es) o
+emptied_within [] o h = h
+emptied_within (e ∷ es) o h = h
+
+effected_same : (e : Effect) (to : ℕ) (c : Config) → IsInside c → IsInside (effected e to c)
+effected_same leads to c s = record { within = moved_within to c.elements c.outer s.within; aside = s.aside }
+effected_same (retyped grammar) to c s = record { within = restated_within (state.Informed grammar 0 false) c.elements c.outer s.within; aside = s.aside }
+effected_same emptied to c s = record { within = emptied_within c.elements c.outer s.within; aside = s.aside }
+effected_same stays to c s = s
+
+abbrev opened_element : Setting → Telling → Rule → Named → Config → Element
+opened_element g t r n d = record { name = n.id; state = inner_state (learns_name t (used.Se n.id) d).learned n.id (opener g n.name r.inner) }
+
+element_between : (g : Setting) (t : Telling) (r : Rule) (n : Named) (d : Config) → IsBetween d → IsBetween (remembered (element_made g nowhere t r n d)).1
+element_between g spelled r n d s = record { within = moved_begun r.to d.elements d.outer s.within; aside = s.aside; level = λ h. opened_level (opened_element g spelled r n d) r.to d.elements d.outer s.within }
+element_between g (under uri) r n d s = record { within = moved_begun r.to d.elements d.outer s.within; aside = s.aside; level = λ h. opened_level (opened_element g (under uri) r n d) r.to d.elements d.outer s.within }
+element_between g (known id) r n d s = record { within = moved_begun r.to d.elements d.outer s.within; aside = s.aside; level = λ h. opened_level (opened_element g (known id) r n d) r.to d.elements d.outer s.within }
+
 -- where a production leads that is no fragment's own
 make_behind : (g : Setting) (c d : Config) (r : Rule) (t : Terminal) (x : (plan_on g nowhere c r t).Item) → IsBetween d → (c.after_start ≡ true → has_level d.elements d.outer ≡ true) → (plan_on g nowhere c r t).misplaced ≡ None → IsBehind (remembered ((plan_on g nowhere c r t).make x d)).1
 make_behind g c d r start_document x s level placed = inl record { within = moved_within r.to d.elements d.outer s.within; aside = s.aside; level = λ h. absurd (true_false h) }
 make_behind g c d r end_document x s level placed = inl record { within = ended_within d.elements; aside = s.aside; level = λ h. absurd (true_false h) }
-make_behind g c d r (element spelled) x s level placed = inl record { within = moved_begun r.to d.elements d.outer s.within; aside = s.aside; level = λ h. opened_level (record { name = x.id; state = inner_state d.learned x.id r.inner }) r.to d.elements d.outer s.within }
-make_behind g c d r (element (known id)) x s level placed = inl record { within = moved_begun r.to d.elements d.outer s.within; aside = s.aside; level = λ h. opened_level (record { name = x.id; state = inner_state d.learned x.id r.inner }) r.to d.elements d.outer s.within }
-make_behind g c d r (attribute spelled) x s level placed = inl record { within = moved_within r.to d.elements d.outer s.within; aside = s.aside; level = λ h. absurd (true_false h) }
-make_behind g c d r (attribute (known id)) x s level placed = inl record { within = moved_within r.to d.elements d.outer s.within; aside = s.aside; level = λ h. absurd (true_false h) }
-make_behind g c d r characters x s level placed = inl record { within = moved_within r.to d.elements d.outer s.within; aside = s.aside; level = λ h. absurd (true_false h) }
+make_behind g c d r (element t) x s level placed = inl (element_between g t r x d s)
+make_behind g c d r (attribute t v) x s level placed =
+    let k = effected_same (effect_of g v x.0.id x.1) r.to (learns_name t (used.At x.0.id) d) (learned_same t (used.At x.0.id) d record { within = s.within; aside = s.aside }) in
+    inl record { within = k.within; aside = k.aside; level = λ h. absurd (true_false h) }
+make_behind g c d r (characters k) x s level placed = inl record { within = moved_within r.to d.elements d.outer s.within; aside = s.aside; level = λ h. absurd (true_false h) }
 make_behind g c d r end_element x s level placed = elim (closed_within d.elements d.outer s.within) [
   | inl h ↦ inl record { within = h; aside = s.aside; level = λ k. absurd (true_false k) }
   | inr h ↦ inr (inr record { none = h.0; over = h.1; aside = s.aside })
@@ -179,15 +217,14 @@ make_behind g c d r comment x s level placed = inl record { within = moved_withi
 make_behind g c d r instruction x s level placed = inl record { within = moved_within r.to d.elements d.outer s.within; aside = s.aside; level = λ h. absurd (true_false h) }
 make_behind g c d r document_type x s level placed = inl record { within = moved_within r.to d.elements d.outer s.within; aside = s.aside; level = λ h. absurd (true_false h) }
 make_behind g c d r entity x s level placed = inl record { within = moved_within r.to d.elements d.outer s.within; aside = s.aside; level = λ h. absurd (true_false h) }
-make_behind g c d r (informed k) x s level placed = inl record { within = s.within; aside = s.aside; level = λ h. absurd (true_false h) }
 
 -- ---- what a fragment has of its own
 sd_made : (g : Setting) (a : Alone) (c d : Config) (r : Rule) (t : Terminal) (given : Given) (piece : Piece (plan_on g a c r t).Item) → written_on g a c r t event.sd c.tables ≡ Some piece → given ≡ remembered ((plan_on g a c r t).make piece.item d) → (to : ℕ) × (given ≡ remembered (seen_in a event.sd, moves to d))
 sd_made g a c d r start_document given piece h e = (r.to, e)
 sd_made g a c d r end_document given piece h e = absurd cc
 sd_made g a c d r (element t) given piece h e = absurd cc
-sd_made g a c d r (attribute t) given piece h e = absurd cc
-sd_made g a c d r characters given piece h e = absurd cc
+sd_made g a c d r (attribute t u) given piece h e = absurd cc
+sd_made g a c d r (characters k) given piece h e = absurd cc
 sd_made g a c d r end_element given piece h e = absurd cc
 sd_made g a c d r declaration given piece h e = absurd cc
 sd_made g a c d r self_contained given piece h e = absurd cc
@@ -195,14 +232,13 @@ sd_made g a c d r comment given piece h e = absurd cc
 sd_made g a c d r instruction given piece h e = absurd cc
 sd_made g a c d r document_type given piece h e = absurd cc
 sd_made g a c d r entity given piece h e = absurd cc
-sd_made g a c d r (informed s) given piece h e = absurd cc
 
-se_made : (g : Setting) (a : Alone) (c d : Config) (r : Rule) (t : Terminal) (n : QName) (given : Given) (piece : Piece (plan_on g a c r t).Item) → written_on g a c r t (event.se n) c.tables ≡ Some piece → given ≡ remembered ((plan_on g a c r t).make piece.item d) → (telling : Telling) × (rule : Rule) × (named : Named) × (given ≡ remembered (element_made a telling rule named d))
+se_made : (g : Setting) (a : Alone) (c d : Config) (r : Rule) (t : Terminal) (n : QName) (given : Given) (piece : Piece (plan_on g a c r t).Item) → written_on g a c r t (event.se n) c.tables ≡ Some piece → given ≡ remembered ((plan_on g a c r t).make piece.item d) → (telling : Telling) × (rule : Rule) × (named : Named) × (given ≡ remembered (element_made g a telling rule named d))
 se_made g a c d r start_document n given piece h e = absurd cc
 se_made g a c d r end_document n given piece h e = absurd cc
 se_made g a c d r (element t) n given piece h e = (t, r, piece.item, e)
-se_made g a c d r (attribute t) n given piece h e = absurd cc
-se_made g a c d r characters n given piece h e = absurd cc
+se_made g a c d r (attribute t u) n given piece h e = absurd cc
+se_made g a c d r (characters k) n given piece h e = absurd cc
 se_made g a c d r end_element n given piece h e = absurd cc
 se_made g a c d r declaration n given piece h e = absurd cc
 se_made g a c d r self_contained n given piece h e = absurd cc
@@ -210,14 +246,13 @@ se_made g a c d r comment n given piece h e = absurd cc
 se_made g a c d r instruction n given piece h e = absurd cc
 se_made g a c d r document_type n given piece h e = absurd cc
 se_made g a c d r entity n given piece h e = absurd cc
-se_made g a c d r (informed s) n given piece h e = absurd cc
 
 ed_made : (g : Setting) (a : Alone) (c d : Config) (r : Rule) (t : Terminal) (given : Given) (piece : Piece (plan_on g a c r t).Item) → written_on g a c r t event.ed c.tables ≡ Some piece → given ≡ remembered ((plan_on g a c r t).make piece.item d) → given ≡ remembered (seen_in a event.ed, ended_in a d)
 ed_made g a c d r start_document given piece h e = absurd cc
 ed_made g a c d r end_document given piece h e = e
 ed_made g a c d r (element t) given piece h e = absurd cc
-ed_made g a c d r (attribute t) given piece h e = absurd cc
-ed_made g a c d r characters given piece h e = absurd cc
+ed_made g a c d r (attribute t u) given piece h e = absurd cc
+ed_made g a c d r (characters k) given piece h e = absurd cc
 ed_made g a c d r end_element given piece h e = absurd cc
 ed_made g a c d r declaration given piece h e = absurd cc
 ed_made g a c d r self_contained given piece h e = absurd cc
@@ -225,7 +260,6 @@ ed_made g a c d r comment given piece h e = absurd cc
 ed_made g a c d r instruction given piece h e = absurd cc
 ed_made g a c d r document_type given piece h e = absurd cc
 ed_made g a c d r entity given piece h e = absurd cc
-ed_made g a c d r (informed s) given piece h e = absurd cc
 
 -- it gives no event
 record Leads (To : Config → Type 0) (given : Given) : Type 0 where
@@ -241,12 +275,13 @@ sd_first a to d own none start aside = record { none = rw own refl; to = record 
 first_begun : (to : ℕ) (es : List Element) (o : Outer) → es ≡ [] → o ≡ outer.AloneFirst → IsBegun (outer_behind to es o)
 first_begun to es o none first = rw (none, first) tt
 
-se_between : (t : Telling) (r : Rule) (n : Named) (d : Config) → d.elements ≡ [] → d.outer ≡ outer.AloneFirst → ArePutAside d.aside → Leads IsBetween (remembered (element_made at_first t r n d))
-se_between spelled r n d none first aside = record { none = refl; to = record { within = first_begun r.to d.elements d.outer none first; aside = aside; level = λ h. absurd (true_false h) } }
-se_between (known id) r n d none first aside = record { none = refl; to = record { within = first_begun r.to d.elements d.outer none first; aside = aside; level = λ h. absurd (true_false h) } }
+se_between : (g : Setting) (t : Telling) (r : Rule) (n : Named) (d : Config) → d.elements ≡ [] → d.outer ≡ outer.AloneFirst → ArePutAside d.aside → Leads IsBetween (remembered (element_made g at_first t r n d))
+se_between g spelled r n d none first aside = record { none = refl; to = record { within = first_begun r.to d.elements d.outer none first; aside = aside; level = λ h. absurd (true_false h) } }
+se_between g (under uri) r n d none first aside = record { none = refl; to = record { within = first_begun r.to d.elements d.outer none first; aside = aside; level = λ h. absurd (true_false h) } }
+se_between g (known id) r n d none first aside = record { none = refl; to = record { within = first_begun r.to d.elements d.outer none first; aside = aside; level = λ h. absurd (true_false h) } }
 
-se_by : (a : Alone) (t : Telling) (r : Rule) (n : Named) (d : Config) → a ≡ at_first → d.elements ≡ [] → d.outer ≡ outer.AloneFirst → ArePutAside d.aside → Leads IsBetween (remembered (element_made a t r n d))
-se_by a t r n d own none first aside = subst (λ (z : Alone). Leads IsBetween (remembered (element_made z t r n d))) (sym own) (se_between t r n d none first aside)
+se_by : (g : Setting) (a : Alone) (t : Telling) (r : Rule) (n : Named) (d : Config) → a ≡ at_first → d.elements ≡ [] → d.outer ≡ outer.AloneFirst → ArePutAside d.aside → Leads IsBetween (remembered (element_made g a t r n d))
+se_by g a t r n d own none first aside = subst (λ (z : Alone). Leads IsBetween (remembered (element_made g z t r n d))) (sym own) (se_between g t r n d none first aside)
 
 resumed_between : (bs : List Body) (d : Config) → ArePutAside bs → ArePutAside d.aside → Leads IsBetween (remembered (None, resumed bs d))
 resumed_between [] d these all = record { none = refl; to = record { within = ended_within d.elements; aside = all; level = λ h. absurd (true_false h) } }
@@ -269,7 +304,7 @@ se_leads g c n w s h =
     let d : Config = further (record c { place = m.place }) m.bits (context m.meter m.piece.tables) in
     let k = se_made g (alone_in c.elements c.outer) c d m.rule m.rule.on n w.given m.piece m.spelled_so m.given in
     let alone : alone_in c.elements c.outer ≡ at_first = rw (s.none, s.first) refl in
-    leads_by IsBetween w.given (remembered (element_made (alone_in c.elements c.outer) k.0 k.1 k.2 d)) k.3 (se_by (alone_in c.elements c.outer) k.0 k.1 k.2 d alone s.none s.first s.aside)
+    leads_by IsBetween w.given (remembered (element_made g (alone_in c.elements c.outer) k.0 k.1 k.2 d)) k.3 (se_by g (alone_in c.elements c.outer) k.0 k.1 k.2 d alone s.none s.first s.aside)
 
 ed_leads : (g : Setting) (c : Config) (w : Written) → IsAtEnd c → written g c event.ed ≡ Ok w → Leads IsBetween w.given
 ed_leads g c w s h =
@@ -343,39 +378,44 @@ own_silent g c r s h = elim s [
 ]
 
 -- ---- an event of the list
-record IsStep (e : Happening) (given : Given) : Type 0 where
-  seen : Seen e given.0
+record IsStep (Stands : Value → Value → Type 0) (e : Happening) (given : Given) : Type 0 where
+  seen : Seen Stands e given.0
   behind : IsBehind given.1
 
-step_on : (g : Setting) (a : Alone) (c d : Config) (r : Rule) (t : Terminal) (e : Happening) (piece : Piece (plan_on g a c r t).Item) → a ≡ nowhere → IsBetween d → (c.after_start ≡ true → has_level d.elements d.outer ≡ true) → (plan_on g a c r t).misplaced ≡ None → written_on g a c r t e c.tables ≡ Some piece → IsStep e (remembered ((plan_on g a c r t).make piece.item d))
+step_on : (g : Setting) (a : Alone) (c d : Config) (r : Rule) (t : Terminal) (e : Happening) (piece : Piece (plan_on g a c r t).Item) → a ≡ nowhere → IsBetween d → (c.after_start ≡ true → has_level d.elements d.outer ≡ true) → (plan_on g a c r t).misplaced ≡ None → written_on g a c r t e c.tables ≡ Some piece
+    → IsStep (IsTypedBy g c.tables t e) e (remembered ((plan_on g a c r t).make piece.item d))
 step_on g nowhere c d r t e piece is s level placed h = record { seen = same_on g c d r t e c.tables piece h; behind = make_behind g c d r t piece.item s level placed }
 step_on g at_start c d r t e piece is s level placed h = absurd cc
 step_on g at_first c d r t e piece is s level placed h = absurd cc
 step_on g at_end c d r t e piece is s level placed h = absurd cc
 
-step : (g : Setting) (c : Config) (e : Happening) (w : Written) → IsBetween c → written g c e ≡ Ok w → IsStep e w.given
+step_map : (A B : Value → Value → Type 0) → ((v u : Value) → A v u → B v u) → (e : Happening) (given : Given) → IsStep A e given → IsStep B e given
+step_map A B f e given s = record { seen = seen_map A B f e given.0 s.seen; behind = s.behind }
+
+step : (g : Setting) (c : Config) (e : Happening) (w : Written) → IsBetween c → written g c e ≡ Ok w → IsStep (IsTyped g c e) e w.given
 step g c e w s h =
     let m = chosen_of g c e w h in
     let d : Config = further (record c { place = m.place }) m.bits (context m.meter m.piece.tables) in
     let k = step_on g (alone_in c.elements c.outer) c d m.rule m.rule.on e m.piece (within_alone c.elements c.outer s.within) record { within = s.within; aside = s.aside; level = s.level } s.level m.placed m.spelled_so in
-    subst (IsStep e) (sym m.given) k
+    let x : Coded Rule = record { parts = m.parts; item = m.rule } in
+    step_map (IsTypedBy g c.tables m.rule.on e) (IsTyped g c e) (λ v u q. (x, m.is, q)) e w.given (subst (IsStep (IsTypedBy g c.tables m.rule.on e) e) (sym m.given) k)
 
-record IsPut (e : Happening) (r : Run) : Type 0 where
+record IsPut (Stands : Value → Value → Type 0) (e : Happening) (r : Run) : Type 0 where
   event : Happening
-  same : IsSame e event
+  same : IsSame Stands e event
   are : events_of r.events ≡ event ∷ []
   last : IsBetween r.last
 
-put_parts : (e : Happening) (w : Written) (r : Run) → Seen e w.given.0 → IsSilent r → IsPut e (in_front w r)
-put_parts e w r seen s = record { event = seen.event; same = seen.same; are = rw (seen.is, s.none) refl; last = s.last }
+put_parts : (Stands : Value → Value → Type 0) (e : Happening) (w : Written) (r : Run) → Seen Stands e w.given.0 → IsSilent r → IsPut Stands e (in_front w r)
+put_parts Stands e w r seen s = record { event = seen.event; same = seen.same; are = rw (seen.is, s.none) refl; last = s.last }
 
-put_same : (g : Setting) (c : Config) (e : Happening) (r : Run) → IsBetween c → put g c e ≡ Ok r → IsPut e r
+put_same : (g : Setting) (c : Config) (e : Happening) (r : Run) → IsBetween c → put g c e ≡ Ok r → IsPut (IsTyped g c e) e r
 unfolding put
 put_same g c e r s h =
     let a = bind_parts (written g c e) _ r h in
     let t = then_parts a.0 (written_all g a.0.given.1 (own a.0.given.1)) r a.2 in
     let k = step g c e a.0 s a.1 in
-    subst (IsPut e) (sym t.2) (put_parts e a.0 t.0 k.seen (own_silent g a.0.given.1 t.0 k.behind t.1))
+    subst (IsPut (IsTyped g c e) e) (sym t.2) (put_parts (IsTyped g c e) e a.0 t.0 k.seen (own_silent g a.0.given.1 t.0 k.behind t.1))
 
 -- ---- a list
 abbrev listed_run : Run → Result Run Refusal
@@ -388,29 +428,30 @@ behind_parts : (r : Run) (o : Result Run Refusal) (t : Run) → behind_run r o �
 behind_parts r (Ok s) t e = (s, refl, ap (λ (z : Run). z.events) (sym (listed_is (record { bits = r.bits ++ s.bits; events = r.events ++ s.events; last = s.last }) t e)))
 behind_parts r (Err why) t e = absurd cc
 
-on_same : (n : ℕ) (g : Setting) (c : Config) (e : Happening) (o : Result Run Refused) (more : List Happening) (others : Config → Result Run Refusal) (r : Run) → IsBetween c → ((d : Config) (t : Run) → IsBetween d → others d ≡ Ok t → AreSame more (events_of t.events)) → put g c e ≡ o → go_on n o others ≡ Ok r → AreSame (e ∷ more) (events_of r.events)
+on_same : (n : ℕ) (g : Setting) (c : Config) (e : Happening) (o : Result Run Refused) (more : List Happening) (others : Config → Result Run Refusal) (r : Run) → IsBetween c → ((d : Config) (t : Run) → IsBetween d → others d ≡ Ok t → AreSame g d more (events_of t.events)) → put g c e ≡ o → go_on n o others ≡ Ok r → AreSame g c (e ∷ more) (events_of r.events)
 on_same n g c e (Err why) more others r s same is h = absurd cc
 on_same n g c e (Ok p) more others r s same is h =
     let b = behind_parts p (others p.last) r h in
     let k = put_same g c e p s is in
     let are : events_of r.events ≡ k.event ∷ events_of b.0.events = ap events_of b.2 ∙ (events_append p.events b.0.events ∙ ap (λ (z : List Happening). z ++ events_of b.0.events) k.are) in
-    subst (λ (z : List Happening). AreSame (e ∷ more) z) (sym are) (k.same, same p.last b.0 k.last b.1)
+    subst (λ (z : List Happening). AreSame g c (e ∷ more) z) (sym are) (k.same, p, is, same p.last b.0 k.last b.1)
 
-then_same : (n : ℕ) (g : Setting) (c : Config) (o : Option Happening) (more : List Happening) (others : Config → Result Run Refusal) (r : Run) → IsBetween c → ((d : Config) (t : Run) → IsBetween d → others d ≡ Ok t → AreSame more (events_of t.events)) → put_then n g c o others ≡ Ok r → AreSame (kept_before o more) (events_of r.events)
+then_same : (n : ℕ) (g : Setting) (c : Config) (o : Option Happening) (more : List Happening) (others : Config → Result Run Refusal) (r : Run) → IsBetween c → ((d : Config) (t : Run) → IsBetween d → others d ≡ Ok t → AreSame g d more (events_of t.events)) → put_then n g c o others ≡ Ok r → AreSame g c (kept_before o more) (events_of r.events)
 then_same n g c None more others r s same h = same c r s h
 then_same n g c (Some e) more others r s same h = on_same n g c e (put g c e) more others r s same refl h
 
-from_same : (n : ℕ) (g : Setting) (c : Config) (es : List Happening) (r : Run) → IsBetween c → put_from n g c es ≡ Ok r → AreSame (pruned_list g.options es) (events_of r.events)
+from_same : (n : ℕ) (g : Setting) (c : Config) (es : List Happening) (r : Run) → IsBetween c → put_from n g c es ≡ Ok r → AreSame g c (pruned_list g.options es) (events_of r.events)
 from_same n g c [] r s h = elim (cases_Bool (has_ended c)) [
   | inl k ↦ ap (λ (z : Run). events_of z.events) (sym (listed_is (nothing_from c) r (rw k at h)))
   | inr k ↦ absurd (let f = rw k at h in cc)
 ]
 from_same n g c (e ∷ es) r s h = then_same n g c (pruned g.options e) (pruned_list g.options es) (λ d. put_from (suc n) g d es) r s (λ d t between is. from_same (suc n) g d es t between is) h
 
-first_within : (b : Bool) → outer_alone (body_outer b) ≡ nowhere
-first_within true = refl
-first_within false = refl
+first_within : (schema b : Bool) → outer_alone (body_outer schema b) ≡ nowhere
+first_within schema false = refl
+first_within true true = refl
+first_within false true = refl
 
 pub list_same : ListIsSame
 unfolding body
-list_same g bits limits es r h = from_same 1 g (first_config g bits start.Body limits) es r record { within = first_within (fragment g.options); aside = tt; level = λ k. absurd (true_false k) } h
+list_same g bits limits es r h = from_same 1 g (first_config g bits start.Body limits) es r record { within = first_within g.schema.known (fragment g.options); aside = tt; level = λ k. absurd (true_false k) } h

@@ -5,14 +5,13 @@ use Rattle.std.proofs.lemmas.List.{length-append, length-replicate}
 use Rattle.exi_bits.specs.Bits.{bits}
 use Rattle.exi_bits.specs.Written.{IsWholeBytes, padded, to_byte, zeros}
 use Rattle.exi_bits.proofs.BitLaws.{length-bits}
-use Rattle.exi_gram.specs.Books.{IsPlainBook}
 use Rattle.exi_gram.specs.Switches.{align_of}
 use Rattle.exi_meter.specs.Metering.{Bounds, IsWithinStream}
-use Rattle.exi_names.specs.StartTables.{IsStart}
 use Rattle.exi_names.specs.Events as event
 use Rattle.exi_names.specs.declared.names.QName.{QName}
+use Rattle.exi_names.specs.StartTables.{IsStart}
 use Rattle.exi_pen.specs.Pages.{Page, StartsAt, first_page}
-use Rattle.exi_reader.specs.Configurations.{Setting, first_place}
+use Rattle.exi_reader.specs.Configurations.{IsSetting, Setting, first_place}
 use Rattle.exi_reader.specs.declared.start.Start.{Start}
 use Rattle.exi_reader.specs.declared.start.Start.TheVariants as start
 use Rattle.exi_tables.proofs.Sound.{first_sound}
@@ -29,13 +28,13 @@ starts_at : (s : Start) (bits : ℕ) → StartsAt s bits → first_place bits s 
 starts_at start.Body bits h = refl
 starts_at (start.Fragment byte) bits h = h
 
-first_composed : (g : Setting) (s : Start) (limits : Bounds) (head : List Bool) → IsWithinStream limits → IsPlainBook g → IsStart g.schema.names → StartsAt s (length head) → IsWholeBytes (align_of g.options) head → IsComposed (composing_at (first_page g s limits head))
-first_composed g s limits head within book names starts aligned = record {
+first_composed : (g : Setting) (s : Start) (limits : Bounds) (head : List Bool) → IsWithinStream limits → IsSetting g → IsStart g.schema.names → StartsAt s (length head) → IsWholeBytes (align_of g.options) head → IsComposed (composing_at (first_page g s limits head))
+first_composed g s limits head within setting names starts aligned = record {
   body = length head;
   start = s;
   limits = limits;
   within = within;
-  book = book;
+  is_setting = setting;
   names = names;
   sound = record { here = first_sound _; aside = tt };
   place = starts_at s (length head) starts;
@@ -43,8 +42,8 @@ first_composed g s limits head within book names starts aligned = record {
   leads = λ bytes more octets are. ([], refl);
 }
 
-pub begun : (p : Page) (g : Setting) (s : Start) (limits : Bounds) (head : List Bool) → p ≡ first_page g s limits head → IsWithinStream limits → IsPlainBook g → IsStart g.schema.names → StartsAt s (length head) → IsWholeBytes (align_of g.options) head → IsComposed (composing_at p)
-begun p g s limits head is within book names starts aligned = subst (λ (z : Page). IsComposed (composing_at z)) (sym is) (first_composed g s limits head within book names starts aligned)
+pub begun : (p : Page) (g : Setting) (s : Start) (limits : Bounds) (head : List Bool) → p ≡ first_page g s limits head → IsWithinStream limits → IsSetting g → IsStart g.schema.names → StartsAt s (length head) → IsWholeBytes (align_of g.options) head → IsComposed (composing_at p)
+begun p g s limits head is within setting names starts aligned = subst (λ (z : Page). IsComposed (composing_at z)) (sym is) (first_composed g s limits head within setting names starts aligned)
 
 -- ---- a fragment, at a whole byte
 pub at_byte : (bytes : List ℕ) (head : List Bool) → bits bytes ≡ padded head → length head % 8 ≡ 0 → 8 * length bytes ≡ length head

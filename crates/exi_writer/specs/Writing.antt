@@ -3,15 +3,13 @@ use Rattle.std.specs.Prelude.{◌≡◌, ◌+◌, ◌*◌, ◌%◌, ◌/◌, ℕ
 use Rattle.exi_bits.specs.Bits.{IsBytes, bits}
 use Rattle.exi_bits.specs.Written.{IsWholeBytes}
 use Rattle.exi_bits.specs.declared.align.Align.{Align}
-use Rattle.exi_gram.specs.Books.{IsPlainBook}
 use Rattle.exi_gram.specs.Switches.{align_of}
 use Rattle.exi_meter.specs.Metering.{Bounds, IsWithinStream, Metering, with_tally}
 use Rattle.exi_meter.specs.declared.tally.Tally.{Tally}
 use Rattle.exi_names.specs.declared.names.QName.{QName}
 use Rattle.exi_names.specs.Events.{Happening}
-use Rattle.exi_names.specs.StartTables.{IsStart}
 use Rattle.exi_reader.specs.Changes.{resumed, same_texts}
-use Rattle.exi_reader.specs.Configurations.{Body, Config, Setting, first_config}
+use Rattle.exi_reader.specs.Configurations.{Body, Config, IsSetting, Setting, first_config}
 use Rattle.exi_reader.specs.Plans.{Alone, alone_in, at_end, at_first, at_start, nowhere}
 use Rattle.exi_reader.specs.Runs.{IsSequence, Leads, has_ended}
 use Rattle.exi_reader.specs.Splices.{AtFragment}
@@ -20,6 +18,7 @@ use Rattle.exi_reader.specs.declared.start.Start.{Start}
 use Rattle.exi_reader.specs.declared.start.Start.TheVariants as start
 use Rattle.exi_writing.specs.OneEvent.{Refused, limit, not_derived}
 use Rattle.exi_names.specs.Events as event
+use Rattle.exi_names.specs.StartTables.{IsStart}
 use Rattle.exi_pen.specs.Pages.{Page, first_page}
 use Rattle.exi_writing.specs.Pruned.{pruned_name}
 use Rattle.exi_pen.specs.Steps.{begins_fragment}
@@ -46,7 +45,7 @@ pub record IsComposed (w : Composing) : Type 0 where
   pub start : Start
   pub limits : Bounds
   pub within : IsWithinStream limits
-  pub book : IsPlainBook w.setting
+  pub is_setting : IsSetting w.setting
   pub names : IsStart w.setting.schema.names
   pub sound : HasSoundTables w.config
   pub place : w.config.place ≡ length w.bits

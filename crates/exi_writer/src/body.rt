@@ -49,7 +49,7 @@ fn put_one<T: Tables + Drop, L: Ledger>(
     Ok(())
 }
 
-/// Writes the body of a list of events behind these bits (EXI 1.0, section 6). The book has to be without a schema.
+/// Writes the body of a list of events behind these bits (EXI 1.0, section 6).
 ///
 /// # Errors
 ///
@@ -63,7 +63,6 @@ pub fn write_body<T: Tables + Drop>(
     events: &[Event],
     head: BitOut,
 ) -> Result<BitOut, WriteFault>
-    requires plain { book.now.schema.known ≡ false }
     requires aligned { IsWholeBytes (align_of book.now.options) head }
     ensures written { Bodies result head (body book.now (length head) limits (map happens events.now)) }
 {
@@ -81,7 +80,6 @@ fn write_counted<T: Tables + Drop, L: Ledger>(
 ) -> Result<BitOut, WriteFault>
     requires name { blank.name ≡ L.name }
     requires parts { (blank.parts ≡ L.parts) × (blank.parts ≡ 1) }
-    requires plain { book.now.schema.known ≡ false }
     requires aligned { IsWholeBytes (align_of book.now.options) head }
     ensures written { Bodies result head (body book.now (length head) limits (map happens events.now)) }
 {

@@ -7,7 +7,6 @@ ghost use Rattle.exi_writer.specs.Writing.{IsComposed, WritesAll, closing_events
 ghost use Rattle.exi_writing.specs.Pruned.{pruned_name};
 ghost use Rattle.exi_writing.specs.Runs.{written_all};
 
-use exi_choice::laws::chosen_is_wanted;
 use exi_names::NameRef;
 use exi_pen::Pen;
 use exi_reader::Alone;
@@ -20,7 +19,6 @@ pub fn leave_fragment<T: Tables + Drop>(pen: &mut Pen<'_, T>) -> Result<(), PutS
     requires closes { alone_in pen.old.config.elements pen.old.config.outer ≡ at_end → IsReady pen.old }
     ensures { WritesAll result pen.old pen.new (written_all pen.old.setting pen.old.config (closing_events pen.old.config)) }
 {
-    chosen_is_wanted();
     match pen.alone() {
         Alone::AtEnd => pen.end_document(),
         Alone::Nowhere | Alone::AtStart | Alone::AtFirst => Ok(()),
@@ -36,7 +34,6 @@ pub fn start_fragment<T: Tables + Drop>(
     requires composed { IsComposed (composing_at pen.old) }
     ensures { WritesAll result pen.old pen.new (written_all pen.old.setting pen.old.config (event.sd ∷ event.se (pruned_name pen.old.setting.options (named name.entry)) ∷ [])) }
 {
-    chosen_is_wanted();
     written_is_read();
     pen.start_document()?;
     pen.element(name)

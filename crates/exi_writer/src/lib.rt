@@ -1,8 +1,8 @@
-//! A writer of EXI 1.0 (sections 6, 7.1 and 8.4), for streams without a schema, and what holds of what it writes.
+//! A writer of EXI 1.0 (sections 6, 7.1, 8.4 and 8.5), by a schema or without one, and what holds of what it writes.
 //!
 //! [`write_body`] writes a list of events behind a header's bits. A [`Writer`] takes one event at a time: [`Writer::put`]
 //! writes it, and where it was SC, [`Writer::enter`] goes into the fragment, or [`Writer::splice`] takes what was written of it
-//! apart. Behind the header `80`, the events SD, SE "a", CH "x", EE, ED are `40 98 70 37 80`, bit by bit:
+//! apart. Without a schema, behind the header `80`, the events SD, SE "a", CH "x", EE, ED are `40 98 70 37 80`, bit by bit:
 //!
 //! ```text
 //!        SE(*)                             CH                        EE  ED
@@ -16,7 +16,7 @@
 //! What is written is defined in exi_writing: of the productions of a state that may stand for an event, the one with the
 //! fewest parts in its code, and among these the one with the least code; its items by the one spelling that is written; what
 //! it charges; and the next configuration, which is the reader's. The definitions here say what the calls promise, in its
-//! words. [`laws`] says that what is read of a list that was written is that list.
+//! words. [`laws`] says that what is read of a list that was written is that list, each value as its datatype has it.
 #![tactic(auto)]
 
 mod body;

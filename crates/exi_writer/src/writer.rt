@@ -55,8 +55,7 @@ impl<'a, T: Tables + Drop> Model for Writer<'a, T> {
 
 impl<'a, T: Tables + Drop> Writer<'a, T> {
     /// A writer that stands where a body begins, behind these bits, with limits of its own; or in a fragment, its SD and
-    /// the SE of its element written. The book has to be without a schema; under byte alignment, and for a fragment, the
-    /// bits have to be whole bytes.
+    /// the SE of its element written. Under byte alignment, and for a fragment, the bits have to be whole bytes.
     ///
     /// # Errors
     ///
@@ -69,7 +68,6 @@ impl<'a, T: Tables + Drop> Writer<'a, T> {
         start: WriteStart<'_>,
         head: BitOut,
     ) -> Result<Writer<'a, T>, PutStop>
-        requires plain { book.now.schema.known ≡ false }
         requires aligned { CanBegin start (align_of book.now.options) head }
         ensures starts { Starts result book.now limits start.entry head }
         ensures composed { IfOk result MayGoOn }

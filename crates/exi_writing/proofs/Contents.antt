@@ -1,8 +1,10 @@
 -- What a production writes of an event is a spelling of its content.
-use Rattle.std.proofs.Common.{◌≡◌, ℕ, List, [], ◌++◌, Option, Some, None, refl, sym, ap, subst, inl, inr}
+use Rattle.std.proofs.Common.{◌≡◌, ℕ, true, List, [], ◌++◌, Option, Some, None, refl, sym, ap, ◌∙◌, subst, inl, inr}
 use Rattle.std.proofs.lemmas.Bool.{cases_Bool}
-use Rattle.exi_builtin.specs.Learning.{is_type}
-use Rattle.exi_gram.specs.Switches.{align_of, prefixes, strict}
+use Rattle.exi_gram.specs.Switches.{align_of, prefixes}
+use Rattle.exi_lexical.specs.Values.{value}
+use Rattle.exi_lexical.proofs.Again.{value_kept}
+use Rattle.exi_names.specs.Datatypes.{Representation}
 use Rattle.exi_names.specs.declared.names.NameId.{NameId}
 use Rattle.exi_names.specs.declared.names.QName.{QName}
 use Rattle.exi_names.specs.Events.{Happening}
@@ -10,20 +12,22 @@ use Rattle.exi_names.specs.Seen.{Value}
 use Rattle.exi_names.specs.Seen as shape
 use Rattle.exi_tables.specs.Growth.{IsSound}
 use Rattle.exi_tables.specs.Partitions.{Partitions}
-use Rattle.exi_typed.specs.Items.{SpellsItem, qualified, string}
+use Rattle.exi_typed.specs.Items.{SpellsItem, qualified}
 use Rattle.exi_typed.specs.Laws.{Spelling}
 use Rattle.exi_typed.specs.Strings.{Declaration, Named}
 use Rattle.exi_typed.specs.WrittenLaws.{IsWritten}
 use Rattle.exi_typed.proofs.WrittenSpelled.{written_then}
 use Rattle.exi_reader.specs.Changes.{innermost}
 use Rattle.exi_reader.specs.Configurations.{Config, Setting}
-use Rattle.exi_reader.specs.Contents.{SpellsAttributeValue, SpellsBoth, SpellsFourTexts, SpellsNothing, SpellsText, SpellsTold, SpellsTwoTexts}
+use Rattle.exi_values.specs.Spelled.{SpellsValued}
+use Rattle.exi_reader.specs.Contents.{SpellsAttributeValue, SpellsBoth, SpellsFourTexts, SpellsNothing, SpellsText, SpellsTold, SpellsTwoTexts, acts_as_type, is_missing, represented_by}
+use Rattle.exi_reader.specs.Contents as contents
 use Rattle.exi_reader.specs.Plans.{Alone, Plan, plan_on}
-use Rattle.exi_reader.specs.Rules.{Rule, Telling, Terminal, attribute, characters, comment, declaration, document_type, element, end_document, end_element, entity, informed, instruction, known, self_contained, spelled, start_document}
-use Rattle.exi_writing.specs.Contents.{at_parts, attribute_by, attribute_value, ch_value, cm_text, dt_parts, er_name, four_texts, is_ed, is_ee, is_sc, is_sd, nothing, ns_parts, of, pi_parts, se_name, string_value, text, text_of, told_name, two_texts, type_value, written_on}
+use Rattle.exi_reader.specs.Rules.{Rule, Telling, Terminal, Valuing, attribute, by_name, characters, comment, declaration, document_type, element, end_document, end_element, entity, instruction, known, self_contained, spelled, start_document, typed, under, untyped}
+use Rattle.exi_writing.specs.Contents.{at_parts, attribute_by, attribute_value, ch_value, cm_text, dt_parts, er_name, four_texts, is_ed, is_ee, is_sc, is_sd, nothing, ns_parts, of, pi_parts, se_name, text, text_of, told_name, two_texts, type_value, valued, written_on}
 use Rattle.exi_writing.specs.Pieces as piece
 use Rattle.exi_writing.specs.Pieces.{Piece, Writing, as_bits, both, both_by}
-use Rattle.exi_writing.proofs.Leaves.{Fits, declaration_fits, known_fits, literal_fits, name_fits, name_value_fits, piece_is, value_fits}
+use Rattle.exi_writing.proofs.Leaves.{Fits, declaration_fits, known_fits, literal_fits, name_fits, name_value_fits, name_value_item, piece_is, under_fits, value_fits}
 
 -- ---- one behind another
 record BothBy {X Y : Type 0} (two : X → Writing Y) (f : Piece X) (w : Piece (X × Y)) : Type 0 where
@@ -74,20 +78,20 @@ told_fits : (g : Setting) (t : Telling) (n : QName) (p : Partitions) (w : Piece 
 told_fits g spelled n p w sound e =
     let k = name_fits (prefixes g.options) (align_of g.options) n p w sound e in
     record { written = record { charges = k.written.charges; are = k.written.are; spelled = k.written.spelled }; sound = k.sound }
+told_fits g (under uri) n p w sound e =
+    let k = under_fits (prefixes g.options) (align_of g.options) uri n p w sound e in
+    record { written = record { charges = k.written.charges; are = k.written.are; spelled = k.written.spelled }; sound = k.sound }
 told_fits g (known id) n p w sound e =
     let k = known_fits (prefixes g.options) (align_of g.options) id n p w sound e in
     record { written = record { charges = k.written.charges; are = k.written.are; spelled = k.written.spelled }; sound = k.sound }
 
 -- ---- values
-string_fits : (g : Setting) (name : NameId) (v : Value) (p : Partitions) (w : Piece Value) → IsSound p.values → string_value g name v p ≡ Some w → Fits (SpellsItem string (align_of g.options) name) p w
-string_fits g name v p w sound e =
-    let o = of_parts (text_of v) (λ t q. piece.turned (λ x. shape.text x) (piece.value (align_of g.options) name t q)) p w e in
-    let t = turned_parts (λ (x : List ℕ). shape.text x) (piece.value (align_of g.options) name o.0 p) w o.2 in
-    let k = value_fits (align_of g.options) name o.0 p t.0 sound t.1 in
-    rw t.2 record {
-      written = record { charges = k.written.charges; are = k.written.are; spelled = record { string = t.0.item; is = refl; spelled = k.written.spelled } };
-      sound = k.sound;
-    }
+-- the value that the text has is of the datatype's form
+valued_fits : (g : Setting) (r : Representation) (name : NameId) (v : Value) (p : Partitions) (w : Piece Value) → IsSound p.values → valued g r name v p ≡ Some w → Fits (SpellsValued r (align_of g.options) name) p w
+valued_fits g r name v p w sound e =
+    let t = of_parts (text_of v) (λ (t : List ℕ). of (value r t) (piece.value r (align_of g.options) name)) p w e in
+    let x = of_parts (value r t.0) (piece.value r (align_of g.options) name) p w t.2 in
+    value_fits r (align_of g.options) name x.0 p w (value_kept r t.0 x.0 x.1).of sound x.2
 
 type_fits : (g : Setting) (name : NameId) (v : Value) (p : Partitions) (w : Piece Value) → IsSound p.values → type_value g v p ≡ Some w → Fits (SpellsItem (qualified (prefixes g.options)) (align_of g.options) name) p w
 type_fits g name (shape.name n) p w sound e =
@@ -103,17 +107,48 @@ type_fits g name (shape.moment m) p w sound e = absurd cc
 type_fits g name (shape.binary hex octets) p w sound e = absurd cc
 type_fits g name (shape.items vs) p w sound e = absurd cc
 
-attribute_value_fits : (g : Setting) (name : NameId) (v : Value) (p : Partitions) (w : Piece Value) → IsSound p.values → attribute_value g name v p ≡ Some w → Fits (SpellsAttributeValue g name) p w
-attribute_value_fits g name v p w sound e = elim (cases_Bool (is_type name)) [
-  | inl h ↦ elim (cases_Bool (strict g.options)) [
-    | inl k ↦ absurd (let f = rw (h, k) at e in cc)
+-- the name that is written is the one that was given
+type_item : (g : Setting) (v : Value) (p : Partitions) (w : Piece Value) → type_value g v p ≡ Some w → w.item ≡ v
+type_item g (shape.name n) p w e =
+    let t = turned_parts (λ (x : Named). shape.name x.name) (piece.name_value (prefixes g.options) (align_of g.options) n p) w e in
+    rw t.2 (ap (λ (m : QName). shape.name m) (name_value_item (prefixes g.options) (align_of g.options) n p t.0 t.1))
+type_item g (shape.text t) p w e = absurd cc
+type_item g (shape.boolean truth digit) p w e = absurd cc
+type_item g (shape.integer n) p w e = absurd cc
+type_item g (shape.decimal minus whole back) p w e = absurd cc
+type_item g (shape.float mantissa exponent) p w e = absurd cc
+type_item g (shape.moment m) p w e = absurd cc
+type_item g (shape.binary hex octets) p w e = absurd cc
+type_item g (shape.items vs) p w e = absurd cc
+
+-- where an attribute acts as xsi:type its value is a name
+represented_type : (g : Setting) (v : Valuing) (name : Named) → acts_as_type v name.id ≡ true → represented_by g v name ≡ contents.type_value g
+represented_type g untyped name h = rw h refl
+represented_type g (typed r) name h = absurd cc
+represented_type g by_name name h = rw h refl
+
+attribute_value_fits : (g : Setting) (v : Valuing) (name : Named) (x : Value) (p : Partitions) (w : Piece Value) → IsSound p.values → attribute_value g v name x p ≡ Some w → Fits (SpellsAttributeValue g v name) p w
+attribute_value_fits g v name x p w sound e = elim (cases_Bool (acts_as_type v name.id)) [
+  | inl h ↦ elim (cases_Bool (is_missing g v name.id x)) [
+    | inl k ↦ absurd (let f = rw (k, h) at e in cc)
     | inr k ↦
-        let tf = type_fits g name v p w sound (rw (h, k) at e) in
-        record { written = record { charges = tf.written.charges; are = tf.written.are; spelled = record { there = rw (h, k) refl; spelled = rw h tf.written.spelled } }; sound = tf.sound }
+        let written : type_value g x p ≡ Some w = rw (k, h) at e in
+        let tf = type_fits g name.id x p w sound written in
+        record {
+          written = record {
+            charges = tf.written.charges;
+            are = tf.written.are;
+            spelled = record {
+              there = ap (is_missing g v name.id) (type_item g x p w written) ∙ k;
+              spelled = subst (λ (r : Representation). SpellsValued r (align_of g.options) name.id w.item p w.tables tf.written.charges w.bits) (sym (represented_type g v name h)) tf.written.spelled;
+            };
+          };
+          sound = tf.sound;
+        }
   ]
   | inr h ↦
-      let sf = string_fits g name v p w sound (rw h at e) in
-      record { written = record { charges = sf.written.charges; are = sf.written.are; spelled = record { there = rw h refl; spelled = rw h sf.written.spelled } }; sound = sf.sound }
+      let vf = valued_fits g (represented_by g v name) name.id x p w sound (rw h at e) in
+      record { written = record { charges = vf.written.charges; are = vf.written.are; spelled = record { there = rw h refl; spelled = vf.written.spelled } }; sound = vf.sound }
 ]
 
 -- ---- texts
@@ -148,13 +183,13 @@ contents_agree g a c r (element t) e p w sound h =
     let o = of_parts (se_name e) (told_name g t) p w h in
     let k = told_fits g t o.0 p w sound o.2 in
     record { written = record { charges = k.written.charges; are = k.written.are; spelled = k.written.spelled }; sound = k.sound }
-contents_agree g a c r (attribute t) e p w sound h =
-    let o = of_parts (at_parts e) (attribute_by g t) p w h in
-    let k = both_fit (SpellsTold g t) (λ name. SpellsAttributeValue g name.id) (told_name g t o.0.0) (λ name. attribute_value g name.id o.0.1) p w (λ f is. told_fits g t o.0.0 p f sound is) (λ y q s s_sound is. attribute_value_fits g y.id o.0.1 q s s_sound is) o.2 in
+contents_agree g a c r (attribute t v) e p w sound h =
+    let o = of_parts (at_parts e) (attribute_by g t v) p w h in
+    let k = both_fit (SpellsTold g t) (λ name. SpellsAttributeValue g v name) (told_name g t o.0.0) (λ name. attribute_value g v name o.0.1) p w (λ f is. told_fits g t o.0.0 p f sound is) (λ y q s s_sound is. attribute_value_fits g v y o.0.1 q s s_sound is) o.2 in
     record { written = record { charges = k.written.charges; are = k.written.are; spelled = k.written.spelled }; sound = k.sound }
-contents_agree g a c r characters e p w sound h =
-    let o = of_parts (ch_value e) (string_value g (innermost c.elements)) p w h in
-    let k = string_fits g (innermost c.elements) o.0 p w sound o.2 in
+contents_agree g a c r (characters d) e p w sound h =
+    let o = of_parts (ch_value e) (valued g d (innermost c.elements)) p w h in
+    let k = valued_fits g d (innermost c.elements) o.0 p w sound o.2 in
     record { written = record { charges = k.written.charges; are = k.written.are; spelled = k.written.spelled }; sound = k.sound }
 contents_agree g a c r end_element e p w sound h =
     let k = nothing_fits (is_ee e) p w sound h in
@@ -182,4 +217,3 @@ contents_agree g a c r entity e p w sound h =
     let o = of_parts (er_name e) (text g) p w h in
     let k = text_fits_in g o.0 p w sound o.2 in
     record { written = record { charges = k.written.charges; are = k.written.are; spelled = k.written.spelled }; sound = k.sound }
-contents_agree g a c r (informed symbol) e p w sound h = absurd cc

@@ -4,11 +4,10 @@ use Rattle.std.specs.Prelude.{Result, Ok, Err, nat_lt}
 use Rattle.std.proofs.lemmas.Bool.{cases_Bool, le-ltb}
 use Rattle.std.proofs.lemmas.List.{append_cancel_left}
 use Rattle.exi_bits.specs.Bits.{rest}
-use Rattle.exi_gram.specs.Books.{IsPlainBook}
 use Rattle.exi_names.specs.Events.{Happening}
 use Rattle.exi_tables.proofs.Sound.{first_sound}
 use Rattle.exi_gram.specs.Switches.{fragment}
-use Rattle.exi_reader.specs.Configurations.{Config, Setting, body_outer, spot_in}
+use Rattle.exi_reader.specs.Configurations.{Config, IsSetting, Setting, body_outer, spot_in}
 use Rattle.exi_reader.specs.OneEvent.{one}
 use Rattle.exi_reader.specs.Runs.{IsRun, Job, closing, done, ends, first, goes, has_ended, is_end, turn, turned_by, whole_bytes}
 use Rattle.exi_reader.specs.declared.end.End.{End}
@@ -69,7 +68,7 @@ run_is : (a b : Run) → given_run a ≡ given_run b → a ≡ b
 run_is a b e = cc
 
 -- an event in front of others
-chained_front : Laws → (g : Setting) (bytes : List ℕ) (c : Config) (e : Happening) (w : Written) (r : Run) (more : List Bool) → IsPlainBook g → IsIn g bytes c → HasSoundTables c → written g c e ≡ Ok w → rest (spot_in bytes c) ≡ (w.bits ++ r.bits) ++ more
+chained_front : Laws → (g : Setting) (bytes : List ℕ) (c : Config) (e : Happening) (w : Written) (r : Run) (more : List Bool) → IsSetting g → IsIn g bytes c → HasSoundTables c → written g c e ≡ Ok w → rest (spot_in bytes c) ≡ (w.bits ++ r.bits) ++ more
     → ((IsIn g bytes w.given.1) → (HasSoundTables w.given.1) → rest (spot_in bytes w.given.1) ≡ r.bits ++ more → Chained g bytes w.given.1 r more) → Chained g bytes c (in_front w r) more
 chained_front laws g bytes c e w r more book stands sound h front others =
     let s = one_read laws g bytes c e w (r.bits ++ more) book stands sound h (front ∙ append_assoc w.bits r.bits more) in
@@ -80,7 +79,7 @@ then_parts : (w : Written) (o : Result Run Refused) (r : Run) → then_run w o �
 then_parts w (Ok s) r e = (s, refl, sym (run_is (in_front w s) r e))
 then_parts w (Err why) r e = absurd cc
 
-all_read : Laws → (g : Setting) (bytes : List ℕ) (c : Config) (es : List Happening) (r : Run) (more : List Bool) → IsPlainBook g → IsIn g bytes c → HasSoundTables c → written_all g c es ≡ Ok r → rest (spot_in bytes c) ≡ r.bits ++ more → Chained g bytes c r more
+all_read : Laws → (g : Setting) (bytes : List ℕ) (c : Config) (es : List Happening) (r : Run) (more : List Bool) → IsSetting g → IsIn g bytes c → HasSoundTables c → written_all g c es ≡ Ok r → rest (spot_in bytes c) ≡ r.bits ++ more → Chained g bytes c r more
 all_read laws g bytes c [] r more book stands sound h front =
     let is = run_is (nothing_from c) r h in
     rw (← is) record { chain = refl; stands = stands; left = subst (λ (x : Run). rest (spot_in bytes c) ≡ x.bits ++ more) (sym is) front; sound = sound }
@@ -92,7 +91,7 @@ all_read laws g bytes c (e ∷ es) r more book stands sound h front =
     rw t.2 (chained_front laws g bytes c e w s more book stands sound a.1 (subst (λ (x : Run). rest (spot_in bytes c) ≡ x.bits ++ more) t.2 front)
     (λ st so fr. all_read laws g bytes w.given.1 es s more book st so t.1 fr))
 
-put_read : Laws → (g : Setting) (bytes : List ℕ) (c : Config) (e : Happening) (r : Run) (more : List Bool) → IsPlainBook g → IsIn g bytes c → HasSoundTables c → put g c e ≡ Ok r → rest (spot_in bytes c) ≡ r.bits ++ more → Chained g bytes c r more
+put_read : Laws → (g : Setting) (bytes : List ℕ) (c : Config) (e : Happening) (r : Run) (more : List Bool) → IsSetting g → IsIn g bytes c → HasSoundTables c → put g c e ≡ Ok r → rest (spot_in bytes c) ≡ r.bits ++ more → Chained g bytes c r more
 unfolding put
 put_read laws g bytes c e r more book stands sound h front =
     let a = bind_parts (written g c e) _ r h in
@@ -121,7 +120,7 @@ behind_run_parts r (Err why) t e = absurd cc
 abbrev Others : Setting → List ℕ → (Config → Result Run Refusal) → Type 0
 Others g bytes others = (d : Config) (r : Run) (more : List Bool) → IsIn g bytes d → HasSoundTables d → others d ≡ Ok r → rest (spot_in bytes d) ≡ r.bits ++ more → Whole g bytes d r more
 
-on_read : Laws → (n : ℕ) (g : Setting) (bytes : List ℕ) (c : Config) (e : Happening) (o : Result Run Refused) (others : Config → Result Run Refusal) (r : Run) (more : List Bool) → IsPlainBook g → IsIn g bytes c → HasSoundTables c → Others g bytes others → put g c e ≡ o → go_on n o others ≡ Ok r → rest (spot_in bytes c) ≡ r.bits ++ more → Whole g bytes c r more
+on_read : Laws → (n : ℕ) (g : Setting) (bytes : List ℕ) (c : Config) (e : Happening) (o : Result Run Refused) (others : Config → Result Run Refusal) (r : Run) (more : List Bool) → IsSetting g → IsIn g bytes c → HasSoundTables c → Others g bytes others → put g c e ≡ o → go_on n o others ≡ Ok r → rest (spot_in bytes c) ≡ r.bits ++ more → Whole g bytes c r more
 on_read laws n g bytes c e (Err why) others r more book stands sound read is h front = absurd cc
 on_read laws n g bytes c e (Ok s) others r more book stands sound read is h front =
     let b = behind_run_parts s (others s.last) r h in
@@ -134,11 +133,11 @@ on_read laws n g bytes c e (Ok s) others r more book stands sound read is h fron
       ended = more_read.ended;
     }
 
-then_read : Laws → (n : ℕ) (g : Setting) (bytes : List ℕ) (c : Config) (o : Option Happening) (others : Config → Result Run Refusal) (r : Run) (more : List Bool) → IsPlainBook g → IsIn g bytes c → HasSoundTables c → Others g bytes others → put_then n g c o others ≡ Ok r → rest (spot_in bytes c) ≡ r.bits ++ more → Whole g bytes c r more
+then_read : Laws → (n : ℕ) (g : Setting) (bytes : List ℕ) (c : Config) (o : Option Happening) (others : Config → Result Run Refusal) (r : Run) (more : List Bool) → IsSetting g → IsIn g bytes c → HasSoundTables c → Others g bytes others → put_then n g c o others ≡ Ok r → rest (spot_in bytes c) ≡ r.bits ++ more → Whole g bytes c r more
 then_read laws n g bytes c None others r more book stands sound read h front = read c r more stands sound h front
 then_read laws n g bytes c (Some e) others r more book stands sound read h front = on_read laws n g bytes c e (put g c e) others r more book stands sound read refl h front
 
-from_read : Laws → (n : ℕ) (g : Setting) (bytes : List ℕ) (c : Config) (es : List Happening) (r : Run) (more : List Bool) → IsPlainBook g → IsIn g bytes c → HasSoundTables c → put_from n g c es ≡ Ok r → rest (spot_in bytes c) ≡ r.bits ++ more → Whole g bytes c r more
+from_read : Laws → (n : ℕ) (g : Setting) (bytes : List ℕ) (c : Config) (es : List Happening) (r : Run) (more : List Bool) → IsSetting g → IsIn g bytes c → HasSoundTables c → put_from n g c es ≡ Ok r → rest (spot_in bytes c) ≡ r.bits ++ more → Whole g bytes c r more
 from_read laws n g bytes c [] r more book stands sound h front = elim (cases_Bool (has_ended c)) [
   | inl k ↦
       let is = listed_is (nothing_from c) r (rw k at h) in
@@ -174,9 +173,10 @@ chain_start : (g : Setting) (bytes : List ℕ) (c last : Config) (es : List (Opt
 chain_start g bytes c last [] p = ap (λ (x : Config). x.start) (sym p)
 chain_start g bytes c last (e ∷ es) p = chain_start g bytes p.1.0 last es p.1.3 ∙ p.1.2
 
-first_going : (b : Bool) → is_end (body_outer b) ≡ false
-first_going true = refl
-first_going false = refl
+first_going : (known b : Bool) → is_end (body_outer known b) ≡ false
+first_going known false = refl
+first_going true true = refl
+first_going false true = refl
 
 true_false : true ≡ false → ⊥
 true_false e = absurd cc
@@ -196,4 +196,4 @@ list_read laws j limits es r more book stands h front long =
     let c = first j start.Body limits in
     let tables : HasSoundTables c = record { here = first_sound _; aside = tt } in
     let w = from_read laws 1 j.setting j.bytes c es r more book stands tables h front in
-    list_run j c r r.events refl (first_going (fragment j.setting.options)) refl w.chained.chain w.ended long
+    list_run j c r r.events refl (first_going j.setting.schema.known (fragment j.setting.options)) refl w.chained.chain w.ended long

@@ -11,12 +11,15 @@ use Rattle.exi_gram.specs.Codes.{code_bits}
 use Rattle.exi_gram.specs.Switches.{default_options}
 use Rattle.exi_gram.specs.Wholes.{document, without_schema}
 use Rattle.exi_gram.specs.declared.options.Options.{Options}
+use Rattle.exi_lexical.specs.Values.{value}
 use Rattle.exi_meter.specs.Metering.{Bounds, bounds_of, stream_bounds}
 use Rattle.exi_names.specs.Characters.{is_xml_char}
 use Rattle.exi_names.specs.Events.{Happening, ch, cm, ed, ee, ns, pi, sc, sd, se}
 use Rattle.exi_names.specs.Seen.{text}
 use Rattle.exi_names.specs.StartTables.{first_names}
 use Rattle.exi_text.specs.Literals.{chars_bits}
+use Rattle.exi_values.specs.Written.{after_valued, valued_bits}
+use Rattle.exi_values.specs.WrittenLaws.{valued_units}
 use Rattle.exi_writing.specs.OneEvent.{Refused, followed_by, limit, not_derived, written}
 use Rattle.exi_writing.specs.Pruned.{pruned}
 use Rattle.exi_writing.specs.Runs.{Refusal, Run, body, put}
@@ -83,7 +86,7 @@ record Streams : Type 0 where
   derived_first : write 0 None (bounds_of 1 2 10) (sd ∷ ee ∷ []) ≡ refused 2 None
 
 streams : Streams
-unfolding body put pruned written followed_by code_bits chars_bits is_xml_char bits number_bits groups le_value width_from
+unfolding body put pruned written followed_by value after_valued valued_bits valued_units code_bits chars_bits is_xml_char bits number_bits groups le_value width_from
 streams = record {
   empty_element = refl;
   one_text = refl;

@@ -1,9 +1,9 @@
 -- What a production writes of an event behind its code, where it is one that the production may stand for (EXI 1.0,
 -- sections 4, 7.1 and 8.4).
 use Rattle.std.specs.Prelude.{ℕ, ◌&&◌, Bool, true, false, List, [], Option, Some, None, if◌then◌else◌}
-use Rattle.exi_builtin.specs.Learning.{is_type}
 use Rattle.exi_gram.specs.Switches.{align_of, prefixes}
-use Rattle.exi_lexical.specs.Values.{canonical}
+use Rattle.exi_lexical.specs.Values.{canonical, value}
+use Rattle.exi_names.specs.Datatypes.{Representation}
 use Rattle.exi_names.specs.declared.names.NameId.{NameId}
 use Rattle.exi_names.specs.declared.names.QName.{QName}
 use Rattle.exi_names.specs.Events.{Happening}
@@ -13,9 +13,9 @@ use Rattle.exi_names.specs.Seen as shape
 use Rattle.exi_typed.specs.Strings.{Declaration, Named}
 use Rattle.exi_reader.specs.Changes.{innermost}
 use Rattle.exi_reader.specs.Configurations.{Config, Setting}
-use Rattle.exi_reader.specs.Contents.{is_missing}
+use Rattle.exi_reader.specs.Contents.{acts_as_type, is_missing, represented_by}
 use Rattle.exi_reader.specs.Plans.{Alone, plan_on}
-use Rattle.exi_reader.specs.Rules.{Rule, Telling, Terminal, attribute, characters, comment, declaration, document_type, element, end_document, end_element, entity, informed, instruction, known, self_contained, spelled, start_document}
+use Rattle.exi_reader.specs.Rules.{Rule, Telling, Terminal, Valuing, attribute, characters, comment, declaration, document_type, element, end_document, end_element, entity, instruction, known, self_contained, spelled, start_document, under}
 use Rattle.exi_writing.specs.Pieces as piece
 use Rattle.exi_writing.specs.Pieces.{Piece, Writing, as_bits, both, turned}
 
@@ -99,22 +99,24 @@ nothing o p = of o (λ x. as_bits x []) p
 
 abbrev pub told_name : Setting → Telling → QName → Writing Named
 told_name g spelled n p = piece.name (prefixes g.options) (align_of g.options) n p
+told_name g (under uri) n p = piece.under (prefixes g.options) (align_of g.options) uri n p
 told_name g (known id) n p = piece.known (prefixes g.options) (align_of g.options) id n p
 
--- the value of xsi:type is a name alone, and none in a strict stream, where without a schema no type is there; any other
--- attribute has a string
+-- the value of xsi:type is a name alone
 abbrev pub type_value : Setting → Value → Writing Value
 type_value g (shape.name n) p = turned (λ x. shape.name x.name) (piece.name_value (prefixes g.options) (align_of g.options) n p)
 type_value g v p = None
 
-abbrev pub string_value : Setting → NameId → Value → Writing Value
-string_value g name v p = of (text_of v) (λ t q. turned (λ x. shape.text x) (piece.value (align_of g.options) name t q)) p
+-- under a datatype: the value that its canonical text has there
+abbrev pub valued : Setting → Representation → NameId → Value → Writing Value
+valued g r name v p = of (text_of v) (λ t. of (value r t) (piece.value r (align_of g.options) name)) p
 
-abbrev pub attribute_value : Setting → NameId → Value → Writing Value
-attribute_value g name v p = if is_type name then (if is_missing g name then None else type_value g v p) else string_value g name v p
+-- of an attribute: in a strict stream none that names a type which is not there
+abbrev pub attribute_value : Setting → Valuing → Named → Value → Writing Value
+attribute_value g v name x p = if acts_as_type v name.id then (if is_missing g v name.id x then None else type_value g x p) else valued g (represented_by g v name) name.id x p
 
-abbrev pub attribute_by : Setting → Telling → QName × Value → Writing (Named × Value)
-attribute_by g t x p = both (told_name g t x.0) (λ name. attribute_value g name.id x.1) p
+abbrev pub attribute_by : Setting → Telling → Valuing → QName × Value → Writing (Named × Value)
+attribute_by g t v x p = both (told_name g t x.0) (λ name. attribute_value g v name x.1) p
 
 abbrev pub text : Setting → List ℕ → Writing (List ℕ)
 text g x p = piece.literal (align_of g.options) x p
@@ -130,8 +132,8 @@ abbrev pub written_on : (g : Setting) (a : Alone) (c : Config) (r : Rule) (t : T
 written_on g a c r start_document e p = nothing (is_sd e) p
 written_on g a c r end_document e p = nothing (is_ed e) p
 written_on g a c r (element t) e p = of (se_name e) (told_name g t) p
-written_on g a c r (attribute t) e p = of (at_parts e) (attribute_by g t) p
-written_on g a c r characters e p = of (ch_value e) (string_value g (innermost c.elements)) p
+written_on g a c r (attribute t v) e p = of (at_parts e) (attribute_by g t v) p
+written_on g a c r (characters d) e p = of (ch_value e) (valued g d (innermost c.elements)) p
 written_on g a c r end_element e p = nothing (is_ee e) p
 written_on g a c r declaration e p = of (ns_parts e) (piece.declaration (align_of g.options)) p
 written_on g a c r self_contained e p = nothing (is_sc e) p
@@ -139,4 +141,3 @@ written_on g a c r comment e p = of (cm_text e) (text g) p
 written_on g a c r instruction e p = of (pi_parts e) (two_texts g) p
 written_on g a c r document_type e p = of (dt_parts e) (four_texts g) p
 written_on g a c r entity e p = of (er_name e) (text g) p
-written_on g a c r (informed symbol) e p = None

@@ -1,10 +1,9 @@
 -- What is written is spelled so, and read.
 use Rattle.std.specs.Prelude.{◌≡◌, ℕ, Bool, List, ◌++◌, length, Ok}
 use Rattle.exi_bits.specs.Bits.{rest}
-use Rattle.exi_gram.specs.Books.{IsPlainBook}
 use Rattle.exi_meter.specs.Metering.{Bounds}
 use Rattle.exi_names.specs.Events.{Happening}
-use Rattle.exi_reader.specs.Configurations.{Config, Setting, spot_in}
+use Rattle.exi_reader.specs.Configurations.{Config, IsSetting, Setting, spot_in}
 use Rattle.exi_reader.specs.OneEvent.{one}
 use Rattle.exi_reader.specs.Runs.{IsRun, Job, done, first, whole_bytes}
 use Rattle.exi_reader.specs.Spelled.{IsIn, IsOne}
@@ -26,10 +25,10 @@ pub record IsStep (g : Setting) (bytes : List ℕ) (c : Config) (w : Written) (m
   pub start : w.given.1.start ≡ c.start
 
 abbrev pub OneIsRead : Type 0
-OneIsRead = (g : Setting) (bytes : List ℕ) (c : Config) (e : Happening) (w : Written) (more : List Bool) → IsPlainBook g → IsIn g bytes c → HasSoundTables c → written g c e ≡ Ok w → rest (spot_in bytes c) ≡ w.bits ++ more → IsStep g bytes c w more
+OneIsRead = (g : Setting) (bytes : List ℕ) (c : Config) (e : Happening) (w : Written) (more : List Bool) → IsSetting g → IsIn g bytes c → HasSoundTables c → written g c e ≡ Ok w → rest (spot_in bytes c) ≡ w.bits ++ more → IsStep g bytes c w more
 
 -- A list that is written is read: from bytes that have its bits behind the body's first bit, and no whole byte more, the
 -- reading of the body gives the events that were written and ends at the last bit
 abbrev pub ListIsRead : Type 0
-ListIsRead = (j : Job) (limits : Bounds) (es : List Happening) (r : Run) (more : List Bool) → IsPlainBook j.setting → IsIn j.setting j.bytes (first j start.Body limits) → body j.setting j.body limits es ≡ Ok r → rest (spot_in j.bytes (first j start.Body limits)) ≡ r.bits ++ more
+ListIsRead = (j : Job) (limits : Bounds) (es : List Happening) (r : Run) (more : List Bool) → IsSetting j.setting → IsIn j.setting j.bytes (first j start.Body limits) → body j.setting j.body limits es ≡ Ok r → rest (spot_in j.bytes (first j start.Body limits)) ≡ r.bits ++ more
     → length j.bytes ≡ whole_bytes r.last.place → IsRun j.setting j.bytes (first j start.Body limits) r.events (done r.last)

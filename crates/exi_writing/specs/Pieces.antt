@@ -6,13 +6,18 @@ use Rattle.std.specs.Prelude.{ℕ, ◌+◌, ◌^◌, ◌&&◌, nat_lt, Bool, tru
 use Rattle.std.specs.Option.{is_none, is_some}
 use Rattle.std.specs.Str.{bytes_eq}
 use Rattle.exi_bits.specs.declared.align.Align.{Align}
+use Rattle.exi_names.specs.Datatypes.{Representation}
+use Rattle.exi_names.specs.Seen.{Value, Values, and, no_more}
+use Rattle.exi_names.specs.Seen as shape
 use Rattle.exi_names.specs.declared.names.NameId.{NameId}
 use Rattle.exi_names.specs.declared.names.QName.{QName}
 use Rattle.exi_tables.specs.Partitions.{Partitions, least_place, live_at, locals, prefixes, uris}
 use Rattle.exi_text.specs.Literals.{all_xml}
-use Rattle.exi_typed.specs.Strings.{Declaration, Named}
-use Rattle.exi_typed.specs.Written.{after_declaration, after_name, after_string, after_uri, declaration_bits, literal_bits, name_bits, prefix_bits, space_for, string_bits}
+use Rattle.exi_typed.specs.Strings.{Declaration, Named, place_in}
+use Rattle.exi_typed.specs.Written.{after_declaration, after_local, after_name, after_uri, declaration_bits, literal_bits, name_bits, prefix_bits, space_for, under_bits}
 use Rattle.exi_typed.specs.WrittenLaws.{declaration_units, name_units, named_for}
+use Rattle.exi_values.specs.Written.{after_valued, valued_bits}
+use Rattle.exi_values.specs.WrittenLaws.{valued_units}
 
 -- ---- pieces
 -- what is written: of what, its bits, the tables behind it, and what it charges
@@ -104,14 +109,42 @@ can_know keep p id n = can_be_spelled n.uri && (can_be_spelled n.local && can_te
 abbrev pub known : Bool → Align → NameId → QName → Writing Named
 known keep a id n p = if_spelled (is_at p id n && can_know keep p id n) (record { item = record { id = id; name = n }; bits = prefix_bits keep a p id.uri n.prefix; tables = p; units = name_units n })
 
+-- a name of which the event's code tells the URI, by its place: the URI is charged, and the local name and the prefix have bits
+abbrev pub can_know_under : Bool → Partitions → ℕ → QName → Bool
+can_know_under keep p uri n = stands_at (uris p) uri n.uri && (can_be_spelled n.uri && (can_be_spelled n.local && can_tell keep (prefixes p uri) n.prefix))
+
+-- its places once it is written
+abbrev pub named_under : Partitions → ℕ → QName → Named
+named_under p uri n = record { id = record { uri = uri; local = place_in (locals (after_local p uri n.local) uri) n.local }; name = n }
+
+abbrev pub under : Bool → Align → ℕ → QName → Writing Named
+under keep a uri n p = if_spelled (can_know_under keep p uri n) (record { item = named_under p uri n; bits = under_bits keep a p uri n.local n.prefix; tables = after_local p uri n.local; units = name_units n })
+
 -- ---- namespace declarations: a prefix is missed into the partition of its URI
 abbrev pub declaration : Align → Declaration → Writing Declaration
 declaration a d p = if_spelled (can_be_spelled d.uri && can_be_spelled d.prefix) (record { item = d; bits = declaration_bits a p d; tables = after_declaration p d; units = declaration_units d })
 
 -- ---- values
--- a string value under a name: among the name's own values, else among all, else spelled out
-abbrev pub value : Align → NameId → List ℕ → Writing (List ℕ)
-value a name x p = if_spelled (can_be_spelled x) (record { item = x; bits = string_bits None a p name x; tables = after_string p name x; units = length x ∷ [] })
+-- each text of a value can be spelled, and its octets can be counted; a name is written by itself
+abbrev mutual
+  pub can_be_valued : Value → Bool
+  can_be_valued (shape.text x) = can_be_spelled x
+  can_be_valued (shape.boolean truth digit) = true
+  can_be_valued (shape.integer n) = true
+  can_be_valued (shape.decimal minus whole back) = true
+  can_be_valued (shape.float mantissa exponent) = true
+  can_be_valued (shape.moment m) = true
+  can_be_valued (shape.binary hex octets) = nat_lt (length octets) (2 ^ 64)
+  can_be_valued (shape.items vs) = can_all_be_valued vs
+  can_be_valued (shape.name n) = false
+
+  pub can_all_be_valued : Values → Bool
+  can_all_be_valued no_more = true
+  can_all_be_valued (and v vs) = can_be_valued v && can_all_be_valued vs
+
+-- a value that is of a datatype, under a name. A string stands among the name's own values, else among all, or is spelled out
+abbrev pub value : Representation → Align → NameId → Value → Writing Value
+value r a name v p = if_spelled (can_be_valued v) (record { item = v; bits = valued_bits r a name p v; tables = after_valued r name p v; units = valued_units r v })
 
 -- one unit is charged, and no bits: a value that is a name, beside its texts (own)
 abbrev pub with_unit : Option (Piece Named) → Option (Piece Named)

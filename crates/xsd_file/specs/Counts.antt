@@ -3,8 +3,8 @@ use Rattle.std.specs.Prelude.{ℕ, Bool, List, drop, filter, is_some, length}
 use Rattle.xsd_model.specs.declared.parts.AttributeDecl.{AttributeDecl}
 use Rattle.xsd_model.specs.declared.parts.ElementDecl.{ElementDecl}
 use Rattle.xsd_model.specs.declared.parts.TypeDef.{TypeDef}
-use Rattle.xsd_parts.specs.Documents.{Declared}
-use Rattle.xsd_types.specs.Seen.{TypeSeen}
+use Rattle.xsd_known.specs.Words.{Declared}
+use Rattle.xsd_known.specs.Words.{TypeSeen}
 
 -- the elements, and the attributes, that stand directly in the schema
 abbrev pub is_global_element : ElementDecl → Bool

@@ -1,3 +1,5 @@
 pub mod Documents
 pub mod Counts
 pub mod Laws
+pub mod Words
+pub mod Bases

@@ -2,7 +2,7 @@
 
 ghost use Rattle.std.specs.Prelude.{◌≡◌, drop, filter, length};
 ghost use Rattle.xsd_file.specs.Counts.{attributes_counted, elements_counted, has_name, types_counted};
-ghost use Rattle.xsd_fits.specs.Views.{as_told};
+ghost use Rattle.xsd_known.specs.Words.{as_told};
 
 use xsd_model::{Components, TypeDef};
 

@@ -4,8 +4,8 @@ use Rattle.exi_names.specs.Events.{Happening}
 use Rattle.xsd_model.specs.declared.fault.SchemaStop.{SchemaStop}
 use Rattle.xsd_model.specs.declared.fault.SchemaStop.TheVariants as stop
 use Rattle.xsd_model.specs.Parts.{Parts}
-use Rattle.xsd_fits.specs.Views.{as_told}
-use Rattle.xsd_parts.specs.Readings.{components_of}
+use Rattle.xsd_schema.specs.Words.{as_told}
+use Rattle.xsd_schema.specs.Words.{components_of}
 use Rattle.exi_compile.specs.Promises.{Compiles}
 use Rattle.exi_compiled.specs.Compiled.{compiled}
 use Rattle.xsd_known.specs.Knowing.{known_by, known_of, with_schema}

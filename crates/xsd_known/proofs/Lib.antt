@@ -1,3 +1,4 @@
+pub mod Bare
 pub mod Answered
 pub mod Told
 pub mod ToldCompiled

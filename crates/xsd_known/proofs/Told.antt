@@ -11,8 +11,8 @@ use Rattle.xsd_model.specs.declared.parts.TypeBody.{TypeBody}
 use Rattle.xsd_model.specs.declared.parts.TypeBody.TheVariants as body
 use Rattle.xsd_model.specs.declared.parts.TypeDef.{TypeDef}
 use Rattle.xsd_model.specs.Parts.{Parts, base_in, bases_at, heads_at}
-use Rattle.xsd_fits.specs.Views.{as_told}
-use Rattle.xsd_types.specs.Seen.{body_seen, type_seen}
+use Rattle.xsd_schema.specs.Words.{as_told}
+use Rattle.xsd_schema.specs.Words.{body_seen, type_seen}
 use Rattle.exi_inherited.specs.Bases.{complex_base, own_uses}
 use Rattle.exi_inherited.specs.Contents.{Whole, based_on, content_of, content_within, derived_content, elements, no_content, own_content, value}
 use Rattle.exi_inherited.specs.Uses.{group_uses, said_by, said_in, said_of, said_within, use_before, uses_left, uses_of}

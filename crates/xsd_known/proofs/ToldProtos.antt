@@ -11,7 +11,7 @@ use Rattle.xsd_model.specs.declared.parts.TypeBody.TheVariants as body
 use Rattle.xsd_model.specs.declared.parts.TypeDef.{TypeDef}
 use Rattle.xsd_model.specs.declared.parts.Wild.{Wild}
 use Rattle.xsd_model.specs.Parts.{Parts}
-use Rattle.xsd_types.specs.Seen.{body_seen, type_seen}
+use Rattle.xsd_schema.specs.Words.{body_seen, type_seen}
 use Rattle.exi_draft.specs.Drafts.{Draft, States}
 use Rattle.exi_inherited.specs.Contents.{Whole, content_of, elements, value}
 use Rattle.exi_proto.specs.Pieces.{Piece, choice, copied, empty_states, reading, reading_one, sequence, with_text}

@@ -8,10 +8,10 @@ use Rattle.xsd_model.specs.declared.parts.TypeBody.{TypeBody}
 use Rattle.xsd_model.specs.declared.parts.TypeBody.TheVariants as body
 use Rattle.xsd_model.specs.declared.parts.TypeDef.{TypeDef}
 use Rattle.xsd_model.specs.Parts.{IsSchemaParts, Parts}
-use Rattle.xsd_fits.specs.Views.{as_told}
-use Rattle.xsd_parts.specs.Documents.{Declared}
-use Rattle.xsd_parts.specs.Readings.{components_of}
-use Rattle.xsd_types.specs.Seen.{Body, TypeSeen, complex, simple, ur}
+use Rattle.xsd_schema.specs.Words.{as_told}
+use Rattle.xsd_schema.specs.Words.{Declared}
+use Rattle.xsd_schema.specs.Words.{components_of}
+use Rattle.xsd_schema.specs.Words.{Body, TypeSeen, complex, simple, ur}
 use Rattle.exi_compiled.specs.Compiled.{compiled}
 
 -- ---- what a document declares, as the parts of a schema in which each type has a form of its own, at the type's place

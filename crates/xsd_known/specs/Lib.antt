@@ -1,2 +1,4 @@
+pub mod Alone
 pub mod Knowing
 pub mod Promises
+pub mod Words

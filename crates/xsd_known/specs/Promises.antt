@@ -3,7 +3,7 @@ use Rattle.std.specs.Prelude.{◌≡◌, List, Result, Ok, Err}
 use Rattle.exi_names.specs.Events.{Happening}
 use Rattle.xsd_model.specs.declared.fault.SchemaStop.{SchemaStop}
 use Rattle.xsd_model.specs.declared.fault.SchemaStop.TheVariants as stop
-use Rattle.xsd_fits.specs.Views.{as_told}
+use Rattle.xsd_schema.specs.Words.{as_told}
 use Rattle.xsd_known.specs.declared.known.KnownSchema.{KnownSchema as Held}
 use Rattle.xsd_known.specs.Knowing.{Known, known_of}
 

@@ -5,7 +5,9 @@
 //! ```
 #![tactic(auto)]
 
+mod alone;
 mod known;
 pub mod laws;
 
+pub use alone::types_alone;
 pub use known::{KnownSchema, schema_of};

@@ -16,6 +16,28 @@ use xsd_tree::Tree;
 use xsd_type_wildcards::TypeWildcards;
 use xsd_values::Values;
 
+/// The first thing that is wrong with the element at a place, by what the documents' elements name.
+fn first_shown(
+    alloc: Global,
+    order: &Order,
+    steps: &Steps<'_>,
+    paths: &Paths<'_>,
+    place: u32,
+    joined: bool,
+) -> Result<Option<SchemaKind>, AllocError>
+    requires there { place < length order.now }
+    requires steps { steps.now ≡ order.now }
+    requires paths { paths.now ≡ order.now }
+    ensures { IfOk result (λ k. k ≡ shows_at joined order.now place) }
+{
+    let values = Values::of(alloc, paths)?;
+    let simples = Simples::of(alloc, &values)?;
+    let wildcards = TypeWildcards::of(alloc, paths)?;
+    let circles = Circles::of(alloc, steps)?;
+    let conditions = Conditions::new(order, &simples, &circles, &wildcards);
+    conditions.shows(alloc, joined, place)
+}
+
 /// What is wrong with the element at a place of a tree, the first that is; `joined` where the documents that it includes and
 /// imports are joined to it. All that the document's elements name is looked up anew in each call.
 ///
@@ -34,11 +56,6 @@ pub fn shows(
     let schema = Schema::of(alloc, tree)?;
     let steps = Steps::of(alloc, &schema)?;
     let paths = Paths::of(alloc, &steps)?;
-    let values = Values::of(alloc, &paths)?;
-    let simples = Simples::of(alloc, &values)?;
-    let wildcards = TypeWildcards::of(alloc, &paths)?;
     let order = Order::of(alloc, tree)?;
-    let circles = Circles::of(alloc, &steps)?;
-    let conditions = Conditions::new(&order, &simples, &circles, &wildcards);
-    conditions.shows(alloc, joined, place)
+    first_shown(alloc, &order, &steps, &paths, place, joined)
 }

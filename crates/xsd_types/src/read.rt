@@ -99,6 +99,44 @@ fn simple_types(
     Ok(types)
 }
 
+/// The simple types of a document in which no type shows a fault.
+fn sound_types(
+    alloc: Global,
+    schema: &Schema<'_>,
+    simples: Simples<'_>,
+) -> Result<SimpleTypes, AllocError>
+    requires same { schema.now ≡ simples.nodes }
+    ensures types { IfOk result (λ s. are_seen s ≡ simple_types schema.now) }
+    ensures forms { IfOk result (λ s. AreForms 0 s.forms) }
+{
+    let places = Places::of(alloc, schema)?;
+    let types = simple_types(alloc, &simples, &places)?;
+    let forms = simples.into_forms();
+    Ok(SimpleTypes { types, forms })
+}
+
+/// The simple types of a document, whose groups, types and elements reach one another so.
+fn types_by(
+    alloc: Global,
+    schema: &Schema<'_>,
+    steps: &Steps<'_>,
+    paths: &Paths<'_>,
+) -> Result<SimpleTypes, SchemaStop>
+    requires steps { steps.now ≡ schema.now }
+    requires paths { paths.now ≡ schema.now }
+    ensures types { Gives are_seen result (types_of schema.now) }
+    ensures forms { IfOk result (λ s. AreForms 0 s.forms) }
+{
+    let circles = Circles::of(alloc, steps)?;
+    let values = Values::of(alloc, paths)?;
+    let simples = Simples::of(alloc, &values)?;
+    if let Some(fault) = first_fault(alloc, &simples, &circles)? {
+        return Err(SchemaStop::Fault(fault));
+    }
+    let types = sound_types(alloc, schema, simples)?;
+    Ok(types)
+}
+
 /// The simple types of a schema document, the built-in ones first.
 ///
 /// # Errors
@@ -112,14 +150,5 @@ pub fn types(alloc: Global, tree: &Tree) -> Result<SimpleTypes, SchemaStop>
     let schema = Schema::of(alloc, tree)?;
     let steps = Steps::of(alloc, &schema)?;
     let paths = Paths::of(alloc, &steps)?;
-    let circles = Circles::of(alloc, &steps)?;
-    let values = Values::of(alloc, &paths)?;
-    let simples = Simples::of(alloc, &values)?;
-    if let Some(fault) = first_fault(alloc, &simples, &circles)? {
-        return Err(SchemaStop::Fault(fault));
-    }
-    let places = Places::of(alloc, &schema)?;
-    let types = simple_types(alloc, &simples, &places)?;
-    let forms = simples.into_forms();
-    Ok(SimpleTypes { types, forms })
+    types_by(alloc, &schema, &steps, &paths)
 }

@@ -1,5 +1,5 @@
 use Rattle.std.proofs.lemmas.Result.{err_from_is_err_and}
-use Rattle.xsd_known.specs.Promises.{known_in}
+use Rattle.xsd_file.specs.Words.{known_in}
 use Rattle.exi_run.proofs.Serving.{counted_err, counted_ok, starved_document}
 use Rattle.exi_run.proofs.count.count_bytes.Goals as goal
 

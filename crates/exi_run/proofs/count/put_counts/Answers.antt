@@ -1,5 +1,5 @@
 use Rattle.std.proofs.lemmas.Result.{err_from_is_err_and}
-use Rattle.xsd_fits.specs.Views.{as_told}
+use Rattle.xsd_file.specs.Words.{as_told}
 use Rattle.exi_run.proofs.Serving.{counts_first, counts_second, counts_third}
 use Rattle.exi_run.proofs.count.put_counts.Goals as goal
 

@@ -15,7 +15,7 @@ pub returns-clause-write : goal.returns-clause-write
 returns-clause-write g c = writes (task_of c.args.words.now) (g.F.Shelf.files c.args.shelf.now) (Rose (g.F.Shelf.faults c.args.shelf.now) (g.F.Shelf.faults c.respond.new.shelf)) c.respond.result (g.O.Sink.taken c.args.out.now) (g.O.Sink.taken c.respond.new.out) c.respond.ensures.answered
 
 pub returns-clause-read_back : goal.returns-clause-read_back
-returns-clause-read_back g c = reads_back c.written_is_read.ensures (task_of c.args.words.now) (g.F.Shelf.files c.args.shelf.now) c.respond.ensures.ready
+returns-clause-read_back g c = reads_back c.written_is_read.ensures (task_of c.args.words.now) (g.F.Shelf.files c.args.shelf.now) c.respond.result c.respond.ensures.ready c.respond.ensures.stands
 
 pub returns-clause-events : goal.returns-clause-events
 returns-clause-events g c = writes_none (task_of c.args.words.now) (g.F.Shelf.files c.args.shelf.now) (Rose (g.F.Shelf.faults c.args.shelf.now) (g.F.Shelf.faults c.respond.new.shelf)) c.respond.result (g.O.Sink.taken c.args.out.now) (g.O.Sink.taken c.respond.new.out) c.respond.ensures.answered

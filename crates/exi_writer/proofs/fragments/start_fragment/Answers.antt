@@ -14,10 +14,10 @@ start_document-requires g c = record { ready = ready (composing_at c.args.pen.no
 pub returns-in_err-start_document : goal.returns-in_err-start_document
 returns-in_err-start_document g c =
     let p = err_from_is_err_and c.from_residual.result c.from_residual.ensures.1 in
-    rw (p.1, p.2) (starts_stop c.chosen_is_wanted.ensures.law c.in_err-start_document.field-0.0 c.args.pen.now c.start_document.new.self (event.se (pruned_name c.args.pen.now.setting.options (named c.args.name)) ∷ []) c.requires.start c.requires.composed c.in_err-start_document.ensures.writes)
+    rw (p.1, p.2) (starts_stop c.in_err-start_document.field-0.0 c.args.pen.now c.start_document.new.self (event.se (pruned_name c.args.pen.now.setting.options (named c.args.name)) ∷ []) c.requires.start c.in_err-start_document.ensures.writes)
 
 pub element-requires : goal.element-requires
-element-requires g c = record { ready = starts_ready c.chosen_is_wanted.ensures.law c.written_is_read.ensures.one c.args.pen.now c.start_document.new.self c.requires.start c.requires.composed c.in_ok-start_document.ensures.writes }
+element-requires g c = record { ready = starts_ready c.written_is_read.ensures.one c.args.pen.now c.start_document.new.self c.requires.start c.requires.composed c.in_ok-start_document.ensures.writes }
 
 pub returns : goal.returns
-returns g c = starts_on c.chosen_is_wanted.ensures.law c.written_is_read.ensures.one c.element.result c.args.pen.now c.start_document.new.self c.element.new.self (named c.args.name) c.requires.start c.requires.composed c.in_ok-start_document.ensures.writes c.element.ensures.writes
+returns g c = starts_on c.element.result c.args.pen.now c.start_document.new.self c.element.new.self (named c.args.name) c.requires.start c.in_ok-start_document.ensures.writes c.element.ensures.writes

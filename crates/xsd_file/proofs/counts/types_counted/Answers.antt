@@ -1,7 +1,7 @@
 use Rattle.std.proofs.Common.{refl, ap, ◌∙◌, drop, filter, length}
 use Rattle.xsd_file.specs.Counts.{has_name, is_named}
 use Rattle.xsd_file.proofs.Counted.{named_same}
-use Rattle.xsd_types.specs.Seen.{type_seen}
+use Rattle.xsd_known.specs.Words.{type_seen}
 use Rattle.xsd_file.proofs.counts.types_counted.Goals as goal
 
 pub returns : goal.returns

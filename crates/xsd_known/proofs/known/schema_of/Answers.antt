@@ -1,7 +1,7 @@
 use Rattle.std.proofs.Common.{map, ap, ◌∙◌}
 use Rattle.std.proofs.lemmas.Result.{err_from_is_err_and}
 use Rattle.exi_names.specs.Events.{happens}
-use Rattle.xsd_fits.specs.Views.{as_told}
+use Rattle.xsd_schema.specs.Words.{as_told}
 use Rattle.xsd_known.specs.Knowing.{with_schema}
 use Rattle.xsd_known.proofs.Answered.{known_is, stopped}
 use Rattle.xsd_known.proofs.known.schema_of.Goals as goal

@@ -1,65 +1,85 @@
-use Rattle.std.proofs.Common.{Err, refl}
+use Rattle.std.proofs.Common.{Err}
 use Rattle.std.proofs.lemmas.Result.{err_from_is_err_and}
-use Rattle.exi_names.specs.Seen.{seen}
 use Rattle.exi_names.specs.Events as event
+use Rattle.exi_names.specs.Seen.{seen}
 use Rattle.exi_names.specs.Shown.{named}
-use Rattle.exi_pen.proofs.Wrote.{begin_stop}
 use Rattle.exi_reader.specs.Handing.{telling_of}
-use Rattle.exi_reader.specs.declared.rule.Content.TheVariants as content
-use Rattle.exi_writing.specs.Contents.{attribute_value, told_name}
-use Rattle.exi_writing.specs.Pruned.{pruned_value}
-use Rattle.exi_pen.proofs.EventNames.{attribute_ends, attribute_stop, attribute_stops, attribute_told, few_begun, grow_begun, grow_put, kept_attribute, pruned_put}
+use Rattle.exi_writing.specs.Contents.{told_name}
+use Rattle.exi_choice.specs.Fitting.{declaring}
+use Rattle.exi_pen.specs.Pages.{attribute_wanted}
+use Rattle.exi_pen.specs.Values.{declared_value}
+use Rattle.exi_pen.proofs.EventNames.{few_begun, grow_begun, grow_put}
+use Rattle.exi_pen.proofs.EventValues.{attribute_declared, attribute_ends, attribute_fits, attribute_forms, attribute_is_wanted, attribute_roomy, attribute_stop, attribute_stops, attribute_told, elements_last, grow_last, has_name, kept_attribute, pruned_in, setting_last}
+use Rattle.exi_pen.proofs.Wrote.{begin_stop}
 use Rattle.exi_pen.proofs.pen.Pen.attribute.Goals as goal
 
 pub put_told-requires-clause-few : goal.put_told-requires-clause-few
-put_told-requires-clause-few g c = few_begun (content.Attribute c.place_of-place.result) c.args.self.now c.begin.new.self c.toll-toll.result c.begin.new.toll c.in_ok-rule.rule c.requires.ready c.in_ok-rule.ensures.begins
+put_told-requires-clause-few g c = few_begun (attribute_wanted c.told_of-told.result (named c.kept-name.result) (seen c.args.value.now)) c.args.self.now c.begin_attribute.new.self c.toll-toll.result c.begin_attribute.new.toll c.in_ok-begun.begun.rule c.requires.ready c.in_ok-begun.ensures.begins.0
 
 pub put_told-requires-clause-told : goal.put_told-requires-clause-told
-put_told-requires-clause-told g c = attribute_told c.args.self.now c.begin.new.self c.toll-toll.result c.begin.new.toll c.in_ok-rule.rule c.place_of-place.result c.telling-told.result (named c.kept-name.result) c.in_ok-rule.ensures.begins c.place_of-place.ensures c.telling-told.ensures
+put_told-requires-clause-told g c = attribute_told c.told_of-told.result c.telling-tells.result (named c.kept-name.result) (seen c.args.value.now) c.args.self.now c.begin_attribute.new.self c.toll-toll.result c.begin_attribute.new.toll c.in_ok-begun.begun.rule c.in_ok-begun.ensures.begins.0 c.told_of-told.ensures c.telling-tells.ensures
 
-pub learn_on-requires : goal.learn_on-requires
-learn_on-requires g c = record {
-  room = grow_put c.in_ok-put_value.field-0 (attribute_value c.put_told.new.self.setting c.in_ok-id.id (pruned_value c.put_told.new.self.setting.options (seen c.args.value.now)) c.put_told.new.self.config.tables) c.put_told.new.self c.put_value.new.self c.put_told.new.toll c.put_value.new.toll
-      (grow_put c.in_ok-id.id (told_name c.begin.new.self.setting (telling_of c.telling-told.result) (named c.kept-name.result) c.begin.new.self.config.tables) c.begin.new.self c.put_told.new.self c.begin.new.toll c.put_told.new.toll
-      (grow_begun (content.Attribute c.place_of-place.result) c.args.self.now c.begin.new.self c.toll-toll.result c.begin.new.toll c.in_ok-rule.rule c.requires.ready c.in_ok-rule.ensures.begins) c.in_ok-id.ensures.put)
-      c.in_ok-put_value.ensures.put;
-}
+pub put_declared-requires-clause-roomy : goal.put_declared-requires-clause-roomy
+put_declared-requires-clause-roomy g c =
+    let k = has_name c.told_of-told.result c.telling-tells.result (named c.kept-name.result) (seen c.args.value.now) (seen c.fitted-fit.result.now) c.args.self.now c.begin_attribute.new.self c.put_told.new.self c.toll-toll.result c.begin_attribute.new.toll c.put_told.new.toll c.in_ok-begun.begun.rule c.in_ok-begun.begun.value c.in_ok-id.id (declaring c.declared-declared.result) c.requires.ready c.toll-toll.ensures c.in_ok-begun.ensures.begins.0 c.in_ok-begun.ensures.begins.1 c.told_of-told.ensures c.telling-tells.ensures c.fitted-fit.ensures c.in_ok-id.ensures.put c.in_ok-id.ensures.id c.declared-declared.ensures in
+    attribute_roomy c.told_of-told.result c.telling-tells.result (named c.kept-name.result) (seen c.args.value.now) (seen c.fitted-fit.result.now) c.args.self.now c.begin_attribute.new.self c.put_told.new.self c.toll-toll.result c.begin_attribute.new.toll c.put_told.new.toll c.in_ok-begun.begun.rule c.in_ok-id.id (declaring c.declared-declared.result) k
+
+pub put_declared-requires-clause-fits : goal.put_declared-requires-clause-fits
+put_declared-requires-clause-fits g c =
+    let k = has_name c.told_of-told.result c.telling-tells.result (named c.kept-name.result) (seen c.args.value.now) (seen c.fitted-fit.result.now) c.args.self.now c.begin_attribute.new.self c.put_told.new.self c.toll-toll.result c.begin_attribute.new.toll c.put_told.new.toll c.in_ok-begun.begun.rule c.in_ok-begun.begun.value c.in_ok-id.id (declaring c.declared-declared.result) c.requires.ready c.toll-toll.ensures c.in_ok-begun.ensures.begins.0 c.in_ok-begun.ensures.begins.1 c.told_of-told.ensures c.telling-tells.ensures c.fitted-fit.ensures c.in_ok-id.ensures.put c.in_ok-id.ensures.id c.declared-declared.ensures in
+    attribute_fits c.told_of-told.result c.telling-tells.result (named c.kept-name.result) (seen c.args.value.now) (seen c.fitted-fit.result.now) c.args.self.now c.begin_attribute.new.self c.put_told.new.self c.toll-toll.result c.begin_attribute.new.toll c.put_told.new.toll c.in_ok-begun.begun.rule c.in_ok-id.id (declaring c.declared-declared.result) k
+
+pub attribute_on-requires-clause-room : goal.attribute_on-requires-clause-room
+attribute_on-requires-clause-room g c =
+    grow_last c.in_ok-put_declared.field-0 (declared_value c.put_told.new.self.setting (declaring c.declared-declared.result) c.in_ok-id.id (seen c.fitted-fit.result.now) c.put_told.new.self.config.tables) c.put_told.new.self c.put_declared.new.self c.put_told.new.toll c.put_declared.new.toll
+    (grow_put c.in_ok-id.id (told_name c.begin_attribute.new.self.setting (telling_of c.telling-tells.result) (named c.kept-name.result) c.begin_attribute.new.self.config.tables) c.begin_attribute.new.self c.put_told.new.self c.begin_attribute.new.toll c.put_told.new.toll
+    (grow_begun (attribute_wanted c.told_of-told.result (named c.kept-name.result) (seen c.args.value.now)) c.args.self.now c.begin_attribute.new.self c.toll-toll.result c.begin_attribute.new.toll c.in_ok-begun.begun.rule c.requires.ready c.in_ok-begun.ensures.begins.0) c.in_ok-id.ensures.put) c.in_ok-put_declared.ensures.put
+
+pub attribute_on-requires-clause-forms : goal.attribute_on-requires-clause-forms
+attribute_on-requires-clause-forms g c =
+    let k = has_name c.told_of-told.result c.telling-tells.result (named c.kept-name.result) (seen c.args.value.now) (seen c.fitted-fit.result.now) c.args.self.now c.begin_attribute.new.self c.put_told.new.self c.toll-toll.result c.begin_attribute.new.toll c.put_told.new.toll c.in_ok-begun.begun.rule c.in_ok-begun.begun.value c.in_ok-id.id (declaring c.declared-declared.result) c.requires.ready c.toll-toll.ensures c.in_ok-begun.ensures.begins.0 c.in_ok-begun.ensures.begins.1 c.told_of-told.ensures c.telling-tells.ensures c.fitted-fit.ensures c.in_ok-id.ensures.put c.in_ok-id.ensures.id c.declared-declared.ensures in
+    attribute_forms c.told_of-told.result c.telling-tells.result (named c.kept-name.result) (seen c.args.value.now) (seen c.fitted-fit.result.now) c.args.self.now c.begin_attribute.new.self c.put_told.new.self c.toll-toll.result c.begin_attribute.new.toll c.put_told.new.toll c.in_ok-begun.begun.rule c.in_ok-id.id (declaring c.declared-declared.result) k c.put_declared.new.self
+    (elements_last c.in_ok-put_declared.field-0 (declared_value c.put_told.new.self.setting (declaring c.declared-declared.result) c.in_ok-id.id (seen c.fitted-fit.result.now) c.put_told.new.self.config.tables) c.put_told.new.self c.put_declared.new.self c.put_told.new.toll c.put_declared.new.toll c.in_ok-put_declared.ensures.put)
+
+pub attribute_on-requires-clause-declared : goal.attribute_on-requires-clause-declared
+attribute_on-requires-clause-declared g c =
+    let k = has_name c.told_of-told.result c.telling-tells.result (named c.kept-name.result) (seen c.args.value.now) (seen c.fitted-fit.result.now) c.args.self.now c.begin_attribute.new.self c.put_told.new.self c.toll-toll.result c.begin_attribute.new.toll c.put_told.new.toll c.in_ok-begun.begun.rule c.in_ok-begun.begun.value c.in_ok-id.id (declaring c.declared-declared.result) c.requires.ready c.toll-toll.ensures c.in_ok-begun.ensures.begins.0 c.in_ok-begun.ensures.begins.1 c.told_of-told.ensures c.telling-tells.ensures c.fitted-fit.ensures c.in_ok-id.ensures.put c.in_ok-id.ensures.id c.declared-declared.ensures in
+    attribute_declared c.told_of-told.result c.telling-tells.result (named c.kept-name.result) (seen c.args.value.now) (seen c.fitted-fit.result.now) c.args.self.now c.begin_attribute.new.self c.put_told.new.self c.toll-toll.result c.begin_attribute.new.toll c.put_told.new.toll c.in_ok-begun.begun.rule c.in_ok-id.id (declaring c.declared-declared.result) k c.put_declared.new.self
+    (setting_last c.in_ok-put_declared.field-0 (declared_value c.put_told.new.self.setting (declaring c.declared-declared.result) c.in_ok-id.id (seen c.fitted-fit.result.now) c.put_told.new.self.config.tables) c.put_told.new.self c.put_declared.new.self c.put_told.new.toll c.put_declared.new.toll c.in_ok-put_declared.ensures.put)
+
+pub returns-in_err-begun : goal.returns-in_err-begun
+returns-in_err-begun g c =
+    let p = err_from_is_err_and c.from_residual.result c.from_residual.ensures.1 in
+    let v = pruned_in c.args.self.now (seen c.args.value.now) in
+    record {
+      writes = rw (p.1, p.2) (kept_attribute (Err c.in_err-begun.field-0.0) c.args.self.now c.begin_attribute.new.self (named c.kept-name.result) _ v c.kept-name.ensures
+          (begin_stop c.in_err-begun.field-0.0 (attribute_wanted c.told_of-told.result (named c.kept-name.result) (seen c.args.value.now)) c.args.self.now c.begin_attribute.new.self (event.at (named c.kept-name.result) v) c.in_err-begun.ensures.begins (attribute_is_wanted c.args.self.now c.told_of-told.result (named c.kept-name.result) (seen c.args.value.now) c.told_of-told.ensures) c.in_err-begun.ensures.meter));
+    }
 
 pub returns-in_err-id : goal.returns-in_err-id
 returns-in_err-id g c =
     let p = err_from_is_err_and c.from_residual-in_err-id.result c.from_residual-in_err-id.ensures.1 in
-    let v = pruned_value c.args.self.now.setting.options (seen c.args.value.now) in
+    let v = pruned_in c.args.self.now (seen c.args.value.now) in
     record {
-      writes = rw (p.1, p.2) (kept_attribute (Err c.in_err-id.field-0.0) c.args.self.now c.put_told.new.self c.place_of-place.result (named c.kept-name.result) _ v v c.place_of-place.ensures c.kept-name.ensures refl
-          (attribute_stop c.in_err-id.field-0.0 c.args.self.now c.begin.new.self c.put_told.new.self c.toll-toll.result c.begin.new.toll c.put_told.new.toll c.in_ok-rule.rule c.place_of-place.result c.telling-told.result (named c.kept-name.result) v c.requires.ready c.toll-toll.ensures c.in_ok-rule.ensures.begins c.telling-told.ensures c.in_err-id.ensures.put));
+      writes = rw (p.1, p.2) (kept_attribute (Err c.in_err-id.field-0.0) c.args.self.now c.put_told.new.self (named c.kept-name.result) _ v c.kept-name.ensures
+          (attribute_stop c.in_err-id.field-0.0 c.told_of-told.result c.telling-tells.result (named c.kept-name.result) (seen c.args.value.now) c.args.self.now c.begin_attribute.new.self c.put_told.new.self c.toll-toll.result c.begin_attribute.new.toll c.put_told.new.toll c.in_ok-begun.begun.rule c.requires.ready c.toll-toll.ensures c.in_ok-begun.ensures.begins.0 c.told_of-told.ensures c.telling-tells.ensures c.in_err-id.ensures.put));
     }
 
-pub returns-in_err-put_value : goal.returns-in_err-put_value
-returns-in_err-put_value g c =
-    let p = err_from_is_err_and c.from_residual-in_err-put_value.result c.from_residual-in_err-put_value.ensures.1 in
-    let v = pruned_value c.put_told.new.self.setting.options (seen c.args.value.now) in
-    let shown = pruned_value c.args.self.now.setting.options (seen c.args.value.now) in
+pub returns-in_err-put_declared : goal.returns-in_err-put_declared
+returns-in_err-put_declared g c =
+    let p = err_from_is_err_and c.from_residual-in_err-put_declared.result c.from_residual-in_err-put_declared.ensures.1 in
+    let v = pruned_in c.args.self.now (seen c.args.value.now) in
+    let k = has_name c.told_of-told.result c.telling-tells.result (named c.kept-name.result) (seen c.args.value.now) (seen c.fitted-fit.result.now) c.args.self.now c.begin_attribute.new.self c.put_told.new.self c.toll-toll.result c.begin_attribute.new.toll c.put_told.new.toll c.in_ok-begun.begun.rule c.in_ok-begun.begun.value c.in_ok-id.id (declaring c.declared-declared.result) c.requires.ready c.toll-toll.ensures c.in_ok-begun.ensures.begins.0 c.in_ok-begun.ensures.begins.1 c.told_of-told.ensures c.telling-tells.ensures c.fitted-fit.ensures c.in_ok-id.ensures.put c.in_ok-id.ensures.id c.declared-declared.ensures in
     record {
-      writes = rw (p.1, p.2) (kept_attribute (Err c.in_err-put_value.field-0.0) c.args.self.now c.put_value.new.self c.place_of-place.result (named c.kept-name.result) _ v shown c.place_of-place.ensures c.kept-name.ensures
-          (pruned_put c.in_ok-id.id _ _ c.args.self.now c.begin.new.self c.put_told.new.self c.toll-toll.result c.begin.new.toll c.put_told.new.toll c.in_ok-rule.rule (seen c.args.value.now) c.in_ok-rule.ensures.begins c.in_ok-id.ensures.put)
-          (attribute_stops c.in_err-put_value.field-0.0 c.args.self.now c.begin.new.self c.put_told.new.self c.put_value.new.self c.toll-toll.result c.begin.new.toll c.put_told.new.toll c.put_value.new.toll c.in_ok-rule.rule c.place_of-place.result c.telling-told.result (named c.kept-name.result) v c.in_ok-id.id c.requires.ready c.toll-toll.ensures c.in_ok-rule.ensures.begins c.telling-told.ensures c.in_ok-id.ensures.put c.in_ok-id.ensures.id c.in_err-put_value.ensures.put));
+      writes = rw (p.1, p.2) (kept_attribute (Err c.in_err-put_declared.field-0.0) c.args.self.now c.put_declared.new.self (named c.kept-name.result) _ v c.kept-name.ensures
+          (attribute_stops c.told_of-told.result c.telling-tells.result (named c.kept-name.result) (seen c.args.value.now) (seen c.fitted-fit.result.now) c.args.self.now c.begin_attribute.new.self c.put_told.new.self c.toll-toll.result c.begin_attribute.new.toll c.put_told.new.toll c.in_ok-begun.begun.rule c.in_ok-id.id (declaring c.declared-declared.result) k c.in_err-put_declared.field-0.0 c.put_declared.new.self c.put_declared.new.toll c.in_err-put_declared.ensures.put));
     }
 
 pub returns : goal.returns
 returns g c =
-    let v = pruned_value c.put_told.new.self.setting.options (seen c.args.value.now) in
-    let shown = pruned_value c.args.self.now.setting.options (seen c.args.value.now) in
+    let v = pruned_in c.args.self.now (seen c.args.value.now) in
+    let k = has_name c.told_of-told.result c.telling-tells.result (named c.kept-name.result) (seen c.args.value.now) (seen c.fitted-fit.result.now) c.args.self.now c.begin_attribute.new.self c.put_told.new.self c.toll-toll.result c.begin_attribute.new.toll c.put_told.new.toll c.in_ok-begun.begun.rule c.in_ok-begun.begun.value c.in_ok-id.id (declaring c.declared-declared.result) c.requires.ready c.toll-toll.ensures c.in_ok-begun.ensures.begins.0 c.in_ok-begun.ensures.begins.1 c.told_of-told.ensures c.telling-tells.ensures c.fitted-fit.ensures c.in_ok-id.ensures.put c.in_ok-id.ensures.id c.declared-declared.ensures in
     record {
-      writes = kept_attribute c.learn_on.result c.args.self.now c.learn_on.new.self c.place_of-place.result (named c.kept-name.result) _ v shown c.place_of-place.ensures c.kept-name.ensures
-          (pruned_put c.in_ok-id.id _ _ c.args.self.now c.begin.new.self c.put_told.new.self c.toll-toll.result c.begin.new.toll c.put_told.new.toll c.in_ok-rule.rule (seen c.args.value.now) c.in_ok-rule.ensures.begins c.in_ok-id.ensures.put)
-          (attribute_ends c.learn_on.result c.args.self.now c.begin.new.self c.put_told.new.self c.put_value.new.self c.learn_on.new.self c.toll-toll.result c.begin.new.toll c.put_told.new.toll c.put_value.new.toll c.in_ok-rule.rule c.place_of-place.result c.telling-told.result (named c.kept-name.result) v c.in_ok-id.id c.requires.ready c.toll-toll.ensures c.in_ok-rule.ensures.begins c.telling-told.ensures c.in_ok-id.ensures.put c.in_ok-id.ensures.id c.in_ok-put_value.ensures.put c.learn_on.ensures);
-    }
-
-pub returns-in_err-rule : goal.returns-in_err-rule
-returns-in_err-rule g c =
-    let p = err_from_is_err_and c.from_residual.result c.from_residual.ensures.1 in
-    let v = pruned_value c.args.self.now.setting.options (seen c.args.value.now) in
-    record {
-      writes = rw (p.1, p.2) (kept_attribute (Err c.in_err-rule.field-0.0) c.args.self.now c.begin.new.self c.place_of-place.result (named c.kept-name.result) _ v v c.place_of-place.ensures c.kept-name.ensures refl
-          (begin_stop c.in_err-rule.field-0.0 (content.Attribute c.place_of-place.result) c.args.self.now c.begin.new.self c.toll-toll.result c.begin.new.toll (event.at (named c.kept-name.result) v) c.in_err-rule.ensures.begins c.in_err-rule.ensures.meter));
+      writes = kept_attribute c.attribute_on.result c.args.self.now c.attribute_on.new.self (named c.kept-name.result) _ v c.kept-name.ensures
+          (attribute_ends c.told_of-told.result c.telling-tells.result (named c.kept-name.result) (seen c.args.value.now) (seen c.fitted-fit.result.now) c.args.self.now c.begin_attribute.new.self c.put_told.new.self c.toll-toll.result c.begin_attribute.new.toll c.put_told.new.toll c.in_ok-begun.begun.rule c.in_ok-id.id (declaring c.declared-declared.result) k c.attribute_on.result c.put_declared.new.self c.attribute_on.new.self c.put_declared.new.toll c.in_ok-put_declared.ensures.put c.attribute_on.ensures);
     }

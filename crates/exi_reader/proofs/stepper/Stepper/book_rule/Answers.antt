@@ -5,7 +5,7 @@ use Rattle.exi_reader.proofs.stepper.Stepper.book_rule.Goals as goal
 pub returns : goal.returns
 returns g c = record {
   picks = (
-    rw (← c.self.view_is) (book_picks c.self.inside.book.now c.args.grammar c.args.state _ _ c.in-Ok.place c.coded-coded.result.now _ _ c.in-Ok.ensures.read (rw c.state.ensures at c.coded-coded.ensures.codes) (rw (c.coded-coded.ensures.count, c.state.ensures) c.in-Ok.ensures.below) c.of_book.ensures c.in-Ok.ensures.bytes),
+    rw (← c.self.view_is) (book_picks c.self.inside.book.now c.args.grammar c.args.state _ _ c.in-Ok.place c.coded.result.now c.index-coded-place.result _ c.in-Ok.ensures.read (rw c.state.ensures at c.coded.ensures.codes) (rw (c.coded.ensures.count, c.state.ensures) c.in-Ok.ensures.below) c.index-coded-place.is c.of_book.ensures c.in-Ok.ensures.bytes),
     search rules,
   );
 }

@@ -1,4 +1,5 @@
 use Rattle.std.proofs.Common.{Some}
+use Rattle.exi_names.specs.Datatypes as datatype
 use Rattle.exi_names.specs.Events as event
 use Rattle.exi_names.specs.Seen as value
 use Rattle.exi_reader.specs.Handing.{alone_of, leading_to}
@@ -10,7 +11,7 @@ pub returns-in_ok-see-in-Stands-clause-hands : goal.returns-in_ok-see-in-Stands-
 returns-in_ok-see-in-Stands-clause-hands g c = (
   Some (event.ch (value.text c.in-Stands.text.now)),
   rw (← c.self.view_is, c.go_to.ensures.elements, c.go_to.ensures.outer, c.in_ok-learn.ensures.ok)
-      (made_by _ _ (characters_plan c.self.inside.book.now (alone_of c.args.alone) c.self.inside.elements (leading_to c.args.to)) _ (value.text c.in-Stands.text.now) _
+      (made_by _ _ (characters_plan c.self.inside.book.now (alone_of c.args.alone) c.self.inside.elements datatype.text (leading_to c.args.to)) _ (value.text c.in-Stands.text.now) _
       (string_item _ _ _ _ _ (rw (c.in-Stands.is, c.innermost-name.ensures, c.align-align.ensures, c.options.ensures.options) at c.in_ok-text.ensures.read))
       c.in_ok-refuse.ensures),
   c.in_ok-see-in-Stands.ensures.ok,
@@ -20,7 +21,7 @@ pub returns-in_ok-add_value-in-Missed-clause-hands : goal.returns-in_ok-add_valu
 returns-in_ok-add_value-in-Missed-clause-hands g c = (
   Some (event.ch (value.text c.in-Missed.text)),
   rw (← c.self.view_is, c.go_to.ensures.elements, c.go_to.ensures.outer, c.in_ok-learn.ensures.ok, c.in_ok-add_value-in-Missed.ensures.added, c.innermost-name.ensures)
-      (made_by _ _ (characters_plan c.self.inside.book.now (alone_of c.args.alone) c.self.inside.elements (leading_to c.args.to)) _ (value.text c.in-Missed.text) _
+      (made_by _ _ (characters_plan c.self.inside.book.now (alone_of c.args.alone) c.self.inside.elements datatype.text (leading_to c.args.to)) _ (value.text c.in-Missed.text) _
       (string_item _ _ _ _ _ (rw (c.in-Missed.is, c.innermost-name.ensures, c.align-align.ensures, c.options.ensures.options) at c.in_ok-text.ensures.read))
       c.in_ok-refuse.ensures),
   c.in_ok-see-in-Missed.ensures.ok,

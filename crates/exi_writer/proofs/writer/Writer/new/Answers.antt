@@ -15,7 +15,7 @@ new-requires-in-Fragment-clause-place g c = at_byte c.bytes.result.now c.args.he
 pub start_fragment-requires-clause-composed : goal.start_fragment-requires-clause-composed
 start_fragment-requires-clause-composed g c =
     let whole = rw c.in-Fragment.is at c.requires.aligned in
-    begun c.in_ok-pen-in-Fragment.pen c.args.book.now (start.Fragment (length c.bytes.result.now)) c.args.limits c.args.head c.in_ok-pen-in-Fragment.ensures.first c.in_ok-pen-in-Fragment.ensures.within c.in_ok-pen-in-Fragment.ensures.book c.in_ok-pen-in-Fragment.ensures.names (at_byte c.bytes.result.now c.args.head c.bytes.ensures.bits whole) (λ b. whole)
+    begun c.in_ok-pen-in-Fragment.pen c.args.book.now (start.Fragment (length c.bytes.result.now)) c.args.limits c.args.head c.in_ok-pen-in-Fragment.ensures.first c.in_ok-pen-in-Fragment.ensures.within c.in_ok-pen-in-Fragment.ensures.setting c.in_ok-pen-in-Fragment.ensures.names (at_byte c.bytes.result.now c.args.head c.bytes.ensures.bits whole) (λ b. whole)
 
 pub returns-in_err-start_fragment-in-Fragment-clause-starts : goal.returns-in_err-start_fragment-in-Fragment-clause-starts
 returns-in_err-start_fragment-in-Fragment-clause-starts g c =
@@ -26,7 +26,7 @@ returns-in_err-start_fragment-in-Fragment-clause-starts g c =
 pub returns-in_ok-new-in-Body-clause-composed : goal.returns-in_ok-new-in-Body-clause-composed
 returns-in_ok-new-in-Body-clause-composed g c =
     let whole = rw c.in-Body.is at c.requires.aligned in
-    λ going. begun c.in_ok-new-in-Body.field-0 c.args.book.now start.Body c.args.limits c.args.head c.in_ok-new-in-Body.ensures.first c.in_ok-new-in-Body.ensures.within c.in_ok-new-in-Body.ensures.book c.in_ok-new-in-Body.ensures.names tt whole
+    λ going. begun c.in_ok-new-in-Body.field-0 c.args.book.now start.Body c.args.limits c.args.head c.in_ok-new-in-Body.ensures.first c.in_ok-new-in-Body.ensures.within c.in_ok-new-in-Body.ensures.setting c.in_ok-new-in-Body.ensures.names tt whole
 
 pub returns-in_ok-start_fragment-in-Fragment-clause-starts : goal.returns-in_ok-start_fragment-in-Fragment-clause-starts
 returns-in_ok-start_fragment-in-Fragment-clause-starts g c =
@@ -36,5 +36,5 @@ returns-in_ok-start_fragment-in-Fragment-clause-starts g c =
 pub returns-in_ok-start_fragment-in-Fragment-clause-composed : goal.returns-in_ok-start_fragment-in-Fragment-clause-composed
 returns-in_ok-start_fragment-in-Fragment-clause-composed g c =
     let whole = rw c.in-Fragment.is at c.requires.aligned in
-    let here = begun c.in_ok-pen-in-Fragment.pen c.args.book.now (start.Fragment (length c.bytes.result.now)) c.args.limits c.args.head c.in_ok-pen-in-Fragment.ensures.first c.in_ok-pen-in-Fragment.ensures.within c.in_ok-pen-in-Fragment.ensures.book c.in_ok-pen-in-Fragment.ensures.names (at_byte c.bytes.result.now c.args.head c.bytes.ensures.bits whole) (λ b. whole) in
+    let here = begun c.in_ok-pen-in-Fragment.pen c.args.book.now (start.Fragment (length c.bytes.result.now)) c.args.limits c.args.head c.in_ok-pen-in-Fragment.ensures.first c.in_ok-pen-in-Fragment.ensures.within c.in_ok-pen-in-Fragment.ensures.setting c.in_ok-pen-in-Fragment.ensures.names (at_byte c.bytes.result.now c.args.head c.bytes.ensures.bits whole) (λ b. whole) in
     enters_may c.written_is_read.ensures.one c.in_ok-pen-in-Fragment.pen c.start_fragment.new.pen (event.sd ∷ event.se (pruned_name c.in_ok-pen-in-Fragment.pen.setting.options (named c.as_ref.result)) ∷ []) here c.in_ok-start_fragment-in-Fragment.ensures

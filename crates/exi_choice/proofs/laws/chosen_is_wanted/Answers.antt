@@ -1,5 +1,0 @@
-use Rattle.exi_choice.proofs.Picking.{chosen_picked}
-use Rattle.exi_choice.proofs.laws.chosen_is_wanted.Goals as goal
-
-pub returns : goal.returns
-returns c = record { law = chosen_picked }

@@ -1,0 +1,183 @@
+ghost use Rattle.std.specs.Prelude.{◌≡◌, ◌≤◌, IfOk, length, map};
+ghost use Rattle.exi_gram.specs.Books.{IsStateOf};
+ghost use Rattle.exi_gram.specs.Tables.{coded_of, most_productions};
+ghost use Rattle.exi_builtin.specs.Learning.{IsRoom, Learning};
+ghost use Rattle.exi_reader.specs.Configurations.{Setting, built_in, in_book};
+ghost use Rattle.exi_reader.specs.Rules.{fragment_start};
+ghost use Rattle.exi_choice.specs.Choices.{Finds, FindsPlace, Keeps, Takes, wanting};
+ghost use Rattle.exi_choice.specs.Wanted.{fewest_place, place_for};
+
+use crate::choice::{Choice, Way, choose_built_in, choose_start, is_for};
+use crate::fit::{Fit, fit_on};
+use crate::wanted::Wanted;
+use exi_builtin::{Overlay, Room};
+use exi_gram::{Book, Coded, Schema};
+use exi_reader::Rule;
+use std::alloc::{AllocError, Global};
+
+/// A production that was found for an event.
+#[derive(Drop)]
+pub struct Found<'a> {
+    /// The production, and how its code is written.
+    pub choice: Choice<'a>,
+    /// What is written of the event's value.
+    pub value: Fit,
+}
+
+/// What is written of an event's value under a production with so many parts in its code that stands for the event;
+/// nothing where it stands for another, or where the value has no spelling in it.
+///
+/// # Errors
+///
+/// `AllocError` where memory is refused.
+fn fit_at(
+    alloc: Global,
+    schema: &Schema,
+    coded: &Coded,
+    parts: u32,
+    wanted: Wanted<'_>,
+) -> Result<Option<Fit>, AllocError>
+    ensures { IfOk result (λ f. Takes schema.now parts (wanting wanted.entry) (coded_of coded.now) f) }
+{
+    if coded.code.parts() != parts {
+        return Ok(None);
+    }
+    let rule = Rule::of_book(&coded.production, coded.named);
+    if !is_for(wanted.on, rule.on) {
+        return Ok(None);
+    }
+    fit_on(alloc, schema, rule, wanted.valued)
+}
+
+/// The first production with so many parts in its code that stands for an event and in which its value has a spelling:
+/// its place, and what is written of the value.
+///
+/// # Errors
+///
+/// `AllocError` where memory is refused.
+fn first_of(
+    alloc: Global,
+    schema: &Schema,
+    coded: &[Coded],
+    parts: u32,
+    wanted: Wanted<'_>,
+) -> Result<Option<(u32, Fit)>, AllocError>
+    requires few { length coded.now ≤ most_productions }
+    ensures { IfOk result (λ found. FindsPlace schema.now (wanting wanted.entry) (map coded_of coded.now) (place_for schema.now parts (wanting wanted.entry) 0 (map coded_of coded.now)) found) }
+{
+    for (place, coded) in coded.iter().enumerate() {
+        if let Some(value) = fit_at(alloc, schema, coded, parts, wanted)? {
+            return Ok(Some((place as u32, value)));
+        }
+    }
+    Ok(None)
+}
+
+/// The same, of the fewest parts.
+///
+/// # Errors
+///
+/// `AllocError` where memory is refused.
+fn fewest(
+    alloc: Global,
+    schema: &Schema,
+    coded: &[Coded],
+    wanted: Wanted<'_>,
+) -> Result<Option<(u32, Fit)>, AllocError>
+    requires few { length coded.now ≤ most_productions }
+    ensures { IfOk result (λ found. FindsPlace schema.now (wanting wanted.entry) (map coded_of coded.now) (fewest_place schema.now (wanting wanted.entry) (map coded_of coded.now)) found) }
+{
+    if let Some(found) = first_of(alloc, schema, coded, 1, wanted)? {
+        return Ok(Some(found));
+    }
+    if let Some(found) = first_of(alloc, schema, coded, 2, wanted)? {
+        return Ok(Some(found));
+    }
+    first_of(alloc, schema, coded, 3, wanted)
+}
+
+/// The production of a state of the book that stands for an event and in which its value has a spelling.
+///
+/// # Errors
+///
+/// `AllocError` where memory is refused.
+pub fn find_in_book<'a>(
+    alloc: Global,
+    book: &'a Book,
+    grammar: u32,
+    state: u32,
+    wanted: Wanted<'_>,
+) -> Result<Option<Found<'a>>, AllocError>
+    requires exists { IsStateOf book.now grammar state }
+    ensures { IfOk result (λ found. (l : Learning) → Finds book.now l (wanting wanted.entry) (in_book book.now grammar state) found) }
+{
+    let coded = book.state(grammar, state).coded();
+    let Some((place, value)) = fewest(alloc, book.schema(), coded, wanted)? else {
+        return Ok(None);
+    };
+    let coded = &coded[place as usize];
+    let choice = Choice {
+        rule: Rule::of_book(&coded.production, coded.named),
+        way: Way::Book {
+            grammar,
+            state,
+            place,
+        },
+    };
+    Ok(Some(Found { choice, value }))
+}
+
+/// A production that stands for an event, where the event's value has a spelling in it.
+///
+/// # Errors
+///
+/// `AllocError` where memory is refused.
+fn find<'a>(
+    alloc: Global,
+    schema: &Schema,
+    choice: Option<Choice<'a>>,
+    wanted: Wanted<'_>,
+) -> Result<Option<Found<'a>>, AllocError>
+    ensures { IfOk result (λ found. Keeps schema.now (wanting wanted.entry) choice.entry found) }
+{
+    let Some(choice) = choice else {
+        return Ok(None);
+    };
+    let Some(value) = fit_on(alloc, schema, choice.rule, wanted.valued)? else {
+        return Ok(None);
+    };
+    Ok(Some(Found { choice, value }))
+}
+
+/// The production of a built-in state that stands for an event, where the event's value has a spelling in it: in such a
+/// state it has the same in each that stands for it.
+///
+/// # Errors
+///
+/// `AllocError` where memory is refused.
+pub fn find_built_in<'a>(
+    alloc: Global,
+    book: &'a Book,
+    overlay: &Overlay,
+    room: Room,
+    wanted: Wanted<'_>,
+) -> Result<Option<Found<'a>>, AllocError>
+    requires room { IsRoom overlay.now room }
+    ensures { IfOk result (λ found. Finds book.now overlay.now (wanting wanted.entry) (built_in book.now overlay.now room) found) }
+{
+    let choice = choose_built_in(book, overlay, room, wanted.on);
+    find(alloc, book.schema(), choice, wanted)
+}
+
+/// The production of a fragment's start that stands for an event.
+pub fn find_start<'a>(wanted: Wanted<'_>) -> Option<Found<'a>>
+    ensures { (g : Setting) (l : Learning) → Finds g l (wanting wanted.entry) fragment_start result }
+{
+    match choose_start(wanted.on) {
+        Some(choice) => Some(Found {
+            choice,
+            value: Fit::Own,
+        }),
+        None => None,
+    }
+}

@@ -1,0 +1,7 @@
+use Rattle.std.proofs.Common.{ap, ◌∙◌}
+use Rattle.exi_names.specs.Seen.{seen}
+use Rattle.exi_pen.proofs.Putting.{shown_text, string_last}
+use Rattle.exi_pen.proofs.pen.Pen.put_string_of.Goals as goal
+
+pub returns-in-Text : goal.returns-in-Text
+returns-in-Text g c = record { put = string_last c.put_string.result (seen c.args.value.now) c.in-Text.text c.args.name c.args.self.now c.put_string.new.self c.args.toll.now c.put_string.new.toll (ap seen c.in-Text.is ∙ shown_text c.in-Text.text) c.put_string.ensures.put }

@@ -1,0 +1,383 @@
+ghost use Rattle.std.specs.Prelude.{◌≡◌, ◌≤◌, ◌<◌, ◌-◌, ◌+◌, ◌^◌, None, true, IsErrOf};
+ghost use Rattle.std.specs.Option.{option_copied};
+ghost use Rattle.exi_names.specs.Datatypes.{represented};
+ghost use Rattle.exi_names.specs.Datatypes as datatype;
+ghost use Rattle.exi_names.specs.Events.{Rose};
+ghost use Rattle.exi_names.specs.Seen.{seen};
+ghost use Rattle.exi_tables.specs.Growth.{NoneLonger};
+ghost use Rattle.exi_typed.specs.Places.{IsNameAt, name_in};
+ghost use Rattle.exi_values.specs.Stops.{IsRoomy};
+ghost use Rattle.exi_reader.specs.Changes.{room_in};
+ghost use Rattle.exi_reader.specs.Contents.{acts_as_type, is_nil};
+ghost use Rattle.exi_reader.specs.Handing.{
+  CanLearn,
+  HandsAny,
+  IsTold,
+  OnFault,
+  alone_of,
+  datatype_in,
+  effected_elements,
+  effected_outer,
+  emptied_by,
+  is_true,
+  leading_to,
+  making,
+  telling_of,
+  typing,
+  value_made,
+  valued_made,
+  valuing_in,
+};
+ghost use Rattle.exi_reader.specs.Plans.{attribute_plan};
+ghost use Rattle.exi_reader.specs.Rules.{by_name};
+ghost use Rattle.exi_reader.specs.Stacks.{HaveForm};
+
+use crate::alone::Alone;
+use crate::declared::attribute_datatype;
+use crate::elements::Elements;
+use crate::frames::{Outer, State};
+use crate::halt::Halt;
+use crate::parts::{
+    go_to, is_nil, is_type, learn_name, nil_read, read_type, see_name, see_value, told_name,
+    typed_value,
+};
+use crate::rule::{Telling, Valuing};
+use crate::stepper::Stepper;
+use exi_builtin::Learned;
+use exi_names::{Datatype, EventOut, EventRef, Val, ValRef};
+use exi_tables::Tables;
+use exi_typed::{NameAt, StringRead, name_ref, read_string};
+
+/// The state behind an attribute that names a type: the innermost element goes on with the type's grammar. Where that
+/// is not there, a built-in grammar leads on, and one of the schema stays where it is.
+pub fn retype(
+    elements: &mut Elements,
+    outer: &mut Outer,
+    valuing: Valuing,
+    grammar: Option<u32>,
+    to: u32,
+)
+    ensures elements { elements.new ≡ effected_elements (typing valuing grammar) to elements.old }
+    ensures outer { outer.new ≡ effected_outer (typing valuing grammar) to elements.old outer.old }
+{
+    match grammar {
+        Some(grammar) => elements.restate(State::Informed {
+            grammar,
+            state: 0,
+            empty: false,
+        }),
+        None => match valuing {
+            Valuing::Untyped => go_to(elements, outer, to),
+            Valuing::Typed | Valuing::ByName => {}
+        },
+    }
+}
+
+/// Whether a value is true.
+fn is_true(value: &Val) -> bool
+    ensures { result ≡ is_true (seen value.now) }
+{
+    match value {
+        Val::Bool { yes, .. } => *yes,
+        Val::Text(_)
+        | Val::Int(_)
+        | Val::Dec { .. }
+        | Val::Flo { .. }
+        | Val::Mom(_)
+        | Val::Bin { .. }
+        | Val::Items(_)
+        | Val::Name(_) => false,
+    }
+}
+
+/// The innermost element goes on with the empty form of its grammar, where the value of `xsi:nil` is true.
+pub fn empty_by(elements: &mut Elements, value: &Val)
+    requires forms { HaveForm elements.old }
+    ensures { elements.new ≡ emptied_by (seen value.now) elements.old }
+{
+    if is_true(value) {
+        elements.empty();
+    }
+}
+
+impl<'a, T: Tables + Drop> Stepper<'a, T> {
+    /// The value of an attribute that names the type by which its element goes on, whose name is read.
+    #[tactic(auto, unfolding(crate::specs::Handing::value_made))]
+    fn type_value<E: EventOut>(
+        &mut self,
+        bit: u64,
+        alone: Alone,
+        valuing: Valuing,
+        name: NameAt,
+        to: u32,
+        out: &mut E,
+    ) -> Result<Option<u64>, Halt>
+        requires few { NoneLonger (2 ^ 31) self.old.config.tables }
+        requires places { IsNameAt self.old.config.tables name }
+        requires acts { acts_as_type (valuing_in valuing None) name.id ≡ true }
+        ensures hands { HandsAny E.took E.broke result self.new
+            (value_made self.old.setting self.old.bytes bit (alone_of alone) (valuing_in valuing None) (name_in self.old.config.tables name) to self.old.config) out.old out.new }
+        ensures setting { self.new.setting ≡ self.old.setting }
+        ensures bytes { self.new.bytes ≡ self.old.bytes }
+        ensures root { OnFault result (self.new.config.root ≡ self.old.config.root) }
+        ensures same { E.same out.old out.new }
+        ensures later { E.stops out.old ≤ E.stops out.new }
+        ensures stopped { IsErrOf result Halt.Stopped → Rose (E.stops out.old) (E.stops out.new) }
+    {
+        self.after_start = false;
+        let found = read_type(
+            self.alloc,
+            self.book,
+            &mut self.input,
+            valuing,
+            name,
+            &mut self.tables,
+            &mut self.meter,
+        )?;
+        alone.refuse(bit)?;
+        retype(
+            &mut self.elements,
+            &mut self.outer,
+            valuing,
+            found.grammar,
+            to,
+        );
+        let value = name_ref(&self.tables, found.name).copy()?;
+        see_name(name_ref(&self.tables, name), value, out)?;
+        Ok(None)
+    }
+
+    /// The value of `xsi:nil`, whose name is read.
+    #[tactic(auto, unfolding(crate::specs::Handing::value_made, crate::specs::Contents::attribute_value_at))]
+    fn nil_value<E: EventOut>(
+        &mut self,
+        bit: u64,
+        alone: Alone,
+        name: NameAt,
+        to: u32,
+        out: &mut E,
+    ) -> Result<Option<u64>, Halt>
+        requires few { NoneLonger (2 ^ 31) self.old.config.tables }
+        requires roomy { IsRoomy self.old.config.meter self.old.config.tables }
+        requires places { IsNameAt self.old.config.tables name }
+        requires nil { is_nil name.id ≡ true }
+        requires forms { HaveForm self.old.config.elements }
+        ensures hands { HandsAny E.took E.broke result self.new
+            (value_made self.old.setting self.old.bytes bit (alone_of alone) by_name (name_in self.old.config.tables name) to self.old.config) out.old out.new }
+        ensures setting { self.new.setting ≡ self.old.setting }
+        ensures bytes { self.new.bytes ≡ self.old.bytes }
+        ensures root { OnFault result (self.new.config.root ≡ self.old.config.root) }
+        ensures same { E.same out.old out.new }
+        ensures later { E.stops out.old ≤ E.stops out.new }
+        ensures stopped { IsErrOf result Halt.Stopped → Rose (E.stops out.old) (E.stops out.new) }
+    {
+        self.after_start = false;
+        let value = nil_read(
+            self.alloc,
+            self.book,
+            &mut self.input,
+            name.id,
+            &mut self.tables,
+            &mut self.meter,
+        )?;
+        alone.refuse(bit)?;
+        empty_by(&mut self.elements, &value);
+        see_value(name_ref(&self.tables, name), &value, out)?;
+        Ok(None)
+    }
+
+    /// The value of an attribute that is a string, whose name is read.
+    #[tactic(auto, unfolding(crate::specs::Handing::valued_made, exi_values::specs::Valued::valued_at, exi_typed::specs::Items::item_at))]
+    fn string_value<E: EventOut>(
+        &mut self,
+        bit: u64,
+        alone: Alone,
+        name: NameAt,
+        to: u32,
+        out: &mut E,
+    ) -> Result<Option<u64>, Halt>
+        requires few { NoneLonger (2 ^ 31) self.old.config.tables }
+        requires places { IsNameAt self.old.config.tables name }
+        ensures hands { HandsAny E.took E.broke result self.new
+            (valued_made self.old.setting self.old.bytes bit (alone_of alone) datatype.text (name_in self.old.config.tables name) to self.old.config) out.old out.new }
+        ensures setting { self.new.setting ≡ self.old.setting }
+        ensures bytes { self.new.bytes ≡ self.old.bytes }
+        ensures root { OnFault result (self.new.config.root ≡ self.old.config.root) }
+        ensures same { E.same out.old out.new }
+        ensures later { E.stops out.old ≤ E.stops out.new }
+        ensures stopped { IsErrOf result Halt.Stopped → Rose (E.stops out.old) (E.stops out.new) }
+    {
+        self.after_start = false;
+        go_to(&mut self.elements, &mut self.outer, to);
+        let align = self.book.options().align();
+        let text = read_string(
+            self.alloc,
+            &mut self.input,
+            None,
+            align,
+            name.id,
+            &self.tables,
+            &mut self.meter,
+        )?;
+        alone.refuse(bit)?;
+        let told = name_ref(&self.tables, name);
+        match text {
+            StringRead::Stands(text) => out.see(&EventRef::At(told, ValRef::Text(text)))?,
+            StringRead::Missed(text) => {
+                out.see(&EventRef::At(told, ValRef::Text(&text)))?;
+                self.tables.add_value(name.id, text)?;
+            }
+        }
+        Ok(None)
+    }
+
+    /// The value of an attribute of a datatype, whose name is read.
+    #[tactic(auto, unfolding(crate::specs::Handing::valued_made))]
+    fn typed_attribute<E: EventOut>(
+        &mut self,
+        bit: u64,
+        alone: Alone,
+        datatype: &Datatype,
+        name: NameAt,
+        to: u32,
+        out: &mut E,
+    ) -> Result<Option<u64>, Halt>
+        requires few { NoneLonger (2 ^ 31) self.old.config.tables }
+        requires roomy { IsRoomy self.old.config.meter self.old.config.tables }
+        requires places { IsNameAt self.old.config.tables name }
+        ensures hands { HandsAny E.took E.broke result self.new
+            (valued_made self.old.setting self.old.bytes bit (alone_of alone) (represented datatype.now) (name_in self.old.config.tables name) to self.old.config) out.old out.new }
+        ensures setting { self.new.setting ≡ self.old.setting }
+        ensures bytes { self.new.bytes ≡ self.old.bytes }
+        ensures root { OnFault result (self.new.config.root ≡ self.old.config.root) }
+        ensures same { E.same out.old out.new }
+        ensures later { E.stops out.old ≤ E.stops out.new }
+        ensures stopped { IsErrOf result Halt.Stopped → Rose (E.stops out.old) (E.stops out.new) }
+    {
+        self.after_start = false;
+        go_to(&mut self.elements, &mut self.outer, to);
+        let value = typed_value(
+            self.alloc,
+            self.book,
+            &mut self.input,
+            datatype,
+            name.id,
+            &mut self.tables,
+            &mut self.meter,
+        )?;
+        alone.refuse(bit)?;
+        see_value(name_ref(&self.tables, name), &value, out)?;
+        Ok(None)
+    }
+
+    /// The value of an attribute of a datatype, or a string where there is none, whose name is read.
+    fn declared_value<E: EventOut>(
+        &mut self,
+        bit: u64,
+        alone: Alone,
+        datatype: Option<&Datatype>,
+        name: NameAt,
+        to: u32,
+        out: &mut E,
+    ) -> Result<Option<u64>, Halt>
+        requires few { NoneLonger (2 ^ 31) self.old.config.tables }
+        requires roomy { IsRoomy self.old.config.meter self.old.config.tables }
+        requires places { IsNameAt self.old.config.tables name }
+        ensures hands { HandsAny E.took E.broke result self.new
+            (valued_made self.old.setting self.old.bytes bit (alone_of alone) (datatype_in (option_copied datatype.entry)) (name_in self.old.config.tables name) to self.old.config) out.old out.new }
+        ensures setting { self.new.setting ≡ self.old.setting }
+        ensures bytes { self.new.bytes ≡ self.old.bytes }
+        ensures root { OnFault result (self.new.config.root ≡ self.old.config.root) }
+        ensures same { E.same out.old out.new }
+        ensures later { E.stops out.old ≤ E.stops out.new }
+        ensures stopped { IsErrOf result Halt.Stopped → Rose (E.stops out.old) (E.stops out.new) }
+    {
+        match datatype {
+            None | Some(Datatype::Text) => self.string_value(bit, alone, name, to, out),
+            Some(datatype) => self.typed_attribute(bit, alone, datatype, name, to, out),
+        }
+    }
+
+    /// The value of an attribute whose name is read, in a grammar of a schema: `xsi:type` and `xsi:nil` have theirs, a
+    /// global attribute has its datatype, and any other a string.
+    #[tactic(auto, unfolding(crate::specs::Handing::value_made, crate::specs::Handing::valued_made, crate::specs::Contents::attribute_value_at))]
+    fn value_by_name<E: EventOut>(
+        &mut self,
+        bit: u64,
+        alone: Alone,
+        name: NameAt,
+        to: u32,
+        out: &mut E,
+    ) -> Result<Option<u64>, Halt>
+        requires few { NoneLonger (2 ^ 31) self.old.config.tables }
+        requires roomy { IsRoomy self.old.config.meter self.old.config.tables }
+        requires places { IsNameAt self.old.config.tables name }
+        requires forms { HaveForm self.old.config.elements }
+        ensures hands { HandsAny E.took E.broke result self.new
+            (value_made self.old.setting self.old.bytes bit (alone_of alone) by_name (name_in self.old.config.tables name) to self.old.config) out.old out.new }
+        ensures setting { self.new.setting ≡ self.old.setting }
+        ensures bytes { self.new.bytes ≡ self.old.bytes }
+        ensures root { OnFault result (self.new.config.root ≡ self.old.config.root) }
+        ensures same { E.same out.old out.new }
+        ensures later { E.stops out.old ≤ E.stops out.new }
+        ensures stopped { IsErrOf result Halt.Stopped → Rose (E.stops out.old) (E.stops out.new) }
+    {
+        if is_type(name.id) {
+            return self.type_value(bit, alone, Valuing::ByName, name, to, out);
+        }
+        if is_nil(name.id) {
+            return self.nil_value(bit, alone, name, to, out);
+        }
+        let book = self.book;
+        let datatype = attribute_datatype(book.schema(), name_ref(&self.tables, name));
+        self.declared_value(bit, alone, datatype, name, to, out)
+    }
+
+    /// AT.
+    #[tactic(auto, unfolding(crate::specs::Handing::making, crate::specs::Handing::value_made, crate::specs::Handing::valued_made, crate::specs::Contents::attribute_value_at, crate::specs::Contents::both_at))]
+    pub fn attribute<E: EventOut>(
+        &mut self,
+        bit: u64,
+        alone: Alone,
+        telling: Telling,
+        valuing: Valuing,
+        datatype: Option<&Datatype>,
+        to: u32,
+        out: &mut E,
+    ) -> Result<Option<u64>, Halt>
+        requires few { NoneLonger (2 ^ 31 - 2) self.old.config.tables }
+        requires roomy { NoneLonger (2 ^ 31 - 2 ^ 28 - 2 + self.old.config.meter.used.text) self.old.config.tables }
+        requires known { IsTold telling self.old.config.tables }
+        requires learns { CanLearn (room_in self.old.config.elements self.old.config.outer) self.old.config.learned }
+        requires forms { HaveForm self.old.config.elements }
+        ensures hands { HandsAny E.took E.broke result self.new
+            (making self.old.bytes bit (attribute_plan self.old.setting (alone_of alone) (telling_of telling) (valuing_in valuing (option_copied datatype.entry)) (leading_to to)) self.old.config) out.old out.new }
+        ensures setting { self.new.setting ≡ self.old.setting }
+        ensures bytes { self.new.bytes ≡ self.old.bytes }
+        ensures root { OnFault result (self.new.config.root ≡ self.old.config.root) }
+        ensures same { E.same out.old out.new }
+        ensures later { E.stops out.old ≤ E.stops out.new }
+        ensures stopped { IsErrOf result Halt.Stopped → Rose (E.stops out.old) (E.stops out.new) }
+    {
+        let name = told_name(
+            self.alloc,
+            self.book,
+            &mut self.input,
+            telling,
+            &mut self.tables,
+            &mut self.meter,
+        )?;
+        let used = Learned::At(name.id);
+        learn_name(&mut self.overlay, &self.elements, self.outer, telling, used)?;
+        match valuing {
+            Valuing::Typed => self.declared_value(bit, alone, datatype, name, to, out),
+            Valuing::ByName => self.value_by_name(bit, alone, name, to, out),
+            Valuing::Untyped => {
+                if is_type(name.id) {
+                    return self.type_value(bit, alone, Valuing::Untyped, name, to, out);
+                }
+                self.string_value(bit, alone, name, to, out)
+            }
+        }
+    }
+}
