@@ -12,21 +12,23 @@ exi: $(shell find crates/*/src crates/*/specs crates/*/proofs) crates.txt HANDLE
 		|| { tail -n 40 ../../exi.log; exit 1; }
 	@cp crates/exi_cli/out/exi_cli exi
 
-# The main job, on a stream of examples/.
-demo: exi
-	@./exi read examples/one-element.exi
+# Compiles the program without proving it, and reads and writes a message of examples/.
+demo:
+	@tools/demo
 
 # What the gate runs: each proof, test and edit that has to be refused, and the program end to end.
 test:
-	.ci/run
+	@tests/progress
 
 install: exi
-	install -d '$(DESTDIR)$(PREFIX)/bin'
-	install -m 755 exi '$(DESTDIR)$(PREFIX)/bin/exi'
-	install -m 755 tools/exi-xml '$(DESTDIR)$(PREFIX)/bin/exi-xml'
+	install -d '$(DESTDIR)$(PREFIX)/bin' '$(DESTDIR)$(PREFIX)/share/man/man1'
+	install -m 755 exi tools/exi-xml '$(DESTDIR)$(PREFIX)/bin'
+	install -m 644 docs/exi.1 '$(DESTDIR)$(PREFIX)/share/man/man1'
+	ln -sf exi.1 '$(DESTDIR)$(PREFIX)/share/man/man1/exi-xml.1'
 
 uninstall:
 	rm -f '$(DESTDIR)$(PREFIX)/bin/exi' '$(DESTDIR)$(PREFIX)/bin/exi-xml'
+	rm -f '$(DESTDIR)$(PREFIX)/share/man/man1/exi.1' '$(DESTDIR)$(PREFIX)/share/man/man1/exi-xml.1'
 
 clean:
-	rm -rf exi exi.log crates/*/out
+	rm -rf exi exi.log test.log crates/*/out
