@@ -1,0 +1,6 @@
+pub mod Places
+pub mod Plans
+pub mod OneEvent
+pub mod Lists
+pub mod Enough
+pub mod Bodies

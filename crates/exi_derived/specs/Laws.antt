@@ -1,0 +1,96 @@
+-- Whether a list of events can be written, and for which of its events no production stands first: that is a matter of the
+-- list and the options alone, whatever limits there are and whatever bits stand in front (EXI 1.0, sections 6 and 8.4).
+-- Limits are the codec's own.
+use Rattle.std.specs.Prelude.{◌≡◌, ◌≤◌, ◌⊎◌, ◌↔◌, ℕ, Bool, true, false, List, Result, Ok, Err}
+use Rattle.exi_meter.specs.Metering.{Bounds}
+use Rattle.exi_names.specs.Events.{Happening}
+use Rattle.exi_reader.specs.Configurations.{Setting}
+use Rattle.exi_writing.specs.OneEvent.{Refused, limit, not_derived}
+use Rattle.exi_writing.specs.Runs.{Derives, Refusal, Run, body}
+
+-- limits none of which is above the other's
+pub record IsNoWider (limits wider : Bounds) : Type 0 where
+  pub events : limits.events ≤ wider.events
+  pub text : limits.text ≤ wider.text
+  pub depth : limits.depth ≤ wider.depth
+
+-- no production stands for the event of this number
+abbrev pub unmatched_at : ℕ → Refusal
+unmatched_at event = record { event = event; why = not_derived }
+
+-- The event of this number, counted from 1, is the first of the list for which no production stands; or the list ends in
+-- front of it, too early. Under some limits the list is refused there
+abbrev pub Unmatched : Setting → List Happening → ℕ → Type 0
+Unmatched g es event = (limits : Bounds) × (body g 0 limits es ≡ Err (unmatched_at event))
+
+-- whether a list was written, and whether a limit is passed
+abbrev pub is_written : Result Run Refusal → Bool
+is_written (Ok r) = true
+is_written (Err e) = false
+
+abbrev pub is_limit : Refused → Bool
+is_limit not_derived = false
+is_limit (limit kind meter) = true
+
+abbrev pub passes_limit : Result Run Refusal → Bool
+passes_limit (Ok r) = false
+passes_limit (Err e) = is_limit e.why
+
+-- an event is refused: this one, since no production stands for it, or none behind it, by a limit
+abbrev pub RefusesAt : ℕ → ℕ → Refused → Type 0
+RefusesAt event at not_derived = at ≡ event
+RefusesAt event at (limit kind meter) = at ≤ event
+
+abbrev pub IsRefused : ℕ → Result Run Refusal → Type 0
+IsRefused event (Ok r) = ⊥
+IsRefused event (Err e) = RefusesAt event e.event e.why
+
+-- all is written, or it is refused no earlier than at this event, and by no limit
+abbrev pub RefusesFrom : ℕ → ℕ → Refused → Type 0
+RefusesFrom event at not_derived = event ≤ at
+RefusesFrom event at (limit kind meter) = ⊥
+
+abbrev pub GoesOn : ℕ → Result Run Refusal → Type 0
+GoesOn event (Ok r) = Unit {0}
+GoesOn event (Err e) = RefusesFrom event e.event e.why
+
+-- ---- the laws, each of a body behind so many bits
+-- what is written can be written
+abbrev pub WrittenDerives : Type 0
+WrittenDerives = (g : Setting) (bits : ℕ) (limits : Bounds) (es : List Happening) (r : Run) → body g bits limits es ≡ Ok r → Derives g es
+
+-- where no production stands for an event the list can not be written
+abbrev pub RefusedDerivesNot : Type 0
+RefusedDerivesNot = (g : Setting) (bits : ℕ) (limits : Bounds) (es : List Happening) (event : ℕ) → body g bits limits es ≡ Err (unmatched_at event) → Derives g es → ⊥
+
+-- and that event is the first
+abbrev pub RefusedIsUnmatched : Type 0
+RefusedIsUnmatched = (g : Setting) (bits : ℕ) (limits : Bounds) (es : List Happening) (event : ℕ) → body g bits limits es ≡ Err (unmatched_at event) → Unmatched g es event
+
+-- where there is such an event the list is never written: it is refused there, or by a limit no later
+abbrev pub UnmatchedIsRefused : Type 0
+UnmatchedIsRefused = (g : Setting) (bits : ℕ) (limits : Bounds) (es : List Happening) (event : ℕ) → Unmatched g es event → IsRefused event (body g bits limits es)
+
+-- what can be written is written, or a limit is passed
+abbrev pub DerivedIsWritten : Type 0
+DerivedIsWritten = (g : Setting) (bits : ℕ) (limits : Bounds) (es : List Happening) → Derives g es → (is_written (body g bits limits es) ≡ true) ⊎ (passes_limit (body g bits limits es) ≡ true)
+
+-- so a list is written exactly where it can be and no limit is passed
+abbrev pub WrittenExactly : Type 0
+WrittenExactly = (g : Setting) (bits : ℕ) (limits : Bounds) (es : List Happening) → (is_written (body g bits limits es) ≡ true) ↔ (Derives g es × (passes_limit (body g bits limits es) ≡ false))
+
+-- each list can be written, or has such an event
+abbrev pub DerivedOrUnmatched : Type 0
+DerivedOrUnmatched = (g : Setting) (es : List Happening) → Derives g es ⊎ ((event : ℕ) × Unmatched g es event)
+
+-- where a limit is passed, by wider ones all events before have a production
+abbrev pub LimitedGoesOn : Type 0
+LimitedGoesOn = (g : Setting) (bits : ℕ) (limits : Bounds) (es : List Happening) (e : Refusal) → body g bits limits es ≡ Err e → is_limit e.why ≡ true → (wider : Bounds) × IsNoWider limits wider × GoesOn e.event (body g bits wider es)
+
+-- the same is written under wider limits
+pub record IsSameRun (r s : Run) : Type 0 where
+  pub bits : s.bits ≡ r.bits
+  pub events : s.events ≡ r.events
+
+abbrev pub WiderWritesTheSame : Type 0
+WiderWritesTheSame = (g : Setting) (bits : ℕ) (limits wider : Bounds) (es : List Happening) (r : Run) → IsNoWider limits wider → body g bits limits es ≡ Ok r → (s : Run) × (body g bits wider es ≡ Ok s) × IsSameRun r s

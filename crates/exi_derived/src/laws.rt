@@ -1,0 +1,43 @@
+//! What holds of lists that can be written. Each law is a function that does nothing: what it ensures is the law.
+
+ghost use Rattle.exi_derived.specs.Laws.{DerivedIsWritten, DerivedOrUnmatched, LimitedGoesOn, RefusedDerivesNot, RefusedIsUnmatched, UnmatchedIsRefused, WiderWritesTheSame, WrittenDerives, WrittenExactly};
+
+/// A list that is written as a body, behind any bits and within any limits, is one that can be written.
+pub fn written_derives()
+    ensures law { WrittenDerives }
+{}
+
+/// A list that is refused since no production stands for an event can be written under no limits and behind no bits, and
+/// that event is the first of the list for which none stands.
+pub fn refused_derives_not()
+    ensures derives { RefusedDerivesNot }
+    ensures unmatched { RefusedIsUnmatched }
+{}
+
+/// An event that is the first for which no production stands is refused behind any bits and within any limits, but where
+/// a limit is passed no later: nothing is written, and no other event is refused so.
+pub fn unmatched_is_refused()
+    ensures law { UnmatchedIsRefused }
+{}
+
+/// A list that can be written is written behind any bits and within any limits, but where a limit is passed.
+pub fn derived_is_written()
+    ensures law { DerivedIsWritten }
+    ensures exactly { WrittenExactly }
+{}
+
+/// Each list can be written, or has a first event for which no production stands.
+pub fn derived_or_unmatched()
+    ensures law { DerivedOrUnmatched }
+{}
+
+/// Where a limit is passed, wider ones lead further: by them the list is written, or the event that is refused comes no
+/// earlier.
+pub fn limited_goes_on()
+    ensures law { LimitedGoesOn }
+{}
+
+/// What is written is the same under wider limits: the bits, and the events that are read of them.
+pub fn wider_writes_the_same()
+    ensures law { WiderWritesTheSame }
+{}
