@@ -4,3 +4,4 @@ pub mod OneEvent
 pub mod Lists
 pub mod Enough
 pub mod Bodies
+pub mod Fronts

@@ -1,7 +1,7 @@
 -- Whether a list of events can be written, and for which of its events no production stands first: that is a matter of the
 -- list and the options alone, whatever limits there are and whatever bits stand in front (EXI 1.0, sections 6 and 8.4).
 -- Limits are the codec's own.
-use Rattle.std.specs.Prelude.{◌≡◌, ◌≤◌, ◌⊎◌, ◌↔◌, ℕ, Bool, true, false, List, Result, Ok, Err}
+use Rattle.std.specs.Prelude.{◌≡◌, ◌+◌, ◌<◌, ◌≤◌, ◌⊎◌, ◌↔◌, ℕ, Bool, true, false, List, ◌++◌, length, Result, Ok, Err}
 use Rattle.exi_meter.specs.Metering.{Bounds}
 use Rattle.exi_names.specs.Events.{Happening}
 use Rattle.exi_reader.specs.Configurations.{Setting}
@@ -22,6 +22,10 @@ unmatched_at event = record { event = event; why = not_derived }
 -- front of it, too early. Under some limits the list is refused there
 abbrev pub Unmatched : Setting → List Happening → ℕ → Type 0
 Unmatched g es event = (limits : Bounds) × (body g 0 limits es ≡ Err (unmatched_at event))
+
+-- for each event of the list a production stands in turn: it can be written, or ends too early and has no other fault
+abbrev pub IsMatched : Setting → List Happening → Type 0
+IsMatched g es = Derives g es ⊎ Unmatched g es (length es + 1)
 
 -- whether a list was written, and whether a limit is passed
 abbrev pub is_written : Result Run Refusal → Bool
@@ -83,11 +87,30 @@ WrittenExactly = (g : Setting) (bits : ℕ) (limits : Bounds) (es : List Happeni
 abbrev pub DerivedOrUnmatched : Type 0
 DerivedOrUnmatched = (g : Setting) (es : List Happening) → Derives g es ⊎ ((event : ℕ) × Unmatched g es event)
 
+-- ---- which event it is
+-- an event of the list; or the number behind its last, where no limit is passed
+pub record IsNumbered (es : List Happening) (e : Refusal) : Type 0 where
+  pub first : 1 ≤ e.event
+  pub last : e.event ≤ length es + 1
+  pub limited : is_limit e.why ≡ true → e.event ≤ length es
+
+abbrev pub RefusedIsNumbered : Type 0
+RefusedIsNumbered = (g : Setting) (bits : ℕ) (limits : Bounds) (es : List Happening) (e : Refusal) → body g bits limits es ≡ Err e → IsNumbered es e
+
+-- for the events before one that is refused, for whatever reason, productions stand
+abbrev pub FrontIsMatched : Type 0
+FrontIsMatched = (g : Setting) (bits : ℕ) (limits : Bounds) (front rest : List Happening) (e : Refusal) → body g bits limits (front ++ rest) ≡ Err e → length front < e.event → IsMatched g front
+
+-- it is refused whatever follows it
+abbrev pub RefusedWhateverFollows : Type 0
+RefusedWhateverFollows = (g : Setting) (bits : ℕ) (limits : Bounds) (front rest others : List Happening) (e : Refusal) → body g bits limits (front ++ rest) ≡ Err e → e.event ≤ length front → body g bits limits (front ++ others) ≡ Err e
+
+-- ---- under wider limits
 -- where a limit is passed, by wider ones all events before have a production
 abbrev pub LimitedGoesOn : Type 0
 LimitedGoesOn = (g : Setting) (bits : ℕ) (limits : Bounds) (es : List Happening) (e : Refusal) → body g bits limits es ≡ Err e → is_limit e.why ≡ true → (wider : Bounds) × IsNoWider limits wider × GoesOn e.event (body g bits wider es)
 
--- the same is written under wider limits
+-- the same is written
 pub record IsSameRun (r s : Run) : Type 0 where
   pub bits : s.bits ≡ r.bits
   pub events : s.events ≡ r.events

@@ -1,6 +1,6 @@
 //! What holds of lists that can be written. Each law is a function that does nothing: what it ensures is the law.
 
-ghost use Rattle.exi_derived.specs.Laws.{DerivedIsWritten, DerivedOrUnmatched, LimitedGoesOn, RefusedDerivesNot, RefusedIsUnmatched, UnmatchedIsRefused, WiderWritesTheSame, WrittenDerives, WrittenExactly};
+ghost use Rattle.exi_derived.specs.Laws.{DerivedIsWritten, DerivedOrUnmatched, FrontIsMatched, LimitedGoesOn, RefusedDerivesNot, RefusedIsNumbered, RefusedIsUnmatched, RefusedWhateverFollows, UnmatchedIsRefused, WiderWritesTheSame, WrittenDerives, WrittenExactly};
 
 /// A list that is written as a body, behind any bits and within any limits, is one that can be written.
 pub fn written_derives()
@@ -29,6 +29,18 @@ pub fn derived_is_written()
 /// Each list can be written, or has a first event for which no production stands.
 pub fn derived_or_unmatched()
     ensures law { DerivedOrUnmatched }
+{}
+
+/// The event that is refused is one of the list; or, where no limit is passed, its number may be the one behind the last.
+pub fn refused_is_numbered()
+    ensures law { RefusedIsNumbered }
+{}
+
+/// The events before the one that is refused, be it for want of a production or by a limit, can be written so far: for each
+/// of them a production stands. And that event is refused whatever follows it.
+pub fn fronts_are_matched()
+    ensures matched { FrontIsMatched }
+    ensures follows { RefusedWhateverFollows }
 {}
 
 /// Where a limit is passed, wider ones lead further: by them the list is written, or the event that is refused comes no
