@@ -7,30 +7,30 @@ use Rattle.exi_reader.specs.Configurations.{Setting, first_config}
 use Rattle.exi_reader.specs.declared.start.Start.TheVariants as start
 use Rattle.exi_writing.specs.OneEvent.{Refused, limit, not_derived}
 use Rattle.exi_writing.specs.Runs.{Derives, Refusal, Run, body}
-use Rattle.exi_derived.specs.Laws.{DerivedIsWritten, DerivedOrUnmatched, GoesOn, IsNoWider, IsRefused, LimitedGoesOn, RefusedDerivesNot, RefusedIsUnmatched, RefusesAt, RefusesFrom, Unmatched, UnmatchedIsRefused, WiderWritesTheSame, WrittenDerives, WrittenExactly, is_limit, is_written, passes_limit, unmatched_at}
+use Rattle.exi_derived.specs.Laws.{BitsRefuseTheSame, BitsWriteAgain, DerivedIsWritten, DerivedOrUnmatched, GoesOn, IsNoWider, IsRefused, LimitedGoesOn, NeverBoth, OneUnmatched, RefusedDerivesNot, RefusedIsUnmatched, RefusesAt, RefusesFrom, Unmatched, UnmatchedIsRefused, WiderWritesTheSame, WrittenDerives, WrittenExactly, is_limit, is_written, passes_limit, unmatched_at}
 use Rattle.exi_derived.proofs.Enough.{from_enough}
 use Rattle.exi_derived.proofs.Lists.{KeptRun, Later, ListAgain, RefusedAgain, from_again}
 use Rattle.exi_derived.proofs.Places.{no_wider}
 
 -- ---- a body again, behind other bits and under limits that are no narrower
-body_again : (g : Setting) (bits more : ℕ) (limits wider : Bounds) (es : List Happening) → IsNoWider limits wider → ListAgain bits more wider (body g bits limits es) (body g more wider es)
+body_again : (g : Setting) (bits more : ℕ) (limits wider : Bounds) (es : List Happening) → IsNoWider limits wider → ListAgain (wider ≡ limits) bits more wider (body g bits limits es) (body g more wider es)
 unfolding body
-body_again g bits more limits wider es room = from_again es 1 g (first_config g bits start.Body limits) more wider room
+body_again g bits more limits wider es room = from_again (wider ≡ limits) es 1 g (first_config g bits start.Body limits) more wider record { wide = room; same = λ is. is }
 
 body_enough : (g : Setting) (bits : ℕ) (limits : Bounds) (es : List Happening) → (wider : Bounds) × IsNoWider limits wider × (passes_limit (body g bits wider es) ≡ false)
 unfolding body
 body_enough g bits limits es = from_enough es 1 g (first_config g bits start.Body limits) limits
 
 -- what was so is so again
-again_by : (from to : ℕ) (limits : Bounds) (r s : Result Run Refusal) → r ≡ s → (t : Result Run Refusal) → ListAgain from to limits r t → ListAgain from to limits s t
-again_by from to limits r s is t k = subst (λ (z : Result Run Refusal). ListAgain from to limits z t) is k
+again_by : (Same : Type 0) (from to : ℕ) (limits : Bounds) (r s : Result Run Refusal) → r ≡ s → (t : Result Run Refusal) → ListAgain Same from to limits r t → ListAgain Same from to limits s t
+again_by Same from to limits r s is t k = subst (λ (z : Result Run Refusal). ListAgain Same from to limits z t) is k
 
 module _ (g : Setting) (bits more : ℕ) (limits wider : Bounds) (es : List Happening) (room : IsNoWider limits wider) where
-  written_again : (r : Run) → body g bits limits es ≡ Ok r → (t : Run) × (body g more wider es ≡ Ok t) × KeptRun bits more wider r t
-  written_again r is = again_by bits more wider (body g bits limits es) (Ok r) is (body g more wider es) (body_again g bits more limits wider es room)
+  written_again : (r : Run) → body g bits limits es ≡ Ok r → (t : Run) × (body g more wider es ≡ Ok t) × KeptRun (wider ≡ limits) bits more wider r t
+  written_again r is = again_by (wider ≡ limits) bits more wider (body g bits limits es) (Ok r) is (body g more wider es) (body_again g bits more limits wider es room)
 
   unmatched_again : (event : ℕ) → body g bits limits es ≡ Err (unmatched_at event) → body g more wider es ≡ Err (unmatched_at event)
-  unmatched_again event is = again_by bits more wider (body g bits limits es) (Err (unmatched_at event)) is (body g more wider es) (body_again g bits more limits wider es room)
+  unmatched_again event is = again_by (wider ≡ limits) bits more wider (body g bits limits es) (Err (unmatched_at event)) is (body g more wider es) (body_again g bits more limits wider es room)
 
 -- ---- limits that are no narrower than both
 abbrev wider_of : Bounds → Bounds → Bounds
@@ -66,20 +66,20 @@ event_is : (a b : ℕ) → refusal a not_derived ≡ refusal b not_derived → a
 event_is a b h = ap event_of h
 
 -- under wider limits what is refused is refused there, or a limit was passed no later
-refused_so : (from to : ℕ) (limits : Bounds) (event : ℕ) (r s : Result Run Refusal) → s ≡ Err (unmatched_at event) → ListAgain from to limits r s → IsRefused event r
-refused_so from to limits event (Ok r) s is k = ok_err k.0 event (sym k.1 ∙ is)
-refused_so from to limits event (Err e) s is k = by_why e.event e.why k
+refused_so : (Same : Type 0) (from to : ℕ) (limits : Bounds) (event : ℕ) (r s : Result Run Refusal) → s ≡ Err (unmatched_at event) → ListAgain Same from to limits r s → IsRefused event r
+refused_so Same from to limits event (Ok r) s is k = ok_err k.0 event (sym k.1 ∙ is)
+refused_so Same from to limits event (Err e) s is k = by_why e.event e.why k
   where
-    by_why : (at : ℕ) (why : Refused) → RefusedAgain at why s → RefusesAt event at why
+    by_why : (at : ℕ) (why : Refused) → RefusedAgain Same at why s → RefusesAt event at why
     by_why at not_derived same = event_is at event (sym same ∙ is)
-    by_why at (limit kind meter) le = subst (λ (z : Result Run Refusal). Later at z) is le
+    by_why at (limit kind meter) le = subst (λ (z : Result Run Refusal). Later at z) is le.0
 
 pub unmatched_is_refused : UnmatchedIsRefused
 unmatched_is_refused g bits limits es event unmatched =
     let apart = unmatched.0 in
     let wider = wider_of apart limits in
     let there = unmatched_again g 0 0 apart wider es (first_wider apart limits) event unmatched.1 in
-    refused_so bits 0 wider event (body g bits limits es) (body g 0 wider es) there (body_again g bits 0 limits wider es (second_wider apart limits))
+    refused_so (wider ≡ limits) bits 0 wider event (body g bits limits es) (body g 0 wider es) there (body_again g bits 0 limits wider es (second_wider apart limits))
 
 pub refused_derives_not : RefusedDerivesNot
 refused_derives_not g bits limits es event is derives =
@@ -126,6 +126,12 @@ by_body g es limits (Err e) is settled = by_why e.event e.why is settled
 pub derived_or_unmatched : DerivedOrUnmatched
 derived_or_unmatched g es = let k = body_enough g 0 no_limits es in by_body g es k.0 (body g 0 k.0 es) refl k.2
 
+pub never_both : NeverBoth
+never_both g es event derives unmatched = refused_derives_not g 0 unmatched.0 es event unmatched.1 derives
+
+pub one_unmatched : OneUnmatched
+one_unmatched g es event other unmatched second = sym (subst (λ (z : Result Run Refusal). IsRefused event z) second.1 (unmatched_is_refused g 0 second.0 es event unmatched))
+
 goes_on : (event : ℕ) (s : Result Run Refusal) → Later event s → passes_limit s ≡ false → GoesOn event s
 goes_on event (Ok r) le settled = tt
 goes_on event (Err e) le settled = by_why e.event e.why le settled
@@ -134,18 +140,30 @@ goes_on event (Err e) le settled = by_why e.event e.why le settled
     by_why at not_derived le settled = le
     by_why at (limit kind meter) le settled = absurd cc
 
-later_again : (event : ℕ) (why : Refused) (s : Result Run Refusal) → is_limit why ≡ true → RefusedAgain event why s → Later event s
-later_again event not_derived s is k = absurd cc
-later_again event (limit kind meter) s is k = k
+later_again : (Same : Type 0) (event : ℕ) (why : Refused) (s : Result Run Refusal) → is_limit why ≡ true → RefusedAgain Same event why s → Later event s
+later_again Same event not_derived s is k = absurd cc
+later_again Same event (limit kind meter) s is k = k.0
 
 pub limited_goes_on : LimitedGoesOn
 limited_goes_on g bits limits es e is passed =
     let k = body_enough g bits limits es in
-    let there = again_by bits bits k.0 (body g bits limits es) (Err e) is (body g bits k.0 es) (body_again g bits bits limits k.0 es k.1) in
-    (k.0, k.1, goes_on e.event (body g bits k.0 es) (later_again e.event e.why (body g bits k.0 es) passed there) k.2)
+    let there = again_by (k.0 ≡ limits) bits bits k.0 (body g bits limits es) (Err e) is (body g bits k.0 es) (body_again g bits bits limits k.0 es k.1) in
+    (k.0, k.1, goes_on e.event (body g bits k.0 es) (later_again (k.0 ≡ limits) e.event e.why (body g bits k.0 es) passed there) k.2)
 
 pub wider_writes_the_same : WiderWritesTheSame
 wider_writes_the_same g bits limits wider es r room is =
     let k = written_again g bits bits limits wider es room r is in
     let same = k.2.same refl in
     (k.0, k.1, record { bits = same.bits_are; events = same.event })
+
+-- ---- within the same limits
+pub bits_write_again : BitsWriteAgain
+bits_write_again g bits others limits es r is = let k = written_again g bits others limits limits es (no_wider limits) r is in (k.0, k.1)
+
+refused_again : (Same : Type 0) (event : ℕ) (why : Refused) (s : Result Run Refusal) → Same → RefusedAgain Same event why s → s ≡ refusal event why
+refused_again Same event not_derived s same is = is
+refused_again Same event (limit kind meter) s same k = k.1 same
+
+pub bits_refuse_the_same : BitsRefuseTheSame
+bits_refuse_the_same g bits others limits es e is =
+    refused_again (limits ≡ limits) e.event e.why (body g others limits es) refl (again_by (limits ≡ limits) bits others limits (body g bits limits es) (Err e) is (body g others limits es) (body_again g bits others limits limits es (no_wider limits)))

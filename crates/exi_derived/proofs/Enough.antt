@@ -15,7 +15,7 @@ use Rattle.exi_writing.specs.Pruned.{pruned}
 use Rattle.exi_writing.specs.Runs.{Refusal, Run, behind_run, go_on, nothing_from, own, put, put_from, put_then, then_run, written_all}
 use Rattle.exi_derived.specs.Laws.{IsNoWider, is_limit, passes_limit, unmatched_at}
 use Rattle.exi_derived.proofs.Lists.{KeptRun, put_again}
-use Rattle.exi_derived.proofs.OneEvent.{Again, KeptOne, chosen_same, code_of, one_again}
+use Rattle.exi_derived.proofs.OneEvent.{Again, Fits, KeptOne, chosen_same, code_of, one_again}
 use Rattle.exi_derived.proofs.Places.{limited, no_wider, put_at, wider_still}
 use Rattle.exi_derived.proofs.Plans.{same_plan}
 
@@ -124,6 +124,10 @@ module _ (g : Setting) (e : Happening) where
             (subst (λ (o : Option (Coded Rule)). Settled (by_code g (put_at c.place wider c) e o)) (chosen_same g c e c.place wider) (by_code_settled c wider (chosen g c e) (wide_room limits c.meter units))),
       )
 
+-- nothing is said of limits that are the same
+no_same : (limits wider : Bounds) → IsNoWider limits wider → Fits ⊥ limits wider
+no_same limits wider room = record { wide = room; same = λ never. absurd never }
+
 -- ---- events one after another
 front_settled : (w : Written) (r : Result Run Refused) → Settled r → Settled (then_run w r)
 front_settled w (Ok s) k = tt
@@ -138,7 +142,7 @@ module _ (g : Setting) (e : Happening) (f : Config → Result Run Refused) (more
   by_answer c limits first room (Ok w) is s =
       let k = more w.given.1 first in
       let wider = k.0 in
-      let there : Again (KeptOne c.place c.place wider) (Ok w) (written g (put_at c.place wider c) e) = subst (λ (z : Result Written Refused). Again (KeptOne c.place c.place wider) z (written g (put_at c.place wider c) e)) is (one_again g (put_at c.place first c) e c.place wider k.1) in
+      let there : Again ⊥ (KeptOne ⊥ c.place c.place wider) (Ok w) (written g (put_at c.place wider c) e) = subst (λ (z : Result Written Refused). Again ⊥ (KeptOne ⊥ c.place c.place wider) z (written g (put_at c.place wider c) e)) is (one_again ⊥ g (put_at c.place first c) e c.place wider (no_same first wider k.1)) in
       let v = there.0 in
       let next : v.given.1 ≡ put_at w.given.1.place wider w.given.1 = there.2.next ∙ ap (λ (p : ℕ). put_at p wider w.given.1) (there.2.same refl).place_is in
       let last : Settled (f v.given.1) = subst (λ (d : Config). Settled (f d)) (sym next) k.2 in
@@ -172,7 +176,7 @@ module _ (n : ℕ) (g : Setting) (e : Happening) (others : Config → Result Run
   on_answer c limits first room (Ok r) is s =
       let k = more r.last first in
       let wider = k.0 in
-      let there : Again (KeptRun c.place c.place wider) (Ok r) (put g (put_at c.place wider c) e) = subst (λ (z : Result Run Refused). Again (KeptRun c.place c.place wider) z (put g (put_at c.place wider c) e)) is (put_again g e (put_at c.place first c) c.place wider k.1) in
+      let there : Again ⊥ (KeptRun ⊥ c.place c.place wider) (Ok r) (put g (put_at c.place wider c) e) = subst (λ (z : Result Run Refused). Again ⊥ (KeptRun ⊥ c.place c.place wider) z (put g (put_at c.place wider c) e)) is (put_again ⊥ g e (put_at c.place first c) c.place wider (no_same first wider k.1)) in
       let t = there.0 in
       let next : t.last ≡ put_at r.last.place wider r.last = there.2.next ∙ ap (λ (p : ℕ). put_at p wider r.last) (there.2.same refl).place_is in
       let last : passes_limit (others t.last) ≡ false = ap (λ (d : Config). passes_limit (others d)) next ∙ k.2 in

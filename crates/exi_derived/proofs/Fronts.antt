@@ -1,5 +1,5 @@
 -- The events before the one that is refused, and those behind it.
-use Rattle.std.proofs.Common.{◌≡◌, ◌+◌, ◌<◌, ◌≤◌, inl, inr, ℕ, suc, Bool, true, false, List, [], ◌∷◌, ◌++◌, length, Option, Some, None, refl, sym, ap, ◌∙◌, subst, arith}
+use Rattle.std.proofs.Common.{◌≡◌, ◌+◌, ◌<◌, ◌≤◌, inl, inr, ℕ, suc, Bool, true, false, List, [], ◌∷◌, ◌++◌, length, Option, Some, None, refl, ap, ◌∙◌, subst, arith}
 use Rattle.std.specs.Prelude.{Result, Ok, Err, if◌then◌else◌}
 use Rattle.exi_meter.specs.Metering.{Bounds}
 use Rattle.exi_names.specs.Events.{Happening}
@@ -9,7 +9,7 @@ use Rattle.exi_reader.specs.declared.start.Start.TheVariants as start
 use Rattle.exi_writing.specs.OneEvent.{Refused}
 use Rattle.exi_writing.specs.Pruned.{pruned}
 use Rattle.exi_writing.specs.Runs.{Refusal, Run, behind_run, body, go_on, nothing_from, put, put_from, put_then}
-use Rattle.exi_derived.specs.Laws.{FrontIsMatched, IsMatched, IsNumbered, RefusedIsNumbered, RefusedWhateverFollows, is_limit, unmatched_at}
+use Rattle.exi_derived.specs.Laws.{FrontIsMatched, IsMatched, RefusedIsNumbered, RefusedWhateverFollows, is_limit, unmatched_at}
 use Rattle.exi_derived.proofs.Bodies.{refused_is_unmatched, written_derives}
 use Rattle.exi_derived.proofs.Lists.{Later, from_later}
 

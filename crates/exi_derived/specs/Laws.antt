@@ -14,7 +14,7 @@ pub record IsNoWider (limits wider : Bounds) : Type 0 where
   pub text : limits.text ≤ wider.text
   pub depth : limits.depth ≤ wider.depth
 
--- no production stands for the event of this number
+-- no production stands for the event of this number, or for what a self-contained fragment has of its own behind it
 abbrev pub unmatched_at : ℕ → Refusal
 unmatched_at event = record { event = event; why = not_derived }
 
@@ -40,7 +40,7 @@ abbrev pub passes_limit : Result Run Refusal → Bool
 passes_limit (Ok r) = false
 passes_limit (Err e) = is_limit e.why
 
--- an event is refused: this one, since no production stands for it, or none behind it, by a limit
+-- this event is refused for want of a production, or one no later by a limit
 abbrev pub RefusesAt : ℕ → ℕ → Refused → Type 0
 RefusesAt event at not_derived = at ≡ event
 RefusesAt event at (limit kind meter) = at ≤ event
@@ -49,7 +49,7 @@ abbrev pub IsRefused : ℕ → Result Run Refusal → Type 0
 IsRefused event (Ok r) = ⊥
 IsRefused event (Err e) = RefusesAt event e.event e.why
 
--- all is written, or it is refused no earlier than at this event, and by no limit
+-- a list is written, or refused for want of a production at this event or behind it
 abbrev pub RefusesFrom : ℕ → ℕ → Refused → Type 0
 RefusesFrom event at not_derived = event ≤ at
 RefusesFrom event at (limit kind meter) = ⊥
@@ -83,9 +83,15 @@ DerivedIsWritten = (g : Setting) (bits : ℕ) (limits : Bounds) (es : List Happe
 abbrev pub WrittenExactly : Type 0
 WrittenExactly = (g : Setting) (bits : ℕ) (limits : Bounds) (es : List Happening) → (is_written (body g bits limits es) ≡ true) ↔ (Derives g es × (passes_limit (body g bits limits es) ≡ false))
 
--- each list can be written, or has such an event
+-- each list can be written, or has such an event; never both, and one such event at most
 abbrev pub DerivedOrUnmatched : Type 0
 DerivedOrUnmatched = (g : Setting) (es : List Happening) → Derives g es ⊎ ((event : ℕ) × Unmatched g es event)
+
+abbrev pub NeverBoth : Type 0
+NeverBoth = (g : Setting) (es : List Happening) (event : ℕ) → Derives g es → Unmatched g es event → ⊥
+
+abbrev pub OneUnmatched : Type 0
+OneUnmatched = (g : Setting) (es : List Happening) (event other : ℕ) → Unmatched g es event → Unmatched g es other → event ≡ other
 
 -- ---- which event it is
 -- an event of the list; or the number behind its last, where no limit is passed
@@ -105,12 +111,21 @@ FrontIsMatched = (g : Setting) (bits : ℕ) (limits : Bounds) (front rest : List
 abbrev pub RefusedWhateverFollows : Type 0
 RefusedWhateverFollows = (g : Setting) (bits : ℕ) (limits : Bounds) (front rest others : List Happening) (e : Refusal) → body g bits limits (front ++ rest) ≡ Err e → e.event ≤ length front → body g bits limits (front ++ others) ≡ Err e
 
+-- ---- behind other bits
+-- within the same limits they change nothing of it: a list is written behind all of them, or refused behind all for the same
+abbrev pub BitsWriteAgain : Type 0
+BitsWriteAgain = (g : Setting) (bits others : ℕ) (limits : Bounds) (es : List Happening) (r : Run) → body g bits limits es ≡ Ok r → (s : Run) × (body g others limits es ≡ Ok s)
+
+abbrev pub BitsRefuseTheSame : Type 0
+BitsRefuseTheSame = (g : Setting) (bits others : ℕ) (limits : Bounds) (es : List Happening) (e : Refusal) → body g bits limits es ≡ Err e → body g others limits es ≡ Err e
+
 -- ---- under wider limits
--- where a limit is passed, by wider ones all events before have a production
+-- where a limit is passed there are wider ones under which none is: by them the list is written, or the first event without
+-- a production comes no earlier
 abbrev pub LimitedGoesOn : Type 0
 LimitedGoesOn = (g : Setting) (bits : ℕ) (limits : Bounds) (es : List Happening) (e : Refusal) → body g bits limits es ≡ Err e → is_limit e.why ≡ true → (wider : Bounds) × IsNoWider limits wider × GoesOn e.event (body g bits wider es)
 
--- the same is written
+-- the same bits are written, and read as the same events
 pub record IsSameRun (r s : Run) : Type 0 where
   pub bits : s.bits ≡ r.bits
   pub events : s.events ≡ r.events

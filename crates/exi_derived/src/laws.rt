@@ -1,14 +1,14 @@
 //! What holds of lists that can be written. Each law is a function that does nothing: what it ensures is the law.
 
-ghost use Rattle.exi_derived.specs.Laws.{DerivedIsWritten, DerivedOrUnmatched, FrontIsMatched, LimitedGoesOn, RefusedDerivesNot, RefusedIsNumbered, RefusedIsUnmatched, RefusedWhateverFollows, UnmatchedIsRefused, WiderWritesTheSame, WrittenDerives, WrittenExactly};
+ghost use Rattle.exi_derived.specs.Laws.{BitsRefuseTheSame, BitsWriteAgain, DerivedIsWritten, DerivedOrUnmatched, FrontIsMatched, LimitedGoesOn, NeverBoth, OneUnmatched, RefusedDerivesNot, RefusedIsNumbered, RefusedIsUnmatched, RefusedWhateverFollows, UnmatchedIsRefused, WiderWritesTheSame, WrittenDerives, WrittenExactly};
 
 /// A list that is written as a body, behind any bits and within any limits, is one that can be written.
 pub fn written_derives()
     ensures law { WrittenDerives }
 {}
 
-/// A list that is refused since no production stands for an event can be written under no limits and behind no bits, and
-/// that event is the first of the list for which none stands.
+/// A list that is refused since no production stands for an event can not be written, whatever the limits, and that event is
+/// the first of the list for which none stands.
 pub fn refused_derives_not()
     ensures derives { RefusedDerivesNot }
     ensures unmatched { RefusedIsUnmatched }
@@ -26,9 +26,11 @@ pub fn derived_is_written()
     ensures exactly { WrittenExactly }
 {}
 
-/// Each list can be written, or has a first event for which no production stands.
+/// Each list can be written, or has a first event for which no production stands, and not both; and that event is one alone.
 pub fn derived_or_unmatched()
-    ensures law { DerivedOrUnmatched }
+    ensures either { DerivedOrUnmatched }
+    ensures never_both { NeverBoth }
+    ensures one { OneUnmatched }
 {}
 
 /// The event that is refused is one of the list; or, where no limit is passed, its number may be the one behind the last.
@@ -43,8 +45,15 @@ pub fn fronts_are_matched()
     ensures follows { RefusedWhateverFollows }
 {}
 
-/// Where a limit is passed, wider ones lead further: by them the list is written, or the event that is refused comes no
-/// earlier.
+/// Within the same limits the bits in front change nothing: a list is written behind all of them, or refused behind all of
+/// them at the same event and for the same reason.
+pub fn bits_change_nothing()
+    ensures written { BitsWriteAgain }
+    ensures refused { BitsRefuseTheSame }
+{}
+
+/// Where a limit is passed, there are wider ones under which none is: by them the list is written, or the first event for
+/// which no production stands comes no earlier.
 pub fn limited_goes_on()
     ensures law { LimitedGoesOn }
 {}
