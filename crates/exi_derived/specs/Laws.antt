@@ -1,5 +1,6 @@
 -- Whether a list of events can be written, and for which of its events no production stands first: that is a matter of the
--- list and the options alone, whatever limits there are and whatever bits stand in front (EXI 1.0, sections 6 and 8.4).
+-- list, the options and the schema alone, whatever limits there are and whatever bits stand in front (EXI 1.0, sections 6,
+-- 8.4 and 8.5).
 -- Limits are the codec's own.
 use Rattle.std.specs.Prelude.{◌≡◌, ◌+◌, ◌<◌, ◌≤◌, ◌⊎◌, ◌↔◌, ℕ, Bool, true, false, List, ◌++◌, length, Result, Ok, Err}
 use Rattle.exi_meter.specs.Metering.{Bounds}
