@@ -1,0 +1,6 @@
+use Rattle.exi_reader.specs.Reading.{job_of}
+use Rattle.exi_example.proofs.Counted.{within_stream}
+use Rattle.exi_example.proofs.read_on.Goals as goal
+
+pub returns : goal.returns
+returns g c = within_stream g.E.EventOut.took g.E.EventOut.broke c.read_from.result (job_of c.args.job.now) c.of_stream-limits.result c.args.out.now c.read_from.new.out _ _ c.of_stream-limits.ensures c.read_from.ensures.read
