@@ -7,6 +7,10 @@ pub mod Matching
 pub mod BuiltIns
 pub mod Picking
 pub mod BuiltFits
+pub mod Tellings
+pub mod Tried
+pub mod Ranks
+pub mod Searching
 pub mod Books
 pub mod Starts
 pub mod Strings

@@ -11,6 +11,7 @@ use Rattle.exi_reader.specs.Configurations.{Setting, built_in, in_book}
 use Rattle.exi_reader.specs.Handing.{rule_in}
 use Rattle.exi_reader.specs.Rules.{Rule, book_rule, fragment_start}
 use Rattle.exi_reader.specs.declared.rule.Content.{Content}
+use Rattle.exi_writing.specs.OneEvent.{fewest}
 use Rattle.exi_choice.specs.declared.choice.Choice.{Choice}
 use Rattle.exi_choice.specs.declared.choice.Way.{Way}
 use Rattle.exi_choice.specs.declared.choice.Way.TheVariants as way
@@ -18,7 +19,7 @@ use Rattle.exi_choice.specs.declared.fit.Fit.{Fit}
 use Rattle.exi_choice.specs.declared.found.Found.{Found}
 use Rattle.exi_choice.specs.declared.wanted.Wanted.{Wanted}
 use Rattle.exi_choice.specs.Fitting.{fit_in, fitted, having, value_in}
-use Rattle.exi_choice.specs.Wanted.{Seeking, first_for, first_suiting, is_taken}
+use Rattle.exi_choice.specs.Wanted.{Seeking, first_for, first_suiting, suits_in}
 
 -- ---- how its code is kept
 abbrev pub way_parts : Setting → Way → List ℕ
@@ -59,21 +60,21 @@ abbrev pub Finds : Setting → Learning → Seeking → Productions Rule → Opt
 Finds g l s rules None = first_suiting g s rules ≡ None
 Finds g l s rules (Some found) = IsFound g l s rules found
 
--- ---- a production with so many parts in its code that suits, with what is written of the value there
-abbrev pub Takes : Outline → ℕ → Seeking → Coded Entry → Option Fit → Type 0
-Takes o parts s c None = is_taken o parts s c ≡ false
-Takes o parts s c (Some kept) = (is_taken o parts s c ≡ true) × (fitted (value_in s.having) (Some kept) ≡ fit_in o (book_rule c.item).on s.having)
+-- ---- a production that suits, with what is written of the value there
+abbrev pub Takes : Outline → Seeking → Coded Entry → Option Fit → Type 0
+Takes o s c None = suits_in o s c.item ≡ false
+Takes o s c (Some kept) = (suits_in o s c.item ≡ true) × (fitted (value_in s.having) (Some kept) ≡ fit_in o (book_rule c.item).on s.having)
 
--- ---- the production at a place of a state's codes
-pub record IsFitAt (o : Outline) (s : Seeking) (cs : List (Coded Entry)) (place : ℕ) (kept : Fit) : Type 0 where
+-- ---- the first of a state's codes that does, by its place
+pub record IsFirstAt (o : Outline) (s : Seeking) (cs : List (Coded Entry)) (place : ℕ) (kept : Fit) : Type 0 where
   pub coded : Coded Entry
   pub there : slice_get cs place ≡ Some coded
+  pub first : fewest (suits_in o s) cs ≡ Some coded
   pub value : fitted (value_in s.having) (Some kept) ≡ fit_in o (book_rule coded.item).on s.having
 
--- this place, with what is written of the value there
-abbrev pub FindsPlace : Outline → Seeking → List (Coded Entry) → Option ℕ → Option (ℕ × Fit) → Type 0
-FindsPlace o s cs place None = place ≡ None
-FindsPlace o s cs place (Some found) = (place ≡ Some found.0) × IsFitAt o s cs found.0 found.1
+abbrev pub FindsFirst : Outline → Seeking → List (Coded Entry) → Option (ℕ × Fit) → Type 0
+FindsFirst o s cs None = fewest (suits_in o s) cs ≡ None
+FindsFirst o s cs (Some found) = IsFirstAt o s cs found.0 found.1
 
 -- ---- a production that stands for the event, where the value has a spelling in it
 abbrev pub Keeps : Outline → Seeking → Option Choice → Option Found → Type 0

@@ -1,3 +1,4 @@
 pub mod Fitting
 pub mod Wanted
+pub mod Sought
 pub mod Choices

@@ -1,6 +1,6 @@
 -- Which production a writer looks for, for an event: the first, by the number of parts in its code and then by the code, of
 -- those for such events (EXI 1.0, sections 6.2 and 8.4).
-use Rattle.std.specs.Prelude.{◌≡◌, ℕ, suc, ◌==◌, ◌&&◌, Bool, true, false, List, [], ◌∷◌, length, Option, Some, None, if◌then◌else◌}
+use Rattle.std.specs.Prelude.{◌≡◌, ℕ, ◌==◌, ◌&&◌, Bool, true, false, List, Option, Some, None, if◌then◌else◌}
 use Rattle.std.specs.Option.{is_some}
 use Rattle.exi_builtin.specs.declared.learnable.Learnable.{Learnable}
 use Rattle.exi_builtin.specs.declared.learnable.Learnable.TheVariants as learnable
@@ -124,20 +124,9 @@ first_suiting g s p = fewest (suits g s) (coded p)
 abbrev pub ChosenSuits : Type 0
 ChosenSuits = (g : Setting) (c : Config) (e : Happening) → IsSetting g → IsStart g.schema.names → IsSound g c → chosen g c e ≡ picked g c e (first_suiting g (seeking c.tables e) (rules_of g c))
 
--- ---- in a state of the book: the place of the first that suits and has so many parts
-abbrev pub is_taken : Outline → ℕ → Seeking → Coded Entry → Bool
-is_taken o parts s c = (length c.parts == parts) && suits_by o s (book_rule c.item)
-
-abbrev pub place_for : Outline → ℕ → Seeking → ℕ → List (Coded Entry) → Option ℕ
-place_for o parts s place [] = None
-place_for o parts s place (c ∷ cs) = if is_taken o parts s c then Some place else place_for o parts s (suc place) cs
-
-abbrev pub place_or : Option ℕ → Option ℕ → Option ℕ
-place_or None other = other
-place_or (Some place) other = Some place
-
-abbrev pub fewest_place : Outline → Seeking → List (Coded Entry) → Option ℕ
-fewest_place o s cs = place_or (place_for o 1 s 0 cs) (place_or (place_for o 2 s 0 cs) (place_for o 3 s 0 cs))
+-- ---- in a state of the book
+abbrev pub suits_in : Outline → Seeking → Entry → Bool
+suits_in o s e = suits_by o s (book_rule e)
 
 -- ---- in a built-in state: the production for the event alone, where it may have one, before the one for its kind
 abbrev pub named_one : Bool → Told → Option Learnable

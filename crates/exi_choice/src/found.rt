@@ -1,16 +1,18 @@
 ghost use Rattle.std.specs.Prelude.{◌≡◌, ◌≤◌, IfOk, length, map};
-ghost use Rattle.exi_gram.specs.Books.{IsStateOf};
+ghost use Rattle.exi_gram.specs.Books.{IsStateOf, state_at};
+ghost use Rattle.exi_gram.specs.Codes.{coded};
 ghost use Rattle.exi_gram.specs.Tables.{coded_of, most_productions};
 ghost use Rattle.exi_builtin.specs.Learning.{IsRoom, Learning};
 ghost use Rattle.exi_reader.specs.Configurations.{Setting, built_in, in_book};
 ghost use Rattle.exi_reader.specs.Rules.{fragment_start};
-ghost use Rattle.exi_choice.specs.Choices.{Finds, FindsPlace, Keeps, Takes, wanting};
-ghost use Rattle.exi_choice.specs.Wanted.{fewest_place, place_for};
+ghost use Rattle.exi_choice.specs.Choices.{Finds, FindsFirst, Keeps, Takes, wanting};
 
 use crate::choice::{Choice, Way, choose_built_in, choose_start, is_for};
 use crate::fit::{Fit, fit_on};
+use crate::sought::sought_for;
 use crate::wanted::Wanted;
 use exi_builtin::{Overlay, Room};
+use exi_candidates::next_candidate;
 use exi_gram::{Book, Coded, Schema};
 use exi_reader::Rule;
 use std::alloc::{AllocError, Global};
@@ -24,8 +26,8 @@ pub struct Found<'a> {
     pub value: Fit,
 }
 
-/// What is written of an event's value under a production with so many parts in its code that stands for the event;
-/// nothing where it stands for another, or where the value has no spelling in it.
+/// What is written of an event's value under a production that stands for the event; nothing where it stands for another,
+/// or where the value has no spelling in it.
 ///
 /// # Errors
 ///
@@ -34,14 +36,10 @@ fn fit_at(
     alloc: Global,
     schema: &Schema,
     coded: &Coded,
-    parts: u32,
     wanted: Wanted<'_>,
 ) -> Result<Option<Fit>, AllocError>
-    ensures { IfOk result (λ f. Takes schema.now parts (wanting wanted.entry) (coded_of coded.now) f) }
+    ensures { IfOk result (λ f. Takes schema.now (wanting wanted.entry) (coded_of coded.now) f) }
 {
-    if coded.code.parts() != parts {
-        return Ok(None);
-    }
     let rule = Rule::of_book(&coded.production, coded.named);
     if !is_for(wanted.on, rule.on) {
         return Ok(None);
@@ -49,51 +47,93 @@ fn fit_at(
     fit_on(alloc, schema, rule, wanted.valued)
 }
 
-/// The first production with so many parts in its code that stands for an event and in which its value has a spelling:
-/// its place, and what is written of the value.
+/// The first production that stands for an event and in which its value has a spelling: its place, and what is written of
+/// the value. The productions are gone through once.
 ///
 /// # Errors
 ///
 /// `AllocError` where memory is refused.
-fn first_of(
+fn first_of_all(
     alloc: Global,
     schema: &Schema,
     coded: &[Coded],
-    parts: u32,
     wanted: Wanted<'_>,
 ) -> Result<Option<(u32, Fit)>, AllocError>
     requires few { length coded.now ≤ most_productions }
-    ensures { IfOk result (λ found. FindsPlace schema.now (wanting wanted.entry) (map coded_of coded.now) (place_for schema.now parts (wanting wanted.entry) 0 (map coded_of coded.now)) found) }
+    ensures { IfOk result (λ found. FindsFirst schema.now (wanting wanted.entry) (map coded_of coded.now) found) }
 {
+    let mut first = None;
+    // More than any code has.
+    let mut fewest = 4;
     for (place, coded) in coded.iter().enumerate() {
-        if let Some(value) = fit_at(alloc, schema, coded, parts, wanted)? {
-            return Ok(Some((place as u32, value)));
+        let parts = coded.code.parts();
+        if parts < fewest {
+            if let Some(value) = fit_at(alloc, schema, coded, wanted)? {
+                let found = Some((place as u32, value));
+                if parts == 1 {
+                    return Ok(found);
+                }
+                first = found;
+                fewest = parts;
+            }
         }
+    }
+    Ok(first)
+}
+
+/// The same, of those alone that are looked up for the event, one after another.
+///
+/// # Errors
+///
+/// `AllocError` where memory is refused.
+fn first_of_candidates(
+    alloc: Global,
+    book: &Book,
+    grammar: u32,
+    state: u32,
+    wanted: Wanted<'_>,
+) -> Result<Option<(u32, Fit)>, AllocError>
+    requires exists { IsStateOf book.now grammar state }
+    ensures { IfOk result (λ found. FindsFirst book.now.schema (wanting wanted.entry) (coded (state_at book.now grammar state)) found) }
+{
+    let schema = book.schema();
+    let _ = schema.is_known();
+    let coded = book.state(grammar, state).coded();
+    let sought = sought_for(wanted.on);
+    let mut after = None;
+    while let Some(place) = next_candidate(book, grammar, state, sought, after) {
+        if let Some(value) = fit_at(alloc, schema, &coded[place as usize], wanted)? {
+            return Ok(Some((place, value)));
+        }
+        after = Some(place);
     }
     Ok(None)
 }
 
-/// The same, of the fewest parts.
+/// How many productions are looked at one by one before it is quicker to look them up.
+const FEW: usize = 16;
+
+/// The same, in the quicker way.
 ///
 /// # Errors
 ///
 /// `AllocError` where memory is refused.
-fn fewest(
+fn first_in(
     alloc: Global,
-    schema: &Schema,
-    coded: &[Coded],
+    book: &Book,
+    grammar: u32,
+    state: u32,
     wanted: Wanted<'_>,
 ) -> Result<Option<(u32, Fit)>, AllocError>
-    requires few { length coded.now ≤ most_productions }
-    ensures { IfOk result (λ found. FindsPlace schema.now (wanting wanted.entry) (map coded_of coded.now) (fewest_place schema.now (wanting wanted.entry) (map coded_of coded.now)) found) }
+    requires exists { IsStateOf book.now grammar state }
+    ensures { IfOk result (λ found. FindsFirst book.now.schema (wanting wanted.entry) (coded (state_at book.now grammar state)) found) }
 {
-    if let Some(found) = first_of(alloc, schema, coded, 1, wanted)? {
-        return Ok(Some(found));
+    let coded = book.state(grammar, state).coded();
+    if coded.len() <= FEW {
+        first_of_all(alloc, book.schema(), coded, wanted)
+    } else {
+        first_of_candidates(alloc, book, grammar, state, wanted)
     }
-    if let Some(found) = first_of(alloc, schema, coded, 2, wanted)? {
-        return Ok(Some(found));
-    }
-    first_of(alloc, schema, coded, 3, wanted)
 }
 
 /// The production of a state of the book that stands for an event and in which its value has a spelling.
@@ -111,10 +151,10 @@ pub fn find_in_book<'a>(
     requires exists { IsStateOf book.now grammar state }
     ensures { IfOk result (λ found. (l : Learning) → Finds book.now l (wanting wanted.entry) (in_book book.now grammar state) found) }
 {
-    let coded = book.state(grammar, state).coded();
-    let Some((place, value)) = fewest(alloc, book.schema(), coded, wanted)? else {
+    let Some((place, value)) = first_in(alloc, book, grammar, state, wanted)? else {
         return Ok(None);
     };
+    let coded = book.state(grammar, state).coded();
     let coded = &coded[place as usize];
     let choice = Choice {
         rule: Rule::of_book(&coded.production, coded.named),

@@ -2,8 +2,8 @@
 //!
 //! The definition of writing tries each production of a state; [`laws`] says that only those for such an event in which its
 //! value has a spelling need to be looked at, and of these the first: in a built-in state that for its name or use, before
-//! that for its kind. With the production stands what is written of the value there: itself, or the value that its
-//! canonical text has under the production's datatype.
+//! that for its kind; in a large state of a book of those alone that are looked up for the event. With the production stands
+//! what is written of the value there: itself, or the value that its canonical text has under the production's datatype.
 #![tactic(auto)]
 
 mod choice;
@@ -12,6 +12,7 @@ mod fit;
 mod found;
 pub mod laws;
 mod places;
+mod sought;
 mod wanted;
 
 pub use choice::{Choice, Way};
