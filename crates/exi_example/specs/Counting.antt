@@ -62,6 +62,12 @@ more_counted a b c es fs first second = record {
 abbrev pub no_counts : Counts
 no_counts = record { elements = 0; attributes = 0; characters = 0 }
 
+-- how many events of each kind there are
+pub record AreCounts (es : List Happening) (counts : Counts) : Type 0 where
+  pub elements : counts.elements ≡ count_by is_element es
+  pub attributes : counts.attributes ≡ count_by is_attribute es
+  pub characters : counts.characters ≡ count_by is_characters es
+
 -- sequential processing of the body ends well, and these are the counts of all its events
 pub record IsCounted (j : Job) (counts : Counts) : Type 0 where
   pub events : List Happening
@@ -70,7 +76,7 @@ pub record IsCounted (j : Job) (counts : Counts) : Type 0 where
   pub root : Option QName
   pub turns : ℕ
   pub sequence : IsSequence j start.Body stream_bounds events (end.Done bit tally root) turns
-  pub counted : HasCounted no_counts events counts
+  pub counted : AreCounts events counts
 
 -- it ends by this fault
 pub record IsWrong (j : Job) (fault : Fault) : Type 0 where
