@@ -1,7 +1,7 @@
 # exi: an EXI codec, proved. `rt` is the kit's command.
 PREFIX ?= /usr/local
 
-.PHONY: all demo test install uninstall clean
+.PHONY: all demo test bench install uninstall clean
 
 all: exi
 
@@ -19,6 +19,10 @@ demo:
 # What the gate runs: each proof, test and edit that has to be refused, and the program end to end.
 test:
 	@tests/progress
+
+# Measures the program beside gzip, zstd, expat and Fast Infoset, and writes bench/RESULTS.md and the README's part of it.
+bench: exi
+	@EXI=./exi bench/run
 
 install: exi
 	install -d '$(DESTDIR)$(PREFIX)/bin' '$(DESTDIR)$(PREFIX)/share/man/man1'
