@@ -42,6 +42,7 @@ impl<'a> BitIn<'a> {
     }
 
     /// The place.
+    #[inline]
     pub fn at(&self) -> u64
         ensures place { result ≡ self.now.place }
         ensures within { result ≤ 8 * length self.now.bytes }
@@ -50,6 +51,7 @@ impl<'a> BitIn<'a> {
     }
 
     /// How many bits remain.
+    #[inline]
     pub fn left(&self) -> u64
         ensures { result ≡ left self.now }
     {
@@ -92,6 +94,7 @@ impl<'a> BitIn<'a> {
     }
 
     /// Goes to a bit, at most to the end.
+    #[inline]
     pub fn go_to_bit(&mut self, place: u64)
         requires { place ≤ 8 * length self.old.bytes }
         ensures { self.new ≡ at_bit self.old place }
@@ -117,6 +120,7 @@ impl<'a> BitIn<'a> {
 
     /// Takes eight bits, which lie in one byte or in two.
     #[tactic(auto, unfolding(crate::specs::Bits::number_at))]
+    #[inline]
     fn octet(&mut self) -> Option<u64>
         ensures read { Takes result self.old self.new (number_at 8 align.Bits self.old) }
         ensures below { IfSome result (λ v. v < 256) }
@@ -132,6 +136,7 @@ impl<'a> BitIn<'a> {
 
     /// Takes the octets of an Unsigned Integer behind a first one that goes on. The place is anything
     /// after an `Err`.
+    #[cold]
     fn groups(&mut self, first: u64) -> Result<u128, Kind>
         requires goes_on { 128 ≤ first }
         requires octet { first < 256 }
@@ -163,6 +168,7 @@ impl<'a> BitIn<'a> {
     /// At the first bit of the integer: `Short` where the bits end before the last octet does, and
     /// `TooWide` where the 19th octet has the top bit or brings the value to 2^128 or more.
     #[tactic(auto, unfolding(crate::specs::Unsigned::unsigned_at))]
+    #[inline]
     pub fn unsigned(&mut self) -> Result<u128, Fault>
         ensures read { Reads (λ x. x) result self.old self.new (unsigned_at self.old) }
         ensures bytes { self.new.bytes ≡ self.old.bytes }
@@ -219,6 +225,7 @@ impl<'a> BitIn<'a> {
     ///
     /// `Short` at the place, where fewer bits remain.
     #[tactic(auto, unfolding(crate::specs::Unsigned::field_at))]
+    #[inline]
     pub fn number(&mut self, width: u32, align: Align) -> Result<u64, Fault>
         requires narrow { width ≤ 64 }
         requires aligned { IsAligned align self.old }
@@ -244,6 +251,7 @@ impl<'a> BitIn<'a> {
     ///
     /// At the first bit of the number: `Short` where fewer bits remain, and `kind` where the number is
     /// not below the count, as with a count of 0 at once.
+    #[inline]
     pub fn below(&mut self, count: u64, align: Align, kind: Kind) -> Result<u64, Fault>
         requires aligned { IsAligned align self.old }
         ensures read { Reads (λ x. x) result self.old self.new (below_at count align kind self.old) }
@@ -259,6 +267,7 @@ impl<'a> BitIn<'a> {
 
     /// Takes a number below a count, of the width of the count.
     #[tactic(auto, unfolding(crate::specs::Unsigned::below_at))]
+    #[inline]
     fn one_of(&mut self, count: u64, align: Align, kind: Kind) -> Result<u64, Fault>
         requires aligned { IsAligned align self.old }
         ensures read { Reads (λ x. x) result self.old self.new (below_at count align kind self.old) }

@@ -29,6 +29,7 @@ impl Model for BitOut {
 }
 
 /// Adds the bits of a number to whole bytes, and 0 bits up to a whole byte. Answers how many.
+#[inline]
 fn push_bits(bytes: &mut Vec<u8>, value: u64, width: u32) -> u32
     requires fits { value < 2 ^ width }
     requires narrow { width ≤ 64 }
@@ -80,6 +81,7 @@ fn push_bytes(bytes: &mut Vec<u8>, value: u64, count: u32)
 }
 
 /// One octet behind bits that end in a part of a byte.
+#[inline]
 fn push_octet(bytes: &mut Vec<u8>, spare: u32, octet: u8)
     requires padded { IsPadded bytes.old.items spare }
     requires room { vec_len bytes.old + 1 ≤ vec_capacity bytes.old }
@@ -192,6 +194,7 @@ impl BitOut {
     /// Where there is no memory. The bits are then as before.
     ///
     /// [`BitIn::take`]: crate::BitIn::take
+    #[inline]
     pub fn put(&mut self, value: u64, width: u32, align: Align) -> Result<(), AllocError>
         requires narrow { width ≤ 64 }
         requires fits { value < 2 ^ width }
@@ -207,6 +210,7 @@ impl BitOut {
     }
 
     /// Adds a number bit by bit, the most significant first.
+    #[inline]
     fn put_bits(&mut self, value: u64, width: u32) -> Result<(), AllocError>
         requires narrow { width ≤ 64 }
         requires fits { value < 2 ^ width }
@@ -230,6 +234,7 @@ impl BitOut {
     }
 
     /// Adds so many bytes of a number, the least significant first.
+    #[inline]
     fn put_bytes(&mut self, value: u64, count: u32) -> Result<(), AllocError>
         requires narrow { count ≤ 8 }
         requires whole { length self.old % 8 ≡ 0 }
@@ -247,6 +252,7 @@ impl BitOut {
     /// # Errors
     ///
     /// Where there is no memory. The bits are then as before.
+    #[inline]
     pub fn unsigned(&mut self, value: u128) -> Result<(), AllocError>
         ensures ok { OnOk result (self.new ≡ self.old ++ bits (shortest value)) }
         ensures err { OnErr result (self.new ≡ self.old) }

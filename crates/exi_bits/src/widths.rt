@@ -3,6 +3,7 @@ ghost use Rattle.exi_bits.specs.Widths.{width_for};
 
 /// How many bits a number takes that tells `count` values apart: the least `n` with `2^n` at
 /// least `count`, and 0 for one value or none (EXI 1.0, section 7.1.9).
+#[inline]
 pub fn bits_for(count: u64) -> u32
     ensures width { result ≡ width_for count }
     ensures narrow { result ≤ 64 }

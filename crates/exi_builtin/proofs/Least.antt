@@ -1,13 +1,13 @@
 -- The least code of a production, and what is kept so that it is found.
-use Rattle.std.proofs.Common.{◌≡◌, ◌≢◌, ℕ, zero, suc, ◌+◌, ◌-◌, ◌<◌, ◌≤◌, ◌^◌, Bool, true, false, cond, ◌||◌, List, [], ◌∷◌, ◌++◌, All, drop, filter, get_or, length, refl, ap, sym, ◌∙◌, ◌⊎◌, reverse, subst, append_assoc, arith, inl, inr, Option, Some, None}
+use Rattle.std.proofs.Common.{◌≡◌, ℕ, zero, suc, ◌+◌, ◌<◌, ◌≤◌, ◌^◌, Bool, true, false, cond, ◌||◌, List, [], ◌∷◌, ◌++◌, All, drop, filter, get_or, length, refl, ap, sym, ◌∙◌, ◌⊎◌, reverse, subst, arith, inl, inr, Option, Some, None}
 use Rattle.std.specs.Option.{is_some, option_map}
 use Rattle.std.specs.List.{list_any}
 use Rattle.std.proofs.lemmas.Bool.{cases_Bool}
-use Rattle.std.proofs.lemmas.List.{drop_all, drop_more, length-append, reverse-append}
+use Rattle.std.proofs.lemmas.List.{drop_all, drop_more, reverse-append}
 use mathlib.Core.Bool.{beq}
 use Rattle.exi_names.specs.declared.names.NameId.{NameId}
 use Rattle.exi_names.specs.NameMaps.{same_name}
-use Rattle.exi_gram.specs.Codes.{Coded, coded, coded_from, coded_seconds}
+use Rattle.exi_gram.specs.Codes.{Coded, coded, coded_from}
 use Rattle.exi_builtin.specs.declared.learnable.Learnable.{Learnable}
 use Rattle.exi_builtin.specs.declared.learnable.Learnable.TheVariants as learnable
 use Rattle.exi_builtin.specs.declared.learned_list.NameKey.{NameKey}
@@ -16,7 +16,7 @@ use Rattle.exi_builtin.specs.Layout.{laid_out, laid_seconds}
 use Rattle.exi_builtin.specs.Marks.{IsLearned, IsMarked, LeadsTo, code_at_place, name_key}
 use Rattle.exi_builtin.specs.Uses.{is_characters, is_end, is_known_type}
 use Rattle.exi_builtin.proofs.Numbering.{all_codes}
-use Rattle.exi_builtin.proofs.Shapes.{kept_shape, shape}
+use Rattle.exi_builtin.proofs.Shapes.{firsts_kept, kept_shape, laid_of, shape}
 use Rattle.exi_gram.specs.declared.options.Options.{Options}
 use Rattle.exi_builtin.specs.declared.learnable.Room.{Room}
 use Rattle.exi_builtin.specs.BuiltIn.{is_kept, left_of, written}
@@ -448,3 +448,45 @@ marked_done old items new x characters end kept_characters kept_end new_characte
     (type_now new_type one_type kept_type x t_is t_new ∙ ap (λ b. is_known_type x || b) t_kept)
     (λ name. es name ∙ ap (λ n. cond (is_named name false x) (Some n) (elements (name_key name))) at)
     (λ name. ats name ∙ ap (λ n. cond (is_named name true x) (Some n) (attributes (name_key name))) at))
+
+-- the least code of one part, and of more where there is none of one
+pub learned_least : (test : Learnable → Bool) (o : Options) (r : Room) (learned : List Learnable) (first : ℕ) → first_place test learned ≡ Some first →
+    first_code test (coded (behind_learned learned (left_of o (written r)))) ≡ Some (first ∷ [])
+learned_least test o r learned first found =
+    let laid = laid_of r in
+    let same : 0 + first ≡ first = omega arith in
+    all_least test o r learned (written r).firsts laid.singles laid.members laid.is ∙ rw found (ap (λ k. Some (k ∷ [])) same)
+
+pub written_least : (test : Learnable → Bool) (o : Options) (r : Room) (learned : List Learnable) (place : ℕ) → first_place test learned ≡ None → first_place test (written r).firsts ≡ Some place →
+    first_code test (coded (behind_learned learned (left_of o (written r)))) ≡ Some ((length learned + place) ∷ [])
+written_least test o r learned place none found =
+    let laid = laid_of r in
+    all_least test o r learned (written r).firsts laid.singles laid.members laid.is ∙ rw (none, firsts_kept o r, found) refl
+
+longer_least : (test : Learnable → Bool) (o : Options) (r : Room) (learned firsts singles members : List Learnable) → laid_out firsts singles members ≡ written r → first_place test learned ≡ None → first_place test (written r).firsts ≡ None →
+    first_code test (coded (behind_learned learned (left_of o (written r))))
+    ≡ earlier (option_map (parts_at ((length learned + length firsts) ∷ []) 0) (first_place test (filter (is_kept o) singles))) (option_map (parts_at ((length learned + length firsts) ∷ length (filter (is_kept o) singles) ∷ []) 0) (first_place test (filter (is_kept o) members)))
+longer_least test o r learned firsts singles members laid none behind =
+    let left : filter (is_kept o) firsts ≡ firsts = ap (λ p. filter (is_kept o) p.firsts) laid ∙ firsts_kept o r ∙ sym (ap (λ p. p.firsts) laid) in
+    let past : first_place test firsts ≡ None = ap (λ p. first_place test p.firsts) laid ∙ behind in
+    rw (left, none, past) at (all_least test o r learned firsts singles members laid)
+
+pub single_least : (test : Learnable → Bool) (o : Options) (r : Room) (learned firsts singles members : List Learnable) (first second : ℕ) → laid_out firsts singles members ≡ written r → first_place test learned ≡ None → first_place test (written r).firsts ≡ None →
+    first ≡ length learned + length firsts → first_place test (filter (is_kept o) singles) ≡ Some second →
+    first_code test (coded (behind_learned learned (left_of o (written r)))) ≡ Some (first ∷ second ∷ [])
+single_least test o r learned firsts singles members first second laid none behind at found =
+    let same : 0 + second ≡ second = omega arith in
+    longer_least test o r learned firsts singles members laid none behind ∙ rw (← at, found) (ap (λ k. Some (first ∷ k ∷ [])) same)
+
+pub member_least : (test : Learnable → Bool) (o : Options) (r : Room) (learned firsts singles members : List Learnable) (first second third : ℕ) → laid_out firsts singles members ≡ written r → first_place test learned ≡ None → first_place test (written r).firsts ≡ None →
+    first ≡ length learned + length firsts → first_place test (filter (is_kept o) singles) ≡ None → second ≡ length (filter (is_kept o) singles) → first_place test (filter (is_kept o) members) ≡ Some third →
+    first_code test (coded (behind_learned learned (left_of o (written r)))) ≡ Some (first ∷ second ∷ third ∷ [])
+member_least test o r learned firsts singles members first second third laid none behind at no_single count found =
+    let same : 0 + third ≡ third = omega arith in
+    longer_least test o r learned firsts singles members laid none behind ∙ rw (← at, no_single, ← count, found) (ap (λ k. Some (first ∷ second ∷ k ∷ [])) same)
+
+pub no_least : (test : Learnable → Bool) (o : Options) (r : Room) (learned firsts singles members : List Learnable) → laid_out firsts singles members ≡ written r → first_place test learned ≡ None → first_place test (written r).firsts ≡ None →
+    first_place test (filter (is_kept o) singles) ≡ None → first_place test (filter (is_kept o) members) ≡ None →
+    first_code test (coded (behind_learned learned (left_of o (written r)))) ≡ None
+no_least test o r learned firsts singles members laid none behind no_single no_member =
+    longer_least test o r learned firsts singles members laid none behind ∙ rw (no_single, no_member) refl

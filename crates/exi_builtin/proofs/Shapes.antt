@@ -1,11 +1,12 @@
 -- The productions of a state, and the reading of their codes from the first part on.
-use Rattle.std.proofs.Common.{◌≡◌, ℕ, ◌+◌, List, ◌++◌, filter, length, slice_get, refl, ap, sym, ◌∙◌, Option, Ok, Err}
+use Rattle.std.proofs.Common.{◌≡◌, ℕ, ◌+◌, false, List, [], ◌∷◌, ◌++◌, filter, length, slice_get, refl, ap, sym, ◌∙◌, Option, Ok, Err}
 use Rattle.exi_bits.specs.declared.align.Align.{Align}
 use Rattle.exi_bits.specs.declared.fault.Fault.{Fault}
 use Rattle.exi_bits.specs.Bits.{Spot}
 use Rattle.exi_gram.specs.declared.options.Options.{Options}
 use Rattle.exi_gram.specs.Codes.{Productions, Second, code_at, first_told, kept_seconds, longer, part_at}
 use Rattle.exi_builtin.specs.declared.learnable.Learnable.{Learnable}
+use Rattle.exi_builtin.specs.declared.learnable.Learnable.TheVariants as learnable
 use Rattle.exi_builtin.specs.declared.learnable.Room.{Room}
 use Rattle.exi_builtin.specs.declared.learnable.Room.TheVariants as room
 use Rattle.exi_builtin.specs.BuiltIn.{is_kept, left_of, written}
@@ -44,3 +45,18 @@ pub kept_shape : (o : Options) (r : Room) (learned firsts singles members : List
     behind_learned learned (left_of o (written r)) ≡ shape (learned ++ filter (is_kept o) firsts) (laid_seconds (filter (is_kept o) singles) (filter (is_kept o) members))
 kept_shape o r learned firsts singles members laid =
     ap (λ p. behind_learned learned (left_of o p)) (sym laid) ∙ ap (λ ss. shape (learned ++ filter (is_kept o) firsts) ss) (kept_laid (is_kept o) singles members)
+
+-- what is left of a state, by its written lists
+pub left_shape : (o : Options) (r : Room) (learned : List Learnable) → behind_learned learned (left_of o (written r)) ≡ shape (learned ++ (written r).firsts) (kept_seconds (is_kept o) (written r).seconds)
+left_shape o r learned = ap (λ fs. shape (learned ++ fs) (kept_seconds (is_kept o) (written r).seconds)) (firsts_kept o r)
+
+-- the written lists of a state
+pub record Laid (r : Room) : Type 0 where
+  pub singles : List Learnable
+  pub members : List Learnable
+  pub is : laid_out (written r).firsts singles members ≡ written r
+
+pub laid_of : (r : Room) → Laid r
+laid_of (room.StartTag number) = record { singles = learnable.Ee false ∷ learnable.AtAny ∷ learnable.Ns ∷ learnable.Sc ∷ learnable.SeAny ∷ learnable.Ch false ∷ learnable.Er ∷ []; members = learnable.Cm ∷ learnable.Pi ∷ []; is = refl }
+laid_of (room.Content number) = record { singles = learnable.SeAny ∷ learnable.Ch false ∷ learnable.Er ∷ []; members = learnable.Cm ∷ learnable.Pi ∷ []; is = refl }
+laid_of room.Fragment = record { singles = learnable.Cm ∷ learnable.Pi ∷ []; members = []; is = refl }

@@ -1,19 +1,19 @@
 -- The bits of a code of a state, part by part.
-use Rattle.std.proofs.Common.{All, ◌≡◌, ◌≢◌, ◌⊎◌, inl, inr, ℕ, zero, suc, ◌+◌, ◌<◌, ◌≤◌, Bool, true, false, List, [], ◌∷◌, ◌++◌, filter, length, map, slice_get, Option, Some, None, refl, sym, ap, ◌∙◌, subst, arith}
+use Rattle.std.proofs.Common.{All, ◌≡◌, inl, inr, ℕ, zero, suc, ◌+◌, ◌<◌, Bool, List, [], ◌∷◌, ◌++◌, filter, length, slice_get, Some, refl, sym, ap, ◌∙◌, arith}
 use Rattle.std.proofs.lemmas.List.{append-nil}
 use Rattle.std.proofs.lemmas.List.Elements.{All-nil, All-cons}
 use Rattle.std.proofs.lemmas.Option.{slice_get_within}
 use Rattle.exi_bits.specs.declared.align.Align.{Align}
 use Rattle.exi_bits.specs.Bits.{number}
 use Rattle.exi_bits.specs.Widths.{width_for}
-use Rattle.exi_gram.specs.Codes.{Coded, HasMembers, IsClosedUp, Productions, Second, code_bits, coded, coded_from, coded_seconds, first_values, going_on, group, kept_seconds, longer, single, values_of}
+use Rattle.exi_gram.specs.Codes.{HasMembers, IsClosedUp, Productions, Second, code_bits, coded_from, coded_seconds, first_values, going_on, group, kept_seconds, longer, single}
 use Rattle.exi_gram.specs.Laws.{codes}
 use Rattle.exi_gram.specs.declared.code.Code.{Code}
 use Rattle.exi_gram.specs.declared.code.Code.TheVariants as code
 use Rattle.exi_gram.specs.Tables.{parts_of}
 use Rattle.exi_gram.specs.declared.options.Options.{Options}
 use Rattle.exi_gram.proofs.CodeLaws.{code_none, code_parts, group_behind, second_count, third_count}
-use Rattle.exi_gram.proofs.CodeLists.{StandsBehind, StandsFirst, StandsIn, first_count, going_longer, parts_in, some_is, stands_at}
+use Rattle.exi_gram.proofs.CodeLists.{StandsIn, first_count, going_longer, parts_in, some_is, stands_at}
 use Rattle.exi_builtin.specs.declared.learnable.Learnable.{Learnable}
 use Rattle.exi_builtin.specs.declared.learnable.Room.{Room}
 use Rattle.exi_builtin.specs.BuiltIn.{is_kept, left_of, written}
@@ -22,7 +22,7 @@ use Rattle.exi_builtin.specs.Layout.{grouped, laid_out, laid_seconds}
 use Rattle.exi_builtin.specs.LeastCodes.{IsCodeOf}
 use Rattle.exi_builtin.specs.Learning.{behind_learned}
 use Rattle.exi_builtin.proofs.Layouts.{kept_laid}
-use Rattle.exi_builtin.proofs.Shapes.{shape, shape_is}
+use Rattle.exi_builtin.proofs.Shapes.{laid_of, shape, shape_is}
 
 -- ---- the bits
 one_bits : {X : Type 0} (p : Productions X) → IsClosedUp p → (a : Align) (first : ℕ) → code_bits a (codes p) (first ∷ []) ≡ number (width_for (first_values p)) a first
@@ -217,3 +217,16 @@ parts_told a p o r learned firsts singles members (code.Two first second) values
 parts_told a p o r learned firsts singles members (code.Three first second third) values count others s v c n k =
     let t = three_told a p o r learned firsts singles members first second third values count others s v c n k in
     ((t.0, t.1, t.2), t.3)
+
+-- the values of a first part, by the lists as they are written
+pub values_told : (o : Options) (r : Room) (learned firsts singles members : List Learnable) (values : ℕ) → laid_out firsts singles members ≡ written r → values ≡ length (learned ++ (written r).firsts) + longer (kept_seconds (is_kept o) (written r).seconds)
+    → values ≡ length (learned ++ firsts) + longer (kept_seconds (is_kept o) (laid_seconds singles members))
+values_told o r learned firsts singles members values laid v = v ∙ sym (ap (λ (p : Productions Learnable). length (learned ++ p.firsts) + longer (kept_seconds (is_kept o) p.seconds)) laid)
+
+-- a code of one part
+pub one_behind : (a : Align) (o : Options) (r : Room) (learned : List Learnable) (first values : ℕ) → values ≡ length (learned ++ (written r).firsts) + longer (kept_seconds (is_kept o) (written r).seconds) → IsCodeOf (behind_learned learned (left_of o (written r))) (first ∷ [])
+    → (first < values) × (number (width_for values) a first ≡ code_bits a (codes (behind_learned learned (left_of o (written r)))) (first ∷ []))
+one_behind a o r learned first values v k =
+    let laid = laid_of r in
+    one_told a (behind_learned learned (left_of o (written r))) o r learned (written r).firsts laid.singles laid.members first values
+    (state_is o r learned (written r).firsts laid.singles laid.members laid.is) (values_told o r learned (written r).firsts laid.singles laid.members values laid.is v) k

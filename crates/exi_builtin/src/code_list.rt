@@ -25,6 +25,7 @@ pub enum Front {
 
 impl Front {
     /// The code that ends with this part.
+    #[inline]
     pub fn code(self, part: u32) -> Code
         ensures { parts_of result ≡ parts_before self ++ part ∷ [] }
     {

@@ -67,6 +67,7 @@ impl LearnedList {
     }
 
     /// How many there are.
+    #[inline]
     pub fn len(&self) -> u32
         ensures count { result ≡ length self.now }
         ensures few { result ≤ 2 ^ 31 }
@@ -76,6 +77,7 @@ impl LearnedList {
     }
 
     /// The production of a code.
+    #[inline]
     pub fn at(&self, code: u32) -> Option<Learnable>
         ensures { result ≡ slice_get self.now code }
     {
@@ -88,6 +90,7 @@ impl LearnedList {
     }
 
     /// The code of the production of a name, the least where there are several.
+    #[inline]
     fn code_of_name(&self, name: NameId, attribute: bool) -> Option<u32>
         ensures { result ≡ first_place (is_named name attribute) self.now }
     {
@@ -101,6 +104,7 @@ impl LearnedList {
     }
 
     /// The code of the production that was learned at a place.
+    #[inline]
     fn code_at(&self, place: Option<u32>) -> Option<u32>
         requires within { (p : ℕ) → place ≡ Some p → p < length self.now }
         ensures { result ≡ option_map (code_at_place (length self.now)) place }
@@ -112,6 +116,7 @@ impl LearnedList {
     }
 
     /// The code of the production that was learned at a place, where it has one part.
+    #[inline]
     fn code_if(&self, one_part: bool, place: Option<u32>) -> Option<u32>
         requires within { (p : ℕ) → place ≡ Some p → p < length self.now }
         ensures { result ≡ (if one_part then option_map (code_at_place (length self.now)) place else None) }
@@ -120,6 +125,7 @@ impl LearnedList {
     }
 
     /// The code of a production, the least where there are several.
+    #[inline]
     pub fn code_of(&self, production: Learnable) -> Option<u32>
         ensures { result ≡ first_place (is_it production) self.now }
     {
@@ -139,6 +145,7 @@ impl LearnedList {
     }
 
     /// Whether the production that a use would add stands already, where it is added once only.
+    #[inline]
     pub fn stands(&self, used: Learned) -> bool
         ensures { result ≡ stands_already used self.now }
     {

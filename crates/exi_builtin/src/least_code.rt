@@ -1,4 +1,4 @@
-ghost use Rattle.std.specs.Prelude.{◌≡◌, ◌≤◌, filter, length};
+ghost use Rattle.std.specs.Prelude.{◌≡◌, ◌≤◌, None, filter, length};
 ghost use Rattle.std.specs.Option.{option_map};
 ghost use Rattle.exi_gram.specs.Codes.{coded};
 ghost use Rattle.exi_gram.specs.Tables.{parts_of};
@@ -14,6 +14,7 @@ use crate::written::{as_written, is_kept};
 use exi_gram::{Code, Options};
 
 /// Whether a production is this one.
+#[inline]
 fn is_it(production: Learnable, other: Learnable) -> bool
     ensures { result ≡ is_it production other }
 {
@@ -52,7 +53,56 @@ fn kept_place(options: &Options, list: &[Learnable], production: Learnable) -> O
     None
 }
 
+/// The place of a production among those that are written with codes of one part.
+#[inline(always)]
+fn first_written(room: Room, production: Learnable) -> Option<u32>
+    ensures { result ≡ first_place (is_it production) (written room).firsts }
+{
+    match room {
+        Room::StartTag(_) => None,
+        Room::Content(_) => {
+            if is_it(production, Learnable::Ee(true)) {
+                return Some(0);
+            }
+            None
+        }
+        Room::Fragment => {
+            if is_it(production, Learnable::SeAny) {
+                return Some(0);
+            }
+            if is_it(production, Learnable::Ed) {
+                return Some(1);
+            }
+            None
+        }
+    }
+}
+
+/// The least code of a production that has none of one part in a state that learned so many.
+#[inline(never)]
+fn longer_code(
+    learned: &LearnedList,
+    room: Room,
+    production: Learnable,
+    options: &Options,
+) -> Option<Code>
+    requires new { first_place (is_it production) learned.now ≡ None }
+    requires behind { first_place (is_it production) (written room).firsts ≡ None }
+    ensures { option_map parts_of result ≡ first_code (is_it production)
+        (coded (behind_learned learned.now (left_of options.now (written room)))) }
+{
+    let written = as_written(room);
+    let first = learned.len() + written.firsts.len() as u32;
+    if let Some(second) = kept_place(options, written.singles, production) {
+        return Some(Front::First(first).code(second));
+    }
+    let second = kept_count(options, written.singles);
+    let third = kept_place(options, written.members, production)?;
+    Some(Front::Second(first, second).code(third))
+}
+
 /// The least code of a production in a state that learned these.
+#[inline]
 pub fn least_code(
     learned: &LearnedList,
     room: Room,
@@ -62,18 +112,11 @@ pub fn least_code(
     ensures { option_map parts_of result ≡ first_code (is_it production)
         (coded (behind_learned learned.now (left_of options.now (written room)))) }
 {
-    let written = as_written(room);
     if let Some(first) = learned.code_of(production) {
         return Some(Front::Empty.code(first));
     }
-    if let Some(place) = kept_place(options, written.firsts, production) {
+    if let Some(place) = first_written(room, production) {
         return Some(Front::Empty.code(learned.len() + place));
     }
-    let first = learned.len() + kept_count(options, written.firsts);
-    if let Some(second) = kept_place(options, written.singles, production) {
-        return Some(Front::First(first).code(second));
-    }
-    let second = kept_count(options, written.singles);
-    let third = kept_place(options, written.members, production)?;
-    Some(Front::Second(first, second).code(third))
+    longer_code(learned, room, production, options)
 }

@@ -82,6 +82,7 @@ impl Overlay {
     /// # Errors
     ///
     /// `AllocError` where memory is refused; nothing is then changed.
+    #[inline]
     pub fn grammar(&mut self, name: NameId) -> Result<u32, AllocError>
         requires { length self.old.grammars < 2 ^ 31 }
         ensures number { IfOk result (λ number. number ≡ grammar_number self.old name) }
@@ -96,6 +97,8 @@ impl Overlay {
     }
 
     /// Makes the grammar of a new name and gives its number.
+    #[cold]
+    #[inline(never)]
     fn make(&mut self, name: NameId) -> Result<u32, AllocError>
         requires room { length self.old.grammars < 2 ^ 31 }
         requires absent { grammar_place self.old name ≡ None }
@@ -114,6 +117,7 @@ impl Overlay {
     }
 
     /// How many grammars there are.
+    #[inline]
     pub fn grammars(&self) -> u32
         ensures { result ≡ length self.now.grammars }
     {
@@ -121,6 +125,7 @@ impl Overlay {
     }
 
     /// Whether the number of a state is one that [`Overlay::grammar`] gave.
+    #[inline]
     pub fn is_room(&self, room: Room) -> bool
         ensures { IsTrue result ↔ IsRoom self.now room }
     {
@@ -131,6 +136,7 @@ impl Overlay {
     }
 
     /// How many productions a state learned.
+    #[inline]
     pub fn learned(&self, room: Room) -> u32
         requires { IsRoom self.now room }
         ensures count { result ≡ length (learned_in self.now room) }
@@ -140,6 +146,7 @@ impl Overlay {
     }
 
     /// What a state learned.
+    #[inline]
     fn learned_list(&self, room: Room) -> &LearnedList
         requires { IsRoom self.now room }
         ensures { result.now ≡ learned_in self.now room }
@@ -172,6 +179,7 @@ impl Overlay {
     ///
     /// At the first bit of a part of the code: `Short` where the bits end, `NoCode` where no production has
     /// the part. The place is then unchanged.
+    #[inline(always)]
     pub fn read_code(
         &self,
         input: &mut BitIn<'_>,
@@ -198,6 +206,7 @@ impl Overlay {
     /// The code of a production in a state (EXI 1.0, section 6.2), the least where it was learned more than
     /// once, and none where the state does not have it. The number of the state has to be one that
     /// [`Overlay::grammar`] gave. What was learned is not walked, and no memory is taken.
+    #[inline]
     pub fn code_of(&self, room: Room, production: Learnable, options: &Options) -> Option<Code>
         requires { IsRoom self.now room }
         ensures { option_map parts_of result
@@ -212,6 +221,7 @@ impl Overlay {
     /// # Errors
     ///
     /// `AllocError` where memory is refused. The bits then end with a front of the code, maybe none of it.
+    #[inline]
     pub fn write_code(
         &self,
         out: &mut BitOut,

@@ -1,5 +1,4 @@
-ghost use Rattle.std.specs.Prelude.{◌≡◌, ◌≤◌, ◌+◌, ◌++◌, filter, if◌then◌else◌, length, slice_get};
-ghost use Rattle.std.specs.List.{list_any};
+ghost use Rattle.std.specs.Prelude.{◌≡◌, ◌≤◌, ◌+◌, ◌++◌, filter, length, slice_get};
 ghost use Rattle.exi_bits.specs.Bits.{IsAligned};
 ghost use Rattle.exi_bits.specs.Unsigned.{ReadsSome};
 ghost use Rattle.exi_gram.specs.Codes.{code_at, kept_seconds, longer, member_at, second_at};
@@ -10,7 +9,7 @@ ghost use Rattle.exi_builtin.specs.Learning.{behind_learned};
 
 use crate::learnable::{Learnable, Room};
 use crate::learned_list::LearnedList;
-use crate::written::{Written, as_written, is_kept};
+use crate::written::{Written, as_written, firsts_of, has_longer, is_kept};
 use exi_bits::{BitIn, Fault};
 use exi_gram::{Options, read_part};
 
@@ -67,69 +66,49 @@ fn read_member(
     Ok(kept_at(options, members, third).unwrap())
 }
 
-/// Reads the rest of a code of more parts than one.
+/// Reads the rest of a code of more parts than one. Few codes have more, so its slices stand apart from the
+/// others' way.
 ///
 /// # Errors
 ///
 /// At the first bit of a part: `Short` where the bits end, `NoCode` where no production has it.
-fn read_longer(
-    input: &mut BitIn<'_>,
-    written: &Written,
-    options: &Options,
-) -> Result<Learnable, Fault>
+#[cold]
+#[inline(never)]
+fn read_longer(input: &mut BitIn<'_>, room: Room, options: &Options) -> Result<Learnable, Fault>
     requires aligned { IsAligned (align_of options.now) input.old }
-    requires singles { length written.now.singles.now ≤ 8 }
-    requires members { length written.now.members.now ≤ 8 }
     ensures read { ReadsSome (λ x. x) result input.new (second_at (align_of options.now)
-        (kept_seconds (is_kept options.now)
-        (laid_seconds written.now.singles.now written.now.members.now)) input.old) }
+        (kept_seconds (is_kept options.now) (written room).seconds) input.old) }
     ensures bytes { input.new.bytes ≡ input.old.bytes }
     ensures aligned { IsAligned (align_of options.now) input.new }
 {
-    let second = read_part(input, second_count(options, written), options.align())?;
+    let written = as_written(room);
+    let second = read_part(input, second_count(options, &written), options.align())?;
     match kept_at(options, written.singles, second) {
         Some(production) => Ok(production),
         None => read_member(input, written.members, options),
     }
 }
 
-/// Whether the options leave any of the productions.
-fn any_kept(options: &Options, list: &[Learnable]) -> bool
-    ensures { result ≡ list_any (is_kept options.now) list.now }
-{
-    list.iter().any(|production| is_kept(options, *production))
-}
-
-/// Whether the options leave a production of more parts than one.
-#[tactic(auto, using(crate::proofs::Layouts::any_longer))]
-fn has_longer(options: &Options, written: &Written) -> bool
-    ensures { longer (kept_seconds (is_kept options.now)
-        (laid_seconds written.now.singles.now written.now.members.now))
-        ≡ (if result then 1 else 0) }
-{
-    any_kept(options, written.singles) || any_kept(options, written.members)
-}
-
 /// The production of a code of one part.
-fn first_at(learned: &LearnedList, written: &Written, first: u32) -> Option<Learnable>
-    ensures { result ≡ slice_get (learned.now ++ written.now.firsts.now) first }
+#[inline(always)]
+fn first_at(learned: &LearnedList, room: Room, first: u32) -> Option<Learnable>
+    ensures { result ≡ slice_get (learned.now ++ (written room).firsts) first }
 {
     let count = learned.len();
     if first < count {
         return learned.at(first);
     }
-    written.firsts.get((first - count) as usize).copied()
+    firsts_of(room).get((first - count) as usize).copied()
 }
 
 /// How many values the first part of a code has.
-pub fn first_count(learned: &LearnedList, written: &Written, options: &Options) -> u32
-    requires { length written.now.firsts.now ≤ 8 }
-    ensures { result ≡ length (learned.now ++ written.now.firsts.now)
-        + longer (kept_seconds (is_kept options.now)
-        (laid_seconds written.now.singles.now written.now.members.now)) }
+#[inline(always)]
+pub fn first_count(learned: &LearnedList, room: Room, options: &Options) -> u32
+    ensures { result ≡ length (learned.now ++ (written room).firsts)
+        + longer (kept_seconds (is_kept options.now) (written room).seconds) }
 {
-    let firsts = learned.len() + written.firsts.len() as u32;
-    if has_longer(options, written) {
+    let firsts = learned.len() + firsts_of(room).len() as u32;
+    if has_longer(options, room) {
         return firsts + 1;
     }
     firsts
@@ -140,6 +119,7 @@ pub fn first_count(learned: &LearnedList, written: &Written, options: &Options) 
 /// # Errors
 ///
 /// At the first bit of a part: `Short` where the bits end, `NoCode` where no production has it.
+#[inline(always)]
 pub fn read_behind(
     input: &mut BitIn<'_>,
     learned: &LearnedList,
@@ -152,11 +132,10 @@ pub fn read_behind(
     ensures bytes { input.new.bytes ≡ input.old.bytes }
     ensures aligned { IsAligned (align_of options.now) input.new }
 {
-    let written = as_written(room);
-    let values = first_count(learned, &written, options);
+    let values = first_count(learned, room, options);
     let first = read_part(input, values, options.align())?;
-    match first_at(learned, &written, first) {
+    match first_at(learned, room, first) {
         Some(production) => Ok(production),
-        None => read_longer(input, &written, options),
+        None => read_longer(input, room, options),
     }
 }

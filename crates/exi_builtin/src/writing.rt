@@ -21,6 +21,7 @@ use exi_gram::{Code, Options};
 use std::alloc::AllocError;
 
 /// Writes a part that has so many values.
+#[inline]
 fn write_part(out: &mut BitOut, part: u32, count: u32, align: Align) -> Result<(), AllocError>
     requires below { part < count }
     requires aligned { IsWholeBytes align out.old }
@@ -60,8 +61,10 @@ fn write_parts(
     }
 }
 
-/// Writes a code of a state that learned these productions.
-pub fn write_behind(
+/// Writes any code of a state that learned these productions.
+#[cold]
+#[inline(never)]
+fn write_any(
     out: &mut BitOut,
     learned: &LearnedList,
     room: Room,
@@ -78,9 +81,36 @@ pub fn write_behind(
     write_parts(
         out,
         code,
-        first_count(learned, &written, options),
+        first_count(learned, room, options),
         second_count(options, &written),
         kept_count(options, written.members),
         options.align(),
     )
+}
+
+/// Writes a code of a state that learned these productions. Most have one part, for which no others are
+/// counted.
+#[inline(always)]
+pub fn write_behind(
+    out: &mut BitOut,
+    learned: &LearnedList,
+    room: Room,
+    code: Code,
+    options: &Options,
+) -> Result<(), AllocError>
+    requires code { IsCodeOf (behind_learned learned.now (left_of options.now (written room))) (parts_of code) }
+    requires aligned { IsWholeBytes (align_of options.now) out.old }
+    ensures ok { OnOk result (out.new ≡ out.old ++ code_bits (align_of options.now) (codes (behind_learned learned.now (left_of options.now (written room)))) (parts_of code)) }
+    ensures err { OnErr result (HoldsFront out.old (code_bits (align_of options.now) (codes (behind_learned learned.now (left_of options.now (written room)))) (parts_of code)) out.new) }
+    ensures aligned { IsWholeBytes (align_of options.now) out.new }
+{
+    match code {
+        Code::One(first) => write_part(
+            out,
+            first,
+            first_count(learned, room, options),
+            options.align(),
+        ),
+        _ => write_any(out, learned, room, code, options),
+    }
 }

@@ -1,4 +1,5 @@
-ghost use Rattle.std.specs.Prelude.{◌≡◌, ◌≤◌, length};
+ghost use Rattle.std.specs.Prelude.{◌≡◌, ◌≤◌, if◌then◌else◌, length};
+ghost use Rattle.exi_gram.specs.Codes.{kept_seconds, longer};
 ghost use Rattle.exi_builtin.specs.BuiltIn.{is_kept, written};
 ghost use Rattle.exi_builtin.specs.Layout.{laid_out};
 
@@ -18,6 +19,32 @@ pub struct Written {
     pub members: &'static [Learnable],
 }
 
+/// The productions with codes of one part as they are written. No option switches them off.
+#[inline(always)]
+pub fn firsts_of(room: Room) -> &'static [Learnable]
+    ensures firsts { result.now ≡ (written room).firsts }
+    ensures few { length result.now ≤ 8 }
+{
+    match room {
+        Room::StartTag(_) => &[],
+        Room::Content(_) => &[Learnable::Ee(true)],
+        Room::Fragment => &[Learnable::SeAny, Learnable::Ed],
+    }
+}
+
+/// Whether the options leave a code of more parts than one: that of EE or SE(*) always, where it is written
+/// with two.
+#[inline(always)]
+pub fn has_longer(options: &Options, room: Room) -> bool
+    ensures { longer (kept_seconds (is_kept options.now) (written room).seconds)
+        ≡ (if result then 1 else 0) }
+{
+    match room {
+        Room::StartTag(_) | Room::Content(_) => true,
+        Room::Fragment => is_kept(options, Learnable::Cm) || is_kept(options, Learnable::Pi),
+    }
+}
+
 /// The productions of a state as they are written.
 pub fn as_written(room: Room) -> Written
     ensures written { laid_out result.firsts.now result.singles.now result.members.now ≡ written room }
@@ -27,7 +54,7 @@ pub fn as_written(room: Room) -> Written
 {
     match room {
         Room::StartTag(_) => Written {
-            firsts: &[],
+            firsts: firsts_of(room),
             singles: &[
                 Learnable::Ee(false),
                 Learnable::AtAny,
@@ -40,12 +67,12 @@ pub fn as_written(room: Room) -> Written
             members: &[Learnable::Cm, Learnable::Pi],
         },
         Room::Content(_) => Written {
-            firsts: &[Learnable::Ee(true)],
+            firsts: firsts_of(room),
             singles: &[Learnable::SeAny, Learnable::Ch(false), Learnable::Er],
             members: &[Learnable::Cm, Learnable::Pi],
         },
         Room::Fragment => Written {
-            firsts: &[Learnable::SeAny, Learnable::Ed],
+            firsts: firsts_of(room),
             singles: &[Learnable::Cm, Learnable::Pi],
             members: &[],
         },
@@ -53,6 +80,7 @@ pub fn as_written(room: Room) -> Written
 }
 
 /// Whether the options leave a production (EXI 1.0, section 8.3).
+#[inline]
 pub fn is_kept(options: &Options, production: Learnable) -> bool
     ensures { result ≡ is_kept options.now production }
 {

@@ -175,6 +175,8 @@ impl OwnPlaces {
     }
 
     /// Keeps no place among all for a name's place, where it is the first for which one is kept.
+    #[cold]
+    #[inline(never)]
     pub fn forget(&mut self, name: NameId, local: u32)
         ensures given { givens self.new ≡ givens self.old }
         ensures others { IsForgotten name local self.old self.new }

@@ -1,3 +1,4 @@
 pub mod Sets
 mod Runs
+mod WordTests
 pub mod Letters

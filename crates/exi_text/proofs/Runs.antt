@@ -19,7 +19,7 @@ use Rattle.exi_bits.proofs.Repeats.{times_done}
 use Rattle.exi_bits.proofs.Spelled.{guard_some, length-rest}
 use Rattle.exi_items.proofs.Items.{bind_ok, given, ok_is}
 use Rattle.exi_names.specs.Characters.{between, is_xml_char}
-use Rattle.exi_text.specs.Literals.{chars_bits, code_at, is_plain}
+use Rattle.exi_text.specs.Literals.{all_xml, chars_bits, code_at, is_plain}
 use Rattle.exi_text.proofs.Sets.{at_most, either}
 
 -- ---- what is plain
@@ -96,6 +96,16 @@ all_ascii n os len plain i = elim (cases_lt i n) [
   | inr ge ↦ let e : get_or os i 0 ≡ 0 = get_or_past os i 0 (omega arith) in rw e (omega arith)
 ]
 
+-- they are XML characters, each by itself
+each_xml : (os : List ℕ) → AllPlain os → all_xml os ≡ true
+unfolding AllPlain
+each_xml [] plain = refl
+each_xml (c ∷ cs) plain = rw (plain_xml c (plain 0 (omega arith)), each_xml cs (λ i lt. plain (suc i) (omega (arith, lt)))) refl
+
+pub plain_text : (os : List ℕ) → ((i : ℕ) → i < length os → is_plain (get_or os i 0) ≡ true) → all_xml (chars os) ≡ true
+unfolding AllPlain
+plain_text os plain = ap all_xml (chars-IsAscii os (all_ascii (length os) os refl plain)) ∙ each_xml os plain
+
 pub word_begins : (n v : ℕ) (os : List ℕ) (s t : Spot) → n ≤ 8 → number_at 64 align.Bits s ≡ Some (v, t) → os ≡ to_be_bytes w64 v → ((i : ℕ) → i < n → is_plain (get_or os i 0) ≡ true) → Begins n os s
 word_begins n v os s t le e spelled plain =
     let w = word_taken s v t e in
@@ -158,6 +168,15 @@ pub none_read : (s : Spot) → times code_at 0 s ≡ Ok (octets_of 0 (rest s), s
 unfolding octets_of times
 none_read s = refl
 
+-- back at the start, nothing is read
+pub returned_read : (s t u : Spot) (start : ℕ) → start ≡ s.place → t ≡ moved s 64 → u ≡ at_bit t start → times code_at 0 s ≡ Ok (octets_of 0 (rest s), u)
+unfolding octets_of times
+returned_read s t u start p e f = ap (λ (w : Spot). Ok ([], w)) (sym (f ∙ ap (λ (w : Spot). at_bit w start) e ∙ ap (λ (k : ℕ). at_bit s k) p))
+
+-- a whole word was read
+pub whole_read : (s t : Spot) → times code_at 8 s ≡ Ok (octets_of 8 (rest s), moved s (8 * 8)) → t ≡ moved s 64 → times code_at 8 s ≡ Ok (octets_of 8 (rest s), t)
+whole_read s t read e = read ∙ ap (λ (w : Spot). Ok (octets_of 8 (rest s), w)) (sym e)
+
 -- ---- runs of characters
 cons_front : {X : Type 0} (x : X) (xs : List X) (r : Result (List X × Spot) Fault) → (with_front xs r >>= λ others. Ok (x ∷ others.0, others.1)) ≡ with_front (x ∷ xs) r
 cons_front x xs (Ok more) = refl
@@ -205,6 +224,30 @@ pub run_moves : {X : Type 0} (read : Reader X) (front text xs : List X) (left n 
     → with_front front (times read left s) ≡ total → with_front text (times read (left - m) t) ≡ total
 run_moves read front text xs left n m s t total e same le h so_far =
     ap (λ (k : ℕ). with_front text (times read (left - k) t)) same ∙ ap (λ f. with_front f (times read (left - n) t)) e ∙ run_goes_on read front xs left n s t total le h so_far
+
+-- so many as are left
+module _ {X : Type 0} (read : Reader X) (front : List X) (most left : ℕ) where
+  pub left_moved : (n : ℕ) (s : Spot) (total : Result (List X × Spot) Fault) → left ≤ most → with_front front (times read (left - n) s) ≡ total → with_front front (times read (most - (most - (left - n))) s) ≡ total
+  left_moved n s total le so_far = let e : most - (most - (left - n)) ≡ left - n = omega arith in ap (λ (k : ℕ). with_front front (times read k s)) e ∙ so_far
+
+  pub left_same : (s : Spot) (total : Result (List X × Spot) Fault) → left ≤ most → with_front front (times read left s) ≡ total → with_front front (times read (most - (most - left)) s) ≡ total
+  left_same s total le so_far = let e : most - (most - left) ≡ left = omega arith in ap (λ (k : ℕ). with_front front (times read k s)) e ∙ so_far
+
+  pub left_again : (n : ℕ) (s : Spot) (total : Result (List X × Spot) Fault) → left ≤ most → n ≡ 0 → with_front front (times read (left - n) s) ≡ total → with_front front (times read (most - (most - left)) s) ≡ total
+  left_again n s total le none so_far = let e : most - (most - left) ≡ left - n = omega arith in ap (λ (k : ℕ). with_front front (times read k s)) e ∙ so_far
+
+-- before the first
+pub nothing_before : {X : Type 0} (r : Result (List X × Spot) Fault) → with_front [] r ≡ r
+nothing_before (Ok more) = refl
+nothing_before (Err f) = refl
+
+pub first_run : (text old : List ℕ) (room count n m : ℕ) (s t : Spot) → room ≡ count → m ≡ n → old ≡ [] → with_front text (times code_at (room - n) t) ≡ with_front old (times code_at room s) → with_front text (times code_at (count - m) t) ≡ times code_at count s
+first_run text old room count n m s t all same none run =
+    let e : count - m ≡ room - n = omega arith in
+    ap (λ (k : ℕ). with_front text (times code_at k t)) e ∙ run ∙ ap (λ (o : List ℕ). with_front o (times code_at room s)) none ∙ nothing_before (times code_at room s) ∙ ap (λ (k : ℕ). times code_at k s) all
+
+pub no_run : (old : List ℕ) (count : ℕ) (s : Spot) → old ≡ [] → with_front old (times code_at count s) ≡ times code_at count s
+no_run old count s none = ap (λ (o : List ℕ). with_front o (times code_at count s)) none ∙ nothing_before (times code_at count s)
 
 -- ---- what is written
 ascii_octet : (c : ℕ) → c < 128 → shortest c ≡ c ∷ []

@@ -28,6 +28,7 @@ pub mod laws;
 mod plain;
 mod read;
 mod set;
+mod word;
 mod write;
 
 pub use read::read_chars;

@@ -1,9 +1,11 @@
 ghost use Rattle.std.specs.Prelude.{◌≡◌, ℕ, ◌++◌, ◌%◌, ◌<◌, ◌≤◌, IfOk, IsTrue, true, not, OnOk, length, get_or, position, take};
+ghost use Rattle.std.specs.Int.{to_be_bytes, w64};
 ghost use Rattle.std.specs.Str.{IsAscii};
 ghost use Rattle.exi_bits.specs.Bits.{octets_of, rest};
 ghost use Rattle.exi_bits.specs.Repeat.{times};
 ghost use Rattle.exi_text.specs.Literals.{code_at, is_plain};
 
+use crate::word::{filled, is_plain_word};
 use exi_bits::{Align, BitIn};
 use exi_names::Txt;
 use std::alloc::AllocError;
@@ -23,7 +25,7 @@ fn other_place(octets: &[u8]) -> Option<usize>
 }
 
 /// Whether all octets are surely plain, looked at many at once: none of them ends the search.
-fn all_plain(octets: &[u8]) -> bool
+pub fn all_plain(octets: &[u8]) -> bool
     ensures { IsTrue result → (i : ℕ) → i < length octets.now → is_plain (get_or octets.now i 0) ≡ true }
 {
     let mut all = true;
@@ -33,14 +35,15 @@ fn all_plain(octets: &[u8]) -> bool
     all
 }
 
-/// How many plain octets there are before any other, at most so many.
-fn plain_front(octets: &[u8], most: usize) -> usize
+/// How many plain octets there are in a word before any other, at most so many.
+fn plain_front(word: u64, octets: &[u8; 8], most: usize) -> usize
+    requires octets { octets.now ≡ to_be_bytes w64 word }
     ensures few { result ≤ most }
     ensures within { result ≤ length octets.now }
     ensures plain { (i : ℕ) → i < result → is_plain (get_or octets.now i 0) ≡ true }
 {
-    if octets.len() <= most && all_plain(octets) {
-        return octets.len();
+    if most == 8 && is_plain_word(word) {
+        return 8;
     }
     match other_place(octets) {
         Some(place) => place.min(most),
@@ -74,9 +77,59 @@ pub fn add_plain(input: &mut BitIn<'_>, text: &mut Txt, most: u128) -> Result<u6
         return Ok(0);
     };
     let octets = word.to_be_bytes();
-    let run = plain_front(&octets, most.min(8) as usize);
+    let run = plain_front(word, &octets, most.min(8) as usize);
     let behind = input.at();
     input.go_to_bit(behind - (8 - run as u64) * 8);
     push_front(text, &octets, run)?;
     Ok(run as u64)
+}
+
+/// Adds the eight characters that stand at the place where each is surely plain, and answers how many: eight
+/// or none. After an `Err` the place is anything.
+#[inline(always)]
+pub fn add_word(input: &mut BitIn<'_>, text: &mut Txt) -> Result<u64, AllocError>
+    ensures few { IfOk result (λ n. n ≤ 8) }
+    ensures text { IfOk result (λ n. text.new ≡ text.old ++ octets_of n (rest input.old)) }
+    ensures read { IfOk result (λ n. times code_at n input.old ≡ Ok (octets_of n (rest input.old), input.new)) }
+    ensures bytes { input.new.bytes ≡ input.old.bytes }
+    ensures phase { input.new.place % 8 ≡ input.old.place % 8 }
+{
+    let start = input.at();
+    let Some(word) = input.take(64, Align::Bits) else {
+        return Ok(0);
+    };
+    let octets = word.to_be_bytes();
+    if !is_plain_word(word) {
+        input.go_to_bit(start);
+        return Ok(0);
+    }
+    text.push_ascii(&octets)?;
+    Ok(8)
+}
+
+/// Adds so many characters that stand at the place, fewer than eight, where each is surely plain, and answers
+/// how many: so many or none. After an `Err` the place is anything.
+#[inline(always)]
+pub fn add_few(input: &mut BitIn<'_>, text: &mut Txt, most: u32) -> Result<u64, AllocError>
+    requires some { 1 ≤ most }
+    requires few { most < 8 }
+    ensures few { IfOk result (λ n. n ≤ most) }
+    ensures text { IfOk result (λ n. text.new ≡ text.old ++ octets_of n (rest input.old)) }
+    ensures read { IfOk result (λ n. times code_at n input.old ≡ Ok (octets_of n (rest input.old), input.new)) }
+    ensures bytes { input.new.bytes ≡ input.old.bytes }
+    ensures phase { input.new.place % 8 ≡ input.old.place % 8 }
+{
+    let start = input.at();
+    let Some(word) = input.take(64, Align::Bits) else {
+        return Ok(0);
+    };
+    let octets = word.to_be_bytes();
+    if !is_plain_word(filled(word, most)) {
+        input.go_to_bit(start);
+        return Ok(0);
+    }
+    let behind = input.at();
+    input.go_to_bit(behind - (8 - u64::from(most)) * 8);
+    text.push_ascii(&octets[..most as usize])?;
+    Ok(u64::from(most))
 }

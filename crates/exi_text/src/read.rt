@@ -5,13 +5,13 @@ ghost use Rattle.exi_bits.specs.Repeat.{times, with_front};
 ghost use Rattle.exi_items.specs.Charges.{Charges, after_text, meter_after};
 ghost use Rattle.exi_text.specs.Literals.{code_at, in_set_at, chars_at};
 
-use crate::plain::add_plain;
+use crate::plain::{add_few, add_plain, add_word};
 use crate::set::Set;
 use exi_bits::{Align, BitIn, Fault, Kind, Stop};
 use exi_items::charge_text;
 use exi_meter::Meter;
 use exi_names::{Alphabet, Txt, xml_char};
-use std::alloc::Global;
+use std::alloc::{AllocError, Global};
 
 /// A character by its code point, an Unsigned Integer.
 ///
@@ -87,6 +87,49 @@ fn add_codes(input: &mut BitIn<'_>, text: &mut Txt, most: u128) -> Result<u128, 
     Ok(most)
 }
 
+/// Adds characters by their code points, of which some may be more than an octet. After an `Err` the place is
+/// anything.
+#[cold]
+#[inline(never)]
+fn add_others(input: &mut BitIn<'_>, text: &mut Txt, count: u128) -> Result<(), Stop>
+    ensures read { Stops (λ _. text.new) result input.new (with_front text.old (times code_at count input.old)) }
+    ensures bytes { input.new.bytes ≡ input.old.bytes }
+    ensures phase { input.new.place % 8 ≡ input.old.place % 8 }
+{
+    let mut left = count;
+    while left > 0 {
+        let run = add_plain(input, text, left)?;
+        left -= u128::from(run);
+        if run < 8 && left > 0 {
+            left -= add_codes(input, text, left)?;
+        }
+    }
+    Ok(())
+}
+
+/// Adds characters of an octet each from the place on, and answers how many: at most so many. After an `Err`
+/// the place is anything.
+#[inline(always)]
+fn add_run(input: &mut BitIn<'_>, text: &mut Txt, most: u64) -> Result<u64, AllocError>
+    ensures few { IfOk result (λ n. n ≤ most) }
+    ensures read { IfOk result (λ n. with_front text.new (times code_at (most - n) input.new) ≡ with_front text.old (times code_at most input.old)) }
+    ensures bytes { input.new.bytes ≡ input.old.bytes }
+    ensures phase { input.new.place % 8 ≡ input.old.place % 8 }
+{
+    let mut left = most;
+    while left >= 8 {
+        let run = add_word(input, text)?;
+        if run == 0 {
+            return Ok(most - left);
+        }
+        left -= run;
+    }
+    if left > 0 {
+        left -= add_few(input, text, left as u32)?;
+    }
+    Ok(most - left)
+}
+
 /// So many characters by their code points. After an `Err` the place is anything.
 fn codes(alloc: Global, input: &mut BitIn<'_>, count: u128) -> Result<Txt, Stop>
     ensures read { Stops (λ t. t) result input.new (times code_at count input.old) }
@@ -94,14 +137,14 @@ fn codes(alloc: Global, input: &mut BitIn<'_>, count: u128) -> Result<Txt, Stop>
     ensures phase { input.new.place % 8 ≡ input.old.place % 8 }
 {
     let mut text = Txt::new(alloc);
-    text.reserve(room_for(input, count, 8))?;
+    let room = room_for(input, count, 8);
+    text.reserve(room)?;
     let mut left = count;
-    while left > 0 {
-        let run = add_plain(input, &mut text, left)?;
-        left -= u128::from(run);
-        if run < 8 && left > 0 {
-            left -= add_codes(input, &mut text, left)?;
-        }
+    if u128::from(room as u64) == count {
+        left -= u128::from(add_run(input, &mut text, room as u64)?);
+    }
+    if left > 0 {
+        add_others(input, &mut text, left)?;
     }
     Ok(text)
 }

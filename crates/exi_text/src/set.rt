@@ -3,6 +3,7 @@ ghost use Rattle.std.specs.Str.{chars};
 ghost use Rattle.exi_names.specs.Alphabets.{place_of};
 ghost use Rattle.exi_text.specs.Literals.{all_xml, width_in};
 
+use crate::plain::all_plain;
 use exi_bits::bits_for;
 use exi_names::{Alphabet, Letters, Txt, is_xml};
 use std::alloc::{AllocError, Global};
@@ -78,10 +79,13 @@ pub fn is_writable(text: &Txt) -> bool
     is_all_xml(text.as_str())
 }
 
-/// Whether each character is an XML character.
+/// Whether each character is an XML character. Where all are ASCII and no controls, their octets tell it at once.
 fn is_all_xml(text: &str) -> bool
     ensures { result ≡ all_xml (chars text.now) }
 {
+    if all_plain(text.as_bytes()) {
+        return true;
+    }
     for c in text.chars() {
         if !is_xml(c) {
             return false;

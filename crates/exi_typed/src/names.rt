@@ -28,6 +28,7 @@ pub struct NameAt {
 }
 
 /// The name that stands at these places of the tables.
+#[inline]
 pub fn name_ref<T: Tables>(tables: &T, name: NameAt) -> NameRef<'_>
     requires { IsNameAt (T.held tables.now) name }
     ensures { named result ≡ (name_in (T.held tables.now) name).name }
@@ -50,6 +51,8 @@ pub fn name_ref<T: Tables>(tables: &T, name: NameAt) -> NameRef<'_>
 ///
 /// - `Short` and `BadPlace` at the prefix's place.
 /// - `TextLimit` behind it, where the prefix would pass the limit.
+#[inline]
+#[tactic(auto, unfolding(crate::specs::Strings::prefix_at))]
 pub fn read_prefix<T: Tables>(
     input: &mut BitIn<'_>,
     keep: bool,
@@ -65,6 +68,9 @@ pub fn read_prefix<T: Tables>(
     ensures bytes { input.new.bytes ≡ input.old.bytes }
     ensures aligned { IsAligned align input.new }
 {
+    if !keep {
+        return Ok(None);
+    }
     read_prefix_of(input, keep, align, &NameRead::under(uri), tables, meter)
 }
 

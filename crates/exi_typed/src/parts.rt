@@ -113,6 +113,7 @@ impl NameRead {
 
 /// Reads the prefix of a name of a URI, where prefixes are kept (EXI 1.0, section 7.1.7). After an `Err` the
 /// place is anything.
+#[inline(never)]
 #[tactic(auto, unfolding(crate::specs::Strings::hit_at, crate::specs::Strings::charged_at))]
 pub fn read_prefix_of<T: Tables>(
     input: &mut BitIn<'_>,

@@ -1,6 +1,6 @@
-use Rattle.std.proofs.Common.{◌∙◌}
+use Rattle.std.proofs.Common.{arith}
 use Rattle.exi_bits.proofs.WordLaws.{back_word_is}
 use Rattle.exi_bits.proofs.words.word_back_at.Goals as goal
 
 pub returns : goal.returns
-returns c = c.from_le_bytes.ensures ∙ back_word_is c.args.bytes.now c.args.first c.requires.within
+returns c = omega (arith, back_word_is c.args.bytes.now c.args.first c.requires.within, c.from.ensures, c.from-2.ensures, c.from-3.ensures, c.from-4.ensures, c.from-5.ensures, c.from-6.ensures, c.from-7.ensures, c.from-8.ensures)

@@ -1,11 +1,12 @@
-use Rattle.std.proofs.Common.{◌≡◌, ◌%◌}
+use Rattle.std.proofs.Common.{◌≡◌, ◌≤◌, ◌%◌}
 use Rattle.exi_bits.specs.Repeat.{times, with_front}
 use Rattle.exi_text.specs.Literals.{code_at}
-use Rattle.exi_text.proofs.read.codes.Given as goal
+use Rattle.exi_text.proofs.read.add_run.Given as goal
 
 abbrev pub invariant-loop-left : goal.invariant-loop-left
 invariant-loop-left l = record {
-  so_far : with_front l.text (times code_at l.left l.input) ≡ times code_at l.count l.fn.input;
+  so_far : with_front l.text (times code_at l.left l.input) ≡ with_front l.fn.text (times code_at l.most l.fn.input);
+  within : l.left ≤ l.most;
   bytes : l.input.bytes ≡ l.fn.input.bytes;
   phase : l.input.place % 8 ≡ l.fn.input.place % 8;
 }
