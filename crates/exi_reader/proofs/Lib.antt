@@ -17,6 +17,7 @@ mod InStep
 mod Joining
 mod KeptCodes
 mod Learns
+mod Lasts
 mod LookUps
 mod Metering
 mod Names

@@ -265,6 +265,15 @@ pub stays_on : (x : Option Happening) (s new : Standing) (w : Bool) (r : Reading
 stays_on x s new true r e g at h k a b = true_no_false (going s true r e g)
 stays_on x s new false r e g at h k a b = reached_same (view s false) (view new false) x (subst IsReached (sym e) at) (turn_went s.setting s.bytes s.config new.config x h k) a b (λ k. true_no_false (sym k))
 
+-- the end of a reader that stands at no fragment is that of its configuration
+pub closed_in : (s : Standing) (w : Bool) (r : Reading) (end : End) → view s w ≡ r → r.waits ≡ false → end ≡ closing s.config.start s.bytes s.config → end ≡ closing r.config.start r.bytes r.config
+closed_in s true r end e h is = true_no_false (going s true r e h)
+closed_in s false r end e h is = is ∙ ap (λ (z : Reading). closing z.config.start z.bytes z.config) e
+
+pub failed_in : (f : Fault) (s : Standing) (w : Bool) (r : Reading) (end : End) → view s w ≡ r → r.waits ≡ false → end ≡ ending.Fault f s.config.meter.used s.config.root → end ≡ ending.Fault f r.config.meter.used r.config.root
+failed_in f s true r end e h is = true_no_false (going s true r e h)
+failed_in f s false r end e h is = is ∙ ap (λ (z : Reading). ending.Fault f z.config.meter.used z.config.root) e
+
 fragment_name : (s : Standing) → IsReached (view s true) → IsName s.config.tables (innermost s.config.elements)
 fragment_name s at =
     let sound = reached_are_sound (record { setting = s.setting; bytes = s.bytes; body = at.body }) at.start at.limits at.turns (put_aside s.setting s.config) at.book at.names at.leads in
@@ -305,6 +314,12 @@ module _ {T : Type 0} (took : T → List Happening → T → Type 0) (broke : T 
   turns_failed f end s new false r q e g h root is =
       subst (λ (z : Reading). Turns took broke (Ok (told.Ended end)) z q before after) e
       (None, turn_failed s.setting s.bytes s.config (record { fault = f; meter = new.config.meter }) h.0 ∙ ap (λ (z : End). ends None z) (sym (is ∙ ap (λ (o : Option QName). ending.Fault f new.config.meter.used o) root)), h.1)
+
+  pub turns_closed : (end : End) (s r q : Reading) → end ≡ closing r.config.start r.bytes r.config → Turns took broke (Ok (told.Ended (closing r.config.start r.bytes r.config))) s r before after → Turns took broke (Ok (told.Ended end)) s q before after
+  turns_closed end s r q is h = subst (λ (z : End). Turns took broke (Ok (told.Ended z)) s q before after) (sym is) h
+
+  pub turns_faulted : (f : Fault) (end : End) (s r q : Reading) → end ≡ ending.Fault f r.config.meter.used r.config.root → Turns took broke (Ok (told.Ended (ending.Fault f r.config.meter.used r.config.root))) s r before after → Turns took broke (Ok (told.Ended end)) s q before after
+  turns_faulted f end s r q is h = subst (λ (z : End). Turns took broke (Ok (told.Ended z)) s q before after) (sym is) h
 
   memory : (s new : Standing) (q : Reading) → HandsAny took broke (Err halt.Memory) new (step_of s) before after → Turns took broke (Err stop.Memory) (view s false) q before after
   memory s new q (inl t) = inl t

@@ -8,14 +8,17 @@ use Rattle.exi_names.specs.Events as event
 use Rattle.exi_names.specs.StartTables.{IsStart}
 use Rattle.exi_reader.specs.Configurations.{Config, IsSetting, Setting, first_config}
 use Rattle.exi_reader.specs.Handing.{listed}
-use Rattle.exi_reader.specs.Runs.{Job, IsSequence, Leads, Turn, ends, goes, turn}
+use Rattle.exi_reader.specs.Runs.{Job, IsSequence, Leads, Turn, closing, ends, goes, turn}
 use Rattle.exi_reader.specs.declared.end.End.{End}
+use Rattle.exi_reader.specs.declared.end.End.TheVariants as ending
 use Rattle.exi_reader.specs.Splices.{AtFragment, ended, on, spliced, wrong_root}
 use Rattle.exi_reader.specs.declared.job.Job.{Job as Told}
 use Rattle.exi_reader.specs.declared.splice.Spliced.{Spliced as Joined}
 use Rattle.exi_reader.specs.declared.splice.Spliced.TheVariants as joined
 use Rattle.exi_reader.specs.declared.start.Start.{Start}
 use Rattle.exi_reader.specs.declared.start.Start.TheVariants as start
+use Rattle.exi_reader.specs.declared.turn.Came.{Came}
+use Rattle.exi_reader.specs.declared.turn.Came.TheVariants as came
 use Rattle.exi_reader.specs.declared.turn.ReadStop.{ReadStop}
 use Rattle.exi_reader.specs.declared.turn.ReadStop.TheVariants as stop
 use Rattle.exi_reader.specs.declared.turn.Turn.{Turn as Made}
@@ -89,6 +92,25 @@ StandsAt (Ok told.Went) r = Unit {0}
 StandsAt (Ok (told.AtFragment byte)) r = r.config.place ≡ 8 * byte
 StandsAt (Ok (told.Ended end)) r = Unit {0}
 StandsAt (Err e) r = Unit {0}
+
+-- ---- a turn whose end is still to be told: what it stands for
+abbrev pub made_of : Came → Reading → Made
+made_of came.On r = told.Went
+made_of (came.AtFragment byte) r = told.AtFragment byte
+made_of came.Over r = told.Ended (closing r.config.start r.bytes r.config)
+made_of (came.Failed fault) r = told.Ended (ending.Fault fault r.config.meter.used r.config.root)
+
+abbrev pub come_to : Result Came ReadStop → Reading → Result Made ReadStop
+come_to (Ok c) r = Ok (made_of c r)
+come_to (Err e) r = Err e
+
+-- a turn that ends stands at no fragment
+abbrev pub StandsAtNone : Result Came ReadStop → Reading → Type 0
+StandsAtNone (Ok came.On) r = Unit {0}
+StandsAtNone (Ok (came.AtFragment byte)) r = Unit {0}
+StandsAtNone (Ok came.Over) r = r.waits ≡ false
+StandsAtNone (Ok (came.Failed fault)) r = r.waits ≡ false
+StandsAtNone (Err e) r = Unit {0}
 
 -- ---- a splice
 -- what came of the fragment at which a reader stands, where that was read by itself, under any limits

@@ -22,6 +22,7 @@ pub enum Alone {
 
 impl Alone {
     /// Where the state outside of all elements is.
+    #[inline(always)]
     pub fn of(outer: Outer) -> Alone
         ensures { alone_of result ≡ outer_alone outer }
     {
@@ -35,6 +36,7 @@ impl Alone {
     }
 
     /// Whether SD, SE and ED are events there. Those of such a fragment are its own.
+    #[inline(always)]
     pub fn is_event(self) -> bool
         ensures { result ≡ is_event (alone_of self) }
     {
@@ -45,6 +47,7 @@ impl Alone {
     }
 
     /// Refuses what is no element where the element of the fragment is to come.
+    #[inline(always)]
     pub fn refuse(self, bit: u64) -> Result<(), Fault>
         ensures { MatchResult result
             (λ _. no_element (alone_of self) ≡ None)

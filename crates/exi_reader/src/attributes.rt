@@ -103,6 +103,7 @@ pub fn empty_by(elements: &mut Elements, value: &Val)
 impl<'a, T: Tables + Drop> Stepper<'a, T> {
     /// The value of an attribute that names the type by which its element goes on, whose name is read.
     #[tactic(auto, unfolding(crate::specs::Handing::value_made))]
+    #[inline(never)]
     fn type_value<E: EventOut>(
         &mut self,
         bit: u64,
@@ -149,6 +150,7 @@ impl<'a, T: Tables + Drop> Stepper<'a, T> {
 
     /// The value of `xsi:nil`, whose name is read.
     #[tactic(auto, unfolding(crate::specs::Handing::value_made, crate::specs::Contents::attribute_value_at))]
+    #[inline(never)]
     fn nil_value<E: EventOut>(
         &mut self,
         bit: u64,
@@ -188,6 +190,7 @@ impl<'a, T: Tables + Drop> Stepper<'a, T> {
 
     /// The value of an attribute that is a string, whose name is read.
     #[tactic(auto, unfolding(crate::specs::Handing::valued_made, exi_values::specs::Valued::valued_at, exi_typed::specs::Items::item_at))]
+    #[inline(always)]
     fn string_value<E: EventOut>(
         &mut self,
         bit: u64,
@@ -233,6 +236,7 @@ impl<'a, T: Tables + Drop> Stepper<'a, T> {
 
     /// The value of an attribute of a datatype, whose name is read.
     #[tactic(auto, unfolding(crate::specs::Handing::valued_made))]
+    #[inline(always)]
     fn typed_attribute<E: EventOut>(
         &mut self,
         bit: u64,
@@ -271,6 +275,7 @@ impl<'a, T: Tables + Drop> Stepper<'a, T> {
     }
 
     /// The value of an attribute of a datatype, or a string where there is none, whose name is read.
+    #[inline(never)]
     fn declared_value<E: EventOut>(
         &mut self,
         bit: u64,
@@ -300,6 +305,7 @@ impl<'a, T: Tables + Drop> Stepper<'a, T> {
 
     /// The value of an attribute whose name is read, in a grammar of a schema: `xsi:type` and `xsi:nil` have theirs, a
     /// global attribute has its datatype, and any other a string.
+    #[inline(never)]
     #[tactic(auto, unfolding(crate::specs::Handing::value_made, crate::specs::Handing::valued_made, crate::specs::Contents::attribute_value_at))]
     fn value_by_name<E: EventOut>(
         &mut self,
@@ -335,6 +341,7 @@ impl<'a, T: Tables + Drop> Stepper<'a, T> {
 
     /// AT.
     #[tactic(auto, unfolding(crate::specs::Handing::making, crate::specs::Handing::value_made, crate::specs::Handing::valued_made, crate::specs::Contents::attribute_value_at, crate::specs::Contents::both_at))]
+    #[inline(always)]
     pub fn attribute<E: EventOut>(
         &mut self,
         bit: u64,

@@ -21,6 +21,7 @@ pub struct Charges {
 
 impl Charges {
     /// Those of what is read there, by whether the event before was an SE.
+    #[inline(always)]
     pub fn of(content: Content, alone: Alone, after_start: bool) -> Charges
         ensures { result ≡ charges_on (alone_of alone) after_start (terminal_in content None) }
     {
@@ -62,6 +63,7 @@ impl Charges {
 
     /// Charges the meter. The first bit of the event is that of each fault.
     #[tactic(auto, unfolding(crate::specs::Handing::charged_at))]
+    #[inline(always)]
     pub fn pay(self, meter: &mut Meter, bit: u64) -> Result<(), Fault>
         ensures { Pays result meter.new (charged_at bit self meter.old) }
     {

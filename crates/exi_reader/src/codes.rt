@@ -14,6 +14,7 @@ use exi_gram::read_code;
 use exi_tables::Tables;
 
 /// SD of a fragment, whose code takes no bits.
+#[inline(always)]
 fn fragment_start<'a>() -> Rule<'a>
     ensures { rule_in result ≡ record { on = start_document; to = 1; inner = None } }
 {
@@ -26,6 +27,7 @@ fn fragment_start<'a>() -> Rule<'a>
 }
 
 /// The place of the state that a production of a built-in grammar leads to.
+#[inline(always)]
 pub fn state_behind(room: Room, production: Learnable) -> u32
     ensures { result ≡ state_behind room production }
 {
@@ -37,6 +39,7 @@ pub fn state_behind(room: Room, production: Learnable) -> u32
 
 impl<'a, T: Tables + Drop> Stepper<'a, T> {
     /// The production whose code comes next, among those of a state of the built-in grammars.
+    #[inline(always)]
     fn built_in_rule(&mut self, room: Room) -> Result<Rule<'a>, Fault>
         requires room { IsRoom self.old.config.learned room }
         ensures picks { Picks result self.old self.new (built_in self.old.setting self.old.config.learned room) }
@@ -50,6 +53,7 @@ impl<'a, T: Tables + Drop> Stepper<'a, T> {
     }
 
     /// The production whose code comes next, among those of a state of the book.
+    #[inline(always)]
     fn book_rule(&mut self, grammar: u32, state: u32) -> Result<Rule<'a>, Fault>
         requires exists { IsStateOf self.old.setting grammar state }
         ensures picks { Picks result self.old self.new (in_book self.old.setting grammar state) }
@@ -76,6 +80,8 @@ impl<'a, T: Tables + Drop> Stepper<'a, T> {
     }
 
     /// The production whose code comes next, outside of all elements.
+    #[cold]
+    #[inline(never)]
     fn outer_rule(&mut self) -> Result<Rule<'a>, Fault>
         requires there { IsThere self.old.setting self.old.config.outer }
         ensures picks { Picks result self.old self.new (outer_rules self.old.setting self.old.config.learned self.old.config.outer) }
@@ -93,6 +99,7 @@ impl<'a, T: Tables + Drop> Stepper<'a, T> {
     }
 
     /// The production whose code comes next.
+    #[inline(always)]
     pub fn rule(&mut self) -> Result<Rule<'a>, Fault>
         requires outer { IsThere self.old.setting self.old.config.outer }
         requires elements { AreThere self.old.setting self.old.config.learned self.old.config.elements }

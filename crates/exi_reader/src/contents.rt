@@ -49,6 +49,7 @@ use exi_typed::{StringRead, declaration_texts, name_ref, read_declaration, read_
 impl<'a, T: Tables + Drop> Stepper<'a, T> {
     /// SD.
     #[tactic(auto, unfolding(crate::specs::Handing::making))]
+    #[inline(never)]
     pub fn start_document<E: EventOut>(
         &mut self,
         bit: u64,
@@ -77,6 +78,7 @@ impl<'a, T: Tables + Drop> Stepper<'a, T> {
 
     /// ED.
     #[tactic(auto, unfolding(crate::specs::Handing::making))]
+    #[inline(never)]
     pub fn end_document<E: EventOut>(
         &mut self,
         bit: u64,
@@ -117,6 +119,7 @@ impl<'a, T: Tables + Drop> Stepper<'a, T> {
 
     /// SE.
     #[tactic(auto, unfolding(crate::specs::Handing::making))]
+    #[inline(always)]
     pub fn element<E: EventOut>(
         &mut self,
         bit: u64,
@@ -156,7 +159,7 @@ impl<'a, T: Tables + Drop> Stepper<'a, T> {
         open(&mut self.overlay, &mut self.elements, name.id, inner)?;
         if alone.is_event() {
             self.after_start = true;
-            out.see(&EventRef::Se(name_ref(&self.tables, name)))?;
+            out.see(&EventRef::Se(told))?;
             return Ok(None);
         }
         self.after_start = false;
@@ -165,6 +168,7 @@ impl<'a, T: Tables + Drop> Stepper<'a, T> {
 
     /// CH, a string.
     #[tactic(auto, unfolding(crate::specs::Handing::making, exi_values::specs::Valued::valued_at, exi_typed::specs::Items::item_at))]
+    #[inline(always)]
     pub fn characters<E: EventOut>(
         &mut self,
         bit: u64,
@@ -211,6 +215,7 @@ impl<'a, T: Tables + Drop> Stepper<'a, T> {
 
     /// CH, of a datatype.
     #[tactic(auto, unfolding(crate::specs::Handing::making))]
+    #[inline(never)]
     pub fn typed_characters<E: EventOut>(
         &mut self,
         bit: u64,
@@ -255,6 +260,7 @@ impl<'a, T: Tables + Drop> Stepper<'a, T> {
 
     /// EE.
     #[tactic(auto, unfolding(crate::specs::Handing::making))]
+    #[inline(always)]
     pub fn end_element<E: EventOut>(
         &mut self,
         bit: u64,
@@ -282,6 +288,7 @@ impl<'a, T: Tables + Drop> Stepper<'a, T> {
 
     /// NS.
     #[tactic(auto, unfolding(crate::specs::Handing::making))]
+    #[inline(never)]
     pub fn declaration<E: EventOut>(
         &mut self,
         bit: u64,
@@ -321,6 +328,7 @@ impl<'a, T: Tables + Drop> Stepper<'a, T> {
 
     /// SC. Answers the byte at which the fragment begins.
     #[tactic(auto, unfolding(crate::specs::Handing::making))]
+    #[inline(never)]
     pub fn self_contained<E: EventOut>(
         &mut self,
         bit: u64,
@@ -346,6 +354,7 @@ impl<'a, T: Tables + Drop> Stepper<'a, T> {
 
     /// CM.
     #[tactic(auto, unfolding(crate::specs::Handing::making))]
+    #[inline(never)]
     pub fn comment<E: EventOut>(
         &mut self,
         bit: u64,
@@ -378,6 +387,7 @@ impl<'a, T: Tables + Drop> Stepper<'a, T> {
 
     /// PI.
     #[tactic(auto, unfolding(crate::specs::Handing::making, crate::specs::Contents::both_at))]
+    #[inline(never)]
     pub fn instruction<E: EventOut>(
         &mut self,
         bit: u64,
@@ -420,6 +430,7 @@ impl<'a, T: Tables + Drop> Stepper<'a, T> {
 
     /// DT.
     #[tactic(auto, unfolding(crate::specs::Handing::making, crate::specs::Contents::both_at))]
+    #[inline(never)]
     pub fn document_type<E: EventOut>(
         &mut self,
         bit: u64,
@@ -478,6 +489,7 @@ impl<'a, T: Tables + Drop> Stepper<'a, T> {
 
     /// ER.
     #[tactic(auto, unfolding(crate::specs::Handing::making))]
+    #[inline(never)]
     pub fn entity<E: EventOut>(
         &mut self,
         bit: u64,

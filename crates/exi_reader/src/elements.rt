@@ -34,6 +34,7 @@ impl Elements {
     }
 
     /// The innermost.
+    #[inline(always)]
     pub fn innermost(&self) -> Option<Element>
         ensures { result ≡ first_element self.now }
     {
@@ -41,6 +42,7 @@ impl Elements {
     }
 
     /// How many are open.
+    #[inline(always)]
     pub fn len(&self) -> usize
         ensures { result ≡ length self.now }
     {
@@ -52,6 +54,7 @@ impl Elements {
     /// # Errors
     ///
     /// `AllocError` where memory is refused; nothing is then changed.
+    #[inline(always)]
     pub fn open(&mut self, element: Element) -> Result<(), AllocError>
         ensures ok { OnOk result (self.new ≡ element ∷ self.old) }
         ensures err { OnErr result (self.new ≡ self.old) }
@@ -61,6 +64,7 @@ impl Elements {
     }
 
     /// The innermost is closed.
+    #[inline(always)]
     pub fn close(&mut self)
         ensures { self.new ≡ enclosing self.old }
     {
@@ -93,14 +97,12 @@ impl Elements {
     }
 
     /// The innermost goes to this state of its grammar.
+    #[inline(always)]
     pub fn move_to(&mut self, to: u32)
         ensures { self.new ≡ moved_elements to self.old }
     {
-        if let Some(element) = self.items.pop() {
-            self.items.push_reserved(Element {
-                name: element.name,
-                state: element.state.moved(to),
-            });
+        if let Some(element) = self.items.last_mut() {
+            element.state = element.state.moved(to);
         }
     }
 }
@@ -122,6 +124,7 @@ impl State {
     }
 
     /// The state of the same grammar with this place.
+    #[inline(always)]
     pub fn moved(self, to: u32) -> State
         ensures { result ≡ moved_state to self }
     {
@@ -137,6 +140,7 @@ impl State {
 }
 
 /// The state of the same built-in grammar with this place.
+#[inline(always)]
 fn moved_room(room: Room, to: u32) -> Room
     ensures { result ≡ moved_room to room }
 {

@@ -1,4 +1,4 @@
-ghost use Rattle.std.specs.Prelude.{◌≡◌, ◌≤◌, ◌^◌, false, length, true, IfOk, MatchOption, OnOk};
+ghost use Rattle.std.specs.Prelude.{◌≡◌, ◌≤◌, ◌^◌, length, IfOk, OnOk};
 ghost use Rattle.exi_bits.specs.Bits.{IsBytes};
 ghost use Rattle.exi_gram.specs.Switches.{fragment};
 ghost use Rattle.exi_meter.specs.Metering.{IsWithinStream};
@@ -107,27 +107,27 @@ impl<'a, T: Tables + Drop> Stepper<'a, T> {
         })
     }
 
-    /// The end, where the last event was read.
-    pub fn close(&mut self) -> Option<End>
-        ensures end { MatchOption result
-            (has_ended self.old.config ≡ false)
-            (λ e. (has_ended self.old.config ≡ true) × (e ≡ closing self.old.config.start self.old.bytes self.old.config)) }
-        ensures same { MatchOption result (self.new ≡ self.old) (λ e. (self.new.setting ≡ self.old.setting) × (self.new.bytes ≡ self.old.bytes)) }
+    /// Whether the last event was read.
+    #[inline(always)]
+    pub fn has_ended(&self) -> bool
+        ensures { result ≡ has_ended self.now.config }
     {
         match self.outer {
-            Outer::Ended => Some(self.closing()),
+            Outer::Ended => true,
             Outer::Book { .. }
             | Outer::FragmentStart
             | Outer::FragmentContent
             | Outer::AloneStart
             | Outer::AloneFirst
-            | Outer::AloneOver => None,
+            | Outer::AloneOver => false,
         }
     }
 
     /// The end behind the last event. Behind a body the rest of the last byte may hold anything, and a whole byte
     /// more is at fault.
-    fn closing(&mut self) -> End
+    #[cold]
+    #[inline(never)]
+    pub fn closing(&mut self) -> End
         ensures end { result ≡ closing self.old.config.start self.old.bytes self.old.config }
         ensures setting { self.new.setting ≡ self.old.setting }
         ensures bytes { self.new.bytes ≡ self.old.bytes }
@@ -151,6 +151,8 @@ impl<'a, T: Tables + Drop> Stepper<'a, T> {
     }
 
     /// The end by a fault.
+    #[cold]
+    #[inline(never)]
     pub fn failed(&mut self, fault: Fault) -> End
         ensures end { result ≡ end.Fault fault self.old.config.meter.used self.old.config.root }
         ensures setting { self.new.setting ≡ self.old.setting }

@@ -32,6 +32,7 @@ ghost use Rattle.exi_reader.specs.Changes.{
 };
 ghost use Rattle.exi_reader.specs.Contents.{acts_as_type, attribute_value_at, is_nil, text_at, told_name_at, under_at};
 ghost use Rattle.exi_reader.specs.Globals.{type_grammar};
+ghost use Rattle.exi_reader.specs.declared.alone.Alone.TheVariants as alone;
 ghost use Rattle.exi_reader.specs.Handing.{CanLearn, IsTold, Meets, alone_of, learned_by, telling_of, valuing_in};
 ghost use Rattle.exi_reader.specs.Plans.{alone_in};
 
@@ -55,6 +56,7 @@ use exi_values::read_value;
 use std::alloc::{AllocError, Global};
 
 /// Whether names keep their prefixes.
+#[inline(always)]
 pub fn keeps_prefixes(options: &Options) -> bool
     ensures { result ≡ prefixes options.now }
 {
@@ -62,6 +64,7 @@ pub fn keeps_prefixes(options: &Options) -> bool
 }
 
 /// Whether what a schema does not describe is refused.
+#[inline(always)]
 pub fn is_strict(options: &Options) -> bool
     ensures { result ≡ strict options.now }
 {
@@ -69,6 +72,7 @@ pub fn is_strict(options: &Options) -> bool
 }
 
 /// Whether a name is `xsi:type`, which the first string tables have at these places (EXI 1.0, appendix D).
+#[inline(always)]
 pub fn is_type(name: NameId) -> bool
     ensures { result ≡ is_type name }
 {
@@ -76,6 +80,7 @@ pub fn is_type(name: NameId) -> bool
 }
 
 /// Whether a name is `xsi:nil`, which the first string tables have at these places (EXI 1.0, appendix D).
+#[inline(always)]
 pub fn is_nil(name: NameId) -> bool
     ensures { result ≡ is_nil name }
 {
@@ -83,6 +88,7 @@ pub fn is_nil(name: NameId) -> bool
 }
 
 /// Whether a fragment stands there for one element.
+#[inline(always)]
 fn is_alone(outer: Outer) -> bool
     ensures { result ≡ is_alone outer }
 {
@@ -93,6 +99,8 @@ fn is_alone(outer: Outer) -> bool
 }
 
 /// The state outside of all elements that follows.
+#[cold]
+#[inline(never)]
 fn moved_outer(outer: Outer, to: u32) -> Outer
     ensures { result ≡ moved_outer to outer }
 {
@@ -112,6 +120,7 @@ fn moved_outer(outer: Outer, to: u32) -> Outer
 }
 
 /// Where reading is in a fragment that stands for one element, outside of that.
+#[inline(always)]
 pub fn alone_in(elements: &Elements, outer: Outer) -> Alone
     ensures { alone_of result ≡ alone_in elements.now outer }
 {
@@ -122,6 +131,7 @@ pub fn alone_in(elements: &Elements, outer: Outer) -> Alone
 }
 
 /// The name under which characters stand.
+#[inline(always)]
 pub fn innermost(elements: &Elements) -> NameId
     ensures { result ≡ innermost elements.now }
 {
@@ -132,6 +142,7 @@ pub fn innermost(elements: &Elements) -> NameId
 }
 
 /// The state that learns.
+#[inline(always)]
 fn room_in(elements: &Elements, outer: Outer) -> Option<Room>
     ensures { result ≡ room_in elements.now outer }
 {
@@ -148,6 +159,7 @@ fn room_in(elements: &Elements, outer: Outer) -> Option<Room>
 }
 
 /// The state learns from a use.
+#[inline(always)]
 pub fn learn(
     overlay: &mut Overlay,
     elements: &Elements,
@@ -165,6 +177,7 @@ pub fn learn(
 }
 
 /// The state that follows.
+#[inline(always)]
 pub fn go_to(elements: &mut Elements, outer: &mut Outer, to: u32)
     ensures elements { elements.new ≡ moved_elements to elements.old }
     ensures outer { outer.new ≡ outer_behind to elements.old outer.old }
@@ -181,6 +194,7 @@ pub fn go_to(elements: &mut Elements, outer: &mut Outer, to: u32)
 /// # Errors
 ///
 /// `AllocError` where memory is refused.
+#[inline(always)]
 pub fn open(
     overlay: &mut Overlay,
     elements: &mut Elements,
@@ -203,6 +217,7 @@ pub fn open(
 }
 
 /// The innermost element is closed.
+#[inline(always)]
 pub fn close(elements: &mut Elements, outer: Outer, meter: &mut Meter)
     requires level { has_level elements.old outer ≡ true → 0 < meter.old.level }
     ensures elements { elements.new ≡ enclosing elements.old }
@@ -215,6 +230,7 @@ pub fn close(elements: &mut Elements, outer: Outer, meter: &mut Meter)
 }
 
 /// Whether the innermost element has entered a level.
+#[inline(always)]
 fn has_level(elements: &Elements, outer: Outer) -> bool
     ensures { result ≡ has_level elements.now outer }
 {
@@ -226,6 +242,7 @@ fn has_level(elements: &Elements, outer: Outer) -> bool
 }
 
 /// The state learns from the use of a name, where the name has bits of its own.
+#[inline(always)]
 pub fn learn_name(
     overlay: &mut Overlay,
     elements: &Elements,
@@ -249,6 +266,7 @@ pub fn learn_name(
 /// # Errors
 ///
 /// `ScRoot` at this bit where it has another name, and `Memory` where memory is refused.
+#[inline(always)]
 pub fn meet_root<T: Tables + Drop>(
     alone: Alone,
     aside: &Asides<T>,
@@ -261,6 +279,24 @@ pub fn meet_root<T: Tables + Drop>(
     if alone != Alone::AtFirst {
         return Ok(());
     }
+    meet_first(aside, root, name, bit)
+}
+
+/// The element of a fragment, which is to come.
+///
+/// # Errors
+///
+/// Those of [`meet_root`].
+#[cold]
+#[inline(never)]
+fn meet_first<T: Tables + Drop>(
+    aside: &Asides<T>,
+    root: &mut Option<QName>,
+    name: NameRef<'_>,
+    bit: u64,
+) -> Result<(), Stop>
+    ensures { Meets result (alone_of alone.AtFirst) aside.now (named name.entry) root.old root.new bit }
+{
     if aside.len() == 0 {
         *root = Some(name.copy()?);
         return Ok(());
@@ -314,6 +350,7 @@ fn charge_uri<T: Tables>(
 ///
 /// Those of [`read_name_under`], and `TextLimit` where the URI would pass the limit. The place may then be any.
 #[tactic(auto, unfolding(crate::specs::Contents::under_at))]
+#[inline(never)]
 fn name_under<T: Tables>(
     alloc: Global,
     book: &Book,
@@ -346,6 +383,7 @@ fn name_under<T: Tables>(
 /// # Errors
 ///
 /// Those of the calls that read names. The place may then be any.
+#[inline(always)]
 pub fn told_name<T: Tables>(
     alloc: Global,
     book: &Book,

@@ -6,7 +6,7 @@ use crate::end::End;
 use crate::job::Job;
 use crate::reader::Reader;
 use crate::start::Start;
-use crate::turn::{ReadStop, Turn};
+use crate::turn::{Came, ReadStop};
 use exi_meter::Limits;
 use exi_names::EventOut;
 use exi_steps::Steps;
@@ -40,10 +40,11 @@ pub fn read_from<T: Tables + Drop, E: EventOut, L: Ledger>(
         return Err(ReadStop::Memory);
     };
     loop {
-        match reader.turn(out, steps)? {
-            Turn::Went => {}
-            Turn::AtFragment(_) => reader.enter()?,
-            Turn::Ended(end) => return Ok(end),
+        match reader.come(out, steps)? {
+            Came::On => {}
+            Came::AtFragment(_) => reader.enter()?,
+            Came::Over => return Ok(reader.closing()),
+            Came::Failed(fault) => return Ok(reader.failed(fault)),
         }
     }
 }

@@ -1,8 +1,9 @@
 ghost use Rattle.std.specs.Prelude.{◌≡◌, ◌≤◌, ◌+◌, false, true, IfOk, IsErrOf, OnOk};
 ghost use Rattle.exi_meter.specs.Metering.{IsWithinStream};
 ghost use Rattle.exi_names.specs.Events.{Rose};
-ghost use Rattle.exi_reader.specs.Reading.{IsJob, IsReached, IsStartIn, StandsAt, StaysReached, Turns, job_of, reading};
-ghost use Rattle.exi_reader.specs.Runs.{first};
+ghost use Rattle.exi_reader.specs.Reading.{IsJob, IsReached, IsStartIn, StandsAt, StandsAtNone, StaysReached, Turns, come_to, job_of, reading};
+ghost use Rattle.exi_reader.specs.Runs.{closing, first};
+ghost use Rattle.exi_reader.specs.declared.end.End.TheVariants as end;
 ghost use Rattle.exi_reader.specs.Splices.{fits};
 
 use crate::aside::Asides;
@@ -12,7 +13,8 @@ use crate::halt::Halt;
 use crate::job::Job;
 use crate::start::Start;
 use crate::stepper::Stepper;
-use crate::turn::{ReadStop, Turn};
+use crate::turn::{Came, ReadStop, Turn};
+use exi_bits::Fault;
 use exi_meter::Limits;
 use exi_names::EventOut;
 use exi_steps::Steps;
@@ -99,22 +101,74 @@ impl<'a, T: Tables + Drop> Reader<'a, T> {
         ensures later { E.stops out.old ≤ E.stops out.new }
         ensures stopped { IsErrOf result ReadStop.Stopped → Rose (E.stops out.old) (E.stops out.new) }
     {
+        match self.come(out, steps)? {
+            Came::On => Ok(Turn::Went),
+            Came::AtFragment(byte) => Ok(Turn::AtFragment(byte)),
+            Came::Over => Ok(Turn::Ended(self.closing())),
+            Came::Failed(fault) => Ok(Turn::Ended(self.failed(fault))),
+        }
+    }
+
+    /// One turn, whose end is still to be told: a loop that only goes on makes no room for an end.
+    #[inline(always)]
+    pub(crate) fn come<E: EventOut, L: Ledger>(
+        &mut self,
+        out: &mut E,
+        steps: &mut Steps<L>,
+    ) -> Result<Came, ReadStop>
+        requires reached { IsReached self.old }
+        requires going { self.old.waits ≡ false }
+        ensures turned { Turns E.took E.broke (come_to result self.new) self.old self.new out.old out.new }
+        ensures reached { StaysReached (come_to result self.new) self.new }
+        ensures fragment { StandsAt (come_to result self.new) self.new }
+        ensures none { StandsAtNone result self.new }
+        ensures setting { self.new.setting ≡ self.old.setting }
+        ensures bytes { self.new.bytes ≡ self.old.bytes }
+        ensures steps { steps.new ≡ steps.old + 1 }
+        ensures same { E.same out.old out.new }
+        ensures later { E.stops out.old ≤ E.stops out.new }
+        ensures stopped { IsErrOf result ReadStop.Stopped → Rose (E.stops out.old) (E.stops out.new) }
+    {
         steps.tick();
         match self.stepper.step(out) {
+            Ok(None) => {
+                if self.stepper.has_ended() {
+                    return Ok(Came::Over);
+                }
+                Ok(Came::On)
+            }
             Ok(Some(byte)) => {
                 self.waits = true;
-                Ok(Turn::AtFragment(byte))
+                Ok(Came::AtFragment(byte))
             }
-            Ok(None) => {
-                if let Some(end) = self.stepper.close() {
-                    return Ok(Turn::Ended(end));
-                }
-                Ok(Turn::Went)
-            }
-            Err(Halt::Fault(fault)) => Ok(Turn::Ended(self.stepper.failed(fault))),
+            Err(Halt::Fault(fault)) => Ok(Came::Failed(fault)),
             Err(Halt::Memory) => Err(ReadStop::Memory),
             Err(Halt::Stopped) => Err(ReadStop::Stopped),
         }
+    }
+
+    /// The end of a turn that came to all that is read.
+    #[cold]
+    #[inline(never)]
+    pub(crate) fn closing(&mut self) -> End
+        requires going { self.old.waits ≡ false }
+        ensures end { result ≡ closing self.old.config.start self.old.bytes self.old.config }
+        ensures setting { self.new.setting ≡ self.old.setting }
+        ensures bytes { self.new.bytes ≡ self.old.bytes }
+    {
+        self.stepper.closing()
+    }
+
+    /// The end of a turn that failed by this fault.
+    #[cold]
+    #[inline(never)]
+    pub(crate) fn failed(&mut self, fault: Fault) -> End
+        requires going { self.old.waits ≡ false }
+        ensures end { result ≡ end.Fault fault self.old.config.meter.used self.old.config.root }
+        ensures setting { self.new.setting ≡ self.old.setting }
+        ensures bytes { self.new.bytes ≡ self.old.bytes }
+    {
+        self.stepper.failed(fault)
     }
 
     /// Goes into the fragment at which it stands, which is then read from here. It has to stand at one.

@@ -74,6 +74,7 @@ pub struct Rule<'a> {
 
 impl Telling {
     /// How a production of a book tells the name that it has, if any.
+    #[inline(always)]
     pub fn of(named: Named) -> Telling
         ensures { telling_of result ≡ telling_in named }
     {
@@ -87,6 +88,7 @@ impl Telling {
 
 impl Content {
     /// What a production of a built-in grammar reads.
+    #[inline(always)]
     pub fn of_built_in(production: Learnable) -> Content
         ensures { terminal_in result None ≡ built_in_terminal production }
     {
@@ -116,6 +118,7 @@ const NIL: NameId = NameId { uri: 2, local: 0 };
 
 impl<'a> Rule<'a> {
     /// A production of a built-in grammar.
+    #[inline(always)]
     pub fn of_built_in(production: Learnable, to: u32) -> Rule<'a>
         ensures { rule_in result ≡ record { on = built_in_terminal production; to = to; inner = None } }
     {
@@ -128,6 +131,7 @@ impl<'a> Rule<'a> {
     }
 
     /// A production of a book, with the places of what it names.
+    #[inline(always)]
     pub fn of_book(production: &'a Production, named: Named) -> Rule<'a>
         ensures { rule_in result ≡ rule_of named (rule production.now) }
     {

@@ -16,6 +16,8 @@ use exi_names::EventOut;
 use exi_tables::Tables;
 
 /// A limit of text that is passed within an event has the event's first bit.
+#[cold]
+#[inline(never)]
 fn at_event(bit: u64, fault: Fault) -> Fault
     ensures { result ≡ moved_limit bit fault }
 {
@@ -30,6 +32,7 @@ fn at_event(bit: u64, fault: Fault) -> Fault
 
 impl<'a, T: Tables + Drop> Stepper<'a, T> {
     /// What stands behind an event's code. Answers the byte of a fragment that begins.
+    #[inline(always)]
     fn content<E: EventOut>(
         &mut self,
         bit: u64,
@@ -73,6 +76,7 @@ impl<'a, T: Tables + Drop> Stepper<'a, T> {
     }
 
     /// One event.
+    #[inline(always)]
     pub fn step<E: EventOut>(&mut self, out: &mut E) -> Result<Option<u64>, Halt>
         requires steady { IsSteady self.old }
         ensures hands { HandsAny E.took E.broke result self.new (one self.old.setting self.old.bytes self.old.config) out.old out.new }

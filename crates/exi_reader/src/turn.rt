@@ -2,6 +2,7 @@ ghost use Rattle.std.specs.Prelude.{◌≡◌};
 ghost use Rattle.exi_reader.specs.declared.turn.ReadStop.TheVariants.{Memory};
 
 use crate::end::End;
+use exi_bits::Fault;
 use std::alloc::AllocError;
 use thiserror::Error;
 
@@ -15,6 +16,19 @@ pub enum Turn {
     AtFragment(u64),
     /// Reading has ended.
     Ended(End),
+}
+
+/// What a turn of reading came to, where its end is still to be told.
+#[derive(Clone, Copy, Debug)]
+pub enum Came {
+    /// Reading goes on.
+    On,
+    /// A self-contained fragment begins at this byte.
+    AtFragment(u64),
+    /// All is read.
+    Over,
+    /// The stream is wrong.
+    Failed(Fault),
 }
 
 /// Why reading stopped.

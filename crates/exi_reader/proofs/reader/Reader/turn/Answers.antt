@@ -1,16 +1,8 @@
-use Rattle.exi_reader.proofs.Turning.{place_fragment, reader_steady, stays_fragment, stays_on}
+use Rattle.exi_reader.proofs.Turning.{turns_closed, turns_faulted}
 use Rattle.exi_reader.proofs.reader.Reader.turn.Goals as goal
 
-pub step-requires : goal.step-requires
-step-requires g c = record { steady = reader_steady c.self.inside.stepper c.self.inside.waits c.args.self.now c.self.view_is c.requires.going c.requires.reached }
+pub returns-in-Over-clause-turned : goal.returns-in-Over-clause-turned
+returns-in-Over-clause-turned g c = turns_closed g.E.EventOut.took g.E.EventOut.broke c.args.out.now c.come.new.out c.closing.result c.args.self.now c.come.new.self c.closing.new.self c.closing.ensures.end (rw c.in-Over.is at c.in_ok-come.ensures.turned)
 
-pub returns-in-Ok-Some-clause-reached : goal.returns-in-Ok-Some-clause-reached
-returns-in-Ok-Some-clause-reached g c = stays_fragment c.in-Ok-Some.byte c.self.inside.stepper c.step.new.self c.self.inside.waits c.args.self.now c.self.view_is c.requires.going c.requires.reached (rw c.in-Ok-Some.field-0-is at c.in-Ok-Some.ensures.hands).0 c.in-Ok-Some.ensures.setting c.in-Ok-Some.ensures.bytes
-
-pub returns-in_default-clause-reached : goal.returns-in_default-clause-reached
-returns-in_default-clause-reached g c =
-    let h = rw c.in-Ok-None.field-0-is at c.in-Ok-None.ensures.hands in
-    rw (c.in_default.ensures.same) (stays_on h.0 c.self.inside.stepper c.step.new.self c.self.inside.waits c.args.self.now c.self.view_is c.requires.going c.requires.reached h.1 c.in_default.ensures.end c.in-Ok-None.ensures.setting c.in-Ok-None.ensures.bytes)
-
-pub returns-in-Ok-Some-clause-fragment : goal.returns-in-Ok-Some-clause-fragment
-returns-in-Ok-Some-clause-fragment g c = place_fragment c.in-Ok-Some.byte c.self.inside.stepper c.step.new.self c.self.inside.waits c.args.self.now c.self.view_is c.requires.going c.requires.reached (rw c.in-Ok-Some.field-0-is at c.in-Ok-Some.ensures.hands).0 c.in-Ok-Some.ensures.setting
+pub returns-in-Failed-clause-turned : goal.returns-in-Failed-clause-turned
+returns-in-Failed-clause-turned g c = turns_faulted g.E.EventOut.took g.E.EventOut.broke c.args.out.now c.come.new.out c.in-Failed.fault c.failed.result c.args.self.now c.come.new.self c.failed.new.self c.failed.ensures.end (rw c.in-Failed.is at c.in_ok-come.ensures.turned)
