@@ -1,6 +1,7 @@
 -- What is written of a value under a datatype, and under a production (EXI 1.0, sections 7.1, 8.4.3 and 8.5.4.4): the value
 -- that its canonical text has there, where it has one and that has a spelling.
 use Rattle.std.specs.Prelude.{◌≡◌, ℕ, Bool, true, false, List, [], Option, Some, None, if◌then◌else◌}
+use Rattle.std.specs.Box.{box_value}
 use Rattle.std.specs.Option.{option_copied}
 use Rattle.exi_gram.specs.Outlines.{Outline}
 use Rattle.exi_lexical.specs.Laws.{is_plain}
@@ -48,7 +49,7 @@ pub record IsPlainOf (r : Representation) (v : Value) : Type 0 where
 abbrev pub fitted : Value → Option Fit → Option Value
 fitted v None = None
 fitted v (Some fit.Own) = Some v
-fitted v (Some (fit.Other w)) = Some (seen w)
+fitted v (Some (fit.Other w)) = Some (seen (box_value w))
 
 -- ---- under a production
 -- how the value of an attribute is represented

@@ -120,6 +120,7 @@ fn coded_as<'a>(room: Room, production: Learnable, code: Code) -> Choice<'a>
 }
 
 /// The production of a built-in state that stands for an event: the one for it alone before the one for its kind.
+#[inline(always)]
 pub fn choose_built_in<'a>(
     book: &'a Book,
     overlay: &Overlay,

@@ -25,8 +25,8 @@ use std::alloc::{AllocError, Global};
 pub enum Fit {
     /// The value itself, if it has one.
     Own,
-    /// Another: the one that its canonical text has there.
-    Other(Val),
+    /// Another: the one that its canonical text has there. Boxed, so that what is found stays small where it is none.
+    Other(Box<Val>),
 }
 
 /// Whether a value is neither a list nor a name.
@@ -251,7 +251,7 @@ fn fit_datatype(alloc: Global, datatype: &Datatype, value: &Val) -> Result<Optio
     if !can_be_valued(&found) {
         return Ok(None);
     }
-    Ok(Some(Fit::Other(found)))
+    Ok(Some(Fit::Other(Box::new(alloc, found)?)))
 }
 
 /// What is written of a value as a string.
@@ -271,7 +271,7 @@ fn fit_string(alloc: Global, value: &Val) -> Result<Option<Fit>, AllocError>
     if !can_be_spelled(&text) {
         return Ok(None);
     }
-    Ok(Some(Fit::Other(Val::Text(text))))
+    Ok(Some(Fit::Other(Box::new(alloc, Val::Text(text))?)))
 }
 
 /// What is written of a value of `xsi:nil`.
@@ -320,6 +320,7 @@ fn fit_declared(
 /// # Errors
 ///
 /// `AllocError` where memory is refused.
+#[inline(always)]
 pub fn fit_on(
     alloc: Global,
     schema: &Schema,

@@ -32,6 +32,7 @@ pub struct Found<'a> {
 /// # Errors
 ///
 /// `AllocError` where memory is refused.
+#[inline(always)]
 fn fit_at(
     alloc: Global,
     schema: &Schema,
@@ -111,7 +112,7 @@ fn first_of_candidates(
 }
 
 /// How many productions are looked at one by one before it is quicker to look them up.
-const FEW: usize = 16;
+const FEW: usize = 8;
 
 /// The same, in the quicker way.
 ///
@@ -172,6 +173,7 @@ pub fn find_in_book<'a>(
 /// # Errors
 ///
 /// `AllocError` where memory is refused.
+#[inline(always)]
 fn find<'a>(
     alloc: Global,
     schema: &Schema,
@@ -195,6 +197,7 @@ fn find<'a>(
 /// # Errors
 ///
 /// `AllocError` where memory is refused.
+#[inline(always)]
 pub fn find_built_in<'a>(
     alloc: Global,
     book: &'a Book,

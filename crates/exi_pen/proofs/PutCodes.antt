@@ -1,5 +1,5 @@
 -- The bits of a production's code, where the production is kept as one of a built-in state or of the book.
-use Rattle.std.proofs.Common.{◌≡◌, ◌<◌, ℕ, Bool, List, [], ◌∷◌, ◌++◌, length, map, Option, Some, true, refl, sym, ap, ◌∙◌, subst, inl, inr, append-nil}
+use Rattle.std.proofs.Common.{◌≡◌, ◌<◌, ℕ, Bool, List, [], ◌∷◌, ◌++◌, length, map, Option, Some, None, true, refl, sym, ap, ◌∙◌, subst, inl, inr, append-nil}
 use Rattle.std.specs.Prelude.{◌⊎◌, IfOk, OnOk, Result, Ok, Err}
 use Rattle.std.specs.declared.alloc.AllocError.{AllocError}
 use Rattle.exi_bits.specs.Bits.{bits, le_bytes, number_bits}
@@ -17,7 +17,7 @@ use Rattle.exi_gram.specs.Tables.{parts_at, parts_of, size}
 use Rattle.exi_gram.specs.declared.code.Code.{Code}
 use Rattle.exi_gram.specs.declared.options.Options.{Options}
 use Rattle.exi_reader.specs.Configurations.{Setting, alone_rules, built_in, element_rules, in_book, outer_rules, rules_in, rules_of}
-use Rattle.exi_reader.specs.Handing.{IsThere}
+use Rattle.exi_reader.specs.Handing.{AreThere, IsThere, IsThereIn}
 use Rattle.exi_reader.specs.Rules.{Rule, book_rule, fragment_start}
 use Rattle.exi_reader.specs.Stacks.{first_element}
 use Rattle.exi_reader.specs.declared.frames.Element.{Element}
@@ -82,23 +82,54 @@ book_found wanted p q grammar number r same e h =
     (subst (λ (z : Outer). FindsIn p.setting p.config.learned wanted (outer_rules p.setting p.config.learned z) r) (sym e)
     (found_for p.setting p.config.learned wanted (in_book p.setting grammar number) r h))
 
+-- where it is known of which rules
+pub book_here : (wanted : Seeking) (p q : Page) (grammar number : ℕ) (r : Option Found) → p ≡ q → rules_of q.setting q.config ≡ in_book q.setting grammar number → ((k : Learning) → Finds p.setting k wanted (in_book p.setting grammar number) r)
+    → Finds q.setting q.config.learned wanted (rules_of q.setting q.config) r
+book_here wanted p q grammar number r same rules h =
+    subst (λ (z : Productions Rule). Finds q.setting q.config.learned wanted z r) (sym rules)
+    (subst (λ (z : Page). Finds z.setting z.config.learned wanted (in_book z.setting grammar number) r) same (h p.config.learned))
+
 -- in an element
+first_is : (a b : Element) → Some a ≡ Some b → a ≡ b
+first_is a b k = cc
+
 rules_first : (g : Setting) (l : Learning) (es : List Element) (o : Outer) (e : Element) → first_element es ≡ Some e → rules_in g l es o ≡ element_rules g l e.state
 rules_first g l [] o e h = absurd cc
 rules_first g l (x ∷ es) o e h = ap (λ (z : Element). element_rules g l z.state) (first_is x e h)
-  where
-    first_is : (a b : Element) → Some a ≡ Some b → a ≡ b
-    first_is a b k = cc
 
-pub informed_found : (wanted : Seeking) (p q : Page) (e : Element) (grammar number : ℕ) (empty : Bool) (o : Option Element) (r : Finding) → p ≡ q → o ≡ first_element p.config.elements → o ≡ Some e → e.state ≡ state.Informed grammar number empty
-    → IfOk r (λ found. (k : Learning) → Finds p.setting k wanted (in_book p.setting grammar number) found)
-    → FindsIn q.setting q.config.learned wanted (rules_of q.setting q.config) r
-informed_found wanted p q e grammar number empty o r same first is there h =
-    let rules : rules_of p.setting p.config ≡ in_book p.setting grammar number =
-    rules_first p.setting p.config.learned p.config.elements p.config.outer e (sym first ∙ is) ∙ ap (λ (z : State). element_rules p.setting p.config.learned z) there in
-    subst (λ (z : Page). FindsIn z.setting z.config.learned wanted (rules_of z.setting z.config) r) same
-    (subst (λ (z : Productions Rule). FindsIn p.setting p.config.learned wanted z r) (sym rules)
-    (found_for p.setting p.config.learned wanted (in_book p.setting grammar number) r h))
+there_first : (g : Setting) (l : Learning) (es : List Element) (e : Element) → first_element es ≡ Some e → AreThere g l es → IsThereIn g l e.state
+there_first g l [] e h k = absurd cc
+there_first g l (x ∷ es) e h k = subst (λ (z : Element). IsThereIn g l z.state) (first_is x e h) k
+
+rules_at : (p : Page) (e : Element) (s : State) → first_element p.config.elements ≡ Some e → e.state ≡ s → rules_of p.setting p.config ≡ element_rules p.setting p.config.learned s
+rules_at p e s first there = rules_first p.setting p.config.learned p.config.elements p.config.outer e first ∙ ap (λ (z : State). element_rules p.setting p.config.learned z) there
+
+pub built_in_here : (wanted : Seeking) (p q : Page) (e : Element) (room : Room) (o : Option Element) (r : Option Found) → p ≡ q → o ≡ first_element p.config.elements → o ≡ Some e → e.state ≡ state.BuiltIn room
+    → Finds p.setting p.config.learned wanted (built_in p.setting p.config.learned room) r
+    → Finds q.setting q.config.learned wanted (rules_of q.setting q.config) r
+built_in_here wanted p q e room o r same first is there h =
+    subst (λ (z : Page). Finds z.setting z.config.learned wanted (rules_of z.setting z.config) r) same
+    (subst (λ (z : Productions Rule). Finds p.setting p.config.learned wanted z r) (sym (rules_at p e (state.BuiltIn room) (sym first ∙ is) there)) h)
+
+pub informed_rules : (p q : Page) (e : Element) (grammar number : ℕ) (empty : Bool) (o : Option Element) → p ≡ q → o ≡ first_element p.config.elements → o ≡ Some e → e.state ≡ state.Informed grammar number empty
+    → rules_of q.setting q.config ≡ in_book q.setting grammar number
+informed_rules p q e grammar number empty o same first is there =
+    subst (λ (z : Page). rules_of z.setting z.config ≡ in_book z.setting grammar number) same (rules_at p e (state.Informed grammar number empty) (sym first ∙ is) there)
+
+pub informed_there : (p q : Page) (e : Element) (grammar number : ℕ) (empty : Bool) (o : Option Element) → p ≡ q → o ≡ first_element p.config.elements → o ≡ Some e → e.state ≡ state.Informed grammar number empty
+    → AreThere q.setting q.config.learned q.config.elements → IsStateOf q.setting grammar number
+informed_there p q e grammar number empty o same first is there h =
+    let k : first_element q.config.elements ≡ Some e = ap (λ (z : Page). first_element z.config.elements) (sym same) ∙ (sym first ∙ is) in
+    (subst (λ (z : State). IsThereIn q.setting q.config.learned z) there (there_first q.setting q.config.learned q.config.elements e k h)).0
+
+-- outside of all elements
+outside_first : (g : Setting) (l : Learning) (es : List Element) (o : Outer) → first_element es ≡ None → rules_in g l es o ≡ outer_rules g l o
+outside_first g l [] o h = refl
+outside_first g l (x ∷ es) o h = absurd cc
+
+pub outside_rules : (p q : Page) (o : Option Element) → p ≡ q → o ≡ first_element p.config.elements → o ≡ None → rules_of q.setting q.config ≡ outer_rules q.setting q.config.learned q.config.outer
+outside_rules p q o same first is =
+    subst (λ (z : Page). rules_of z.setting z.config ≡ outer_rules z.setting z.config.learned z.config.outer) same (outside_first p.setting p.config.learned p.config.elements p.config.outer (sym first ∙ is))
 
 -- ---- a way's code on a page
 abbrev code_by : Page → Way → List Bool

@@ -184,6 +184,10 @@ type_last r v n kept misses name old new toll mid charged is test no_miss prunes
     subst (λ (o : Option (Piece Value)). PutsLast {A = Unit {0}} {X = Value} r o old new toll charged) (sym (there ∙ named)) last
 
 -- a string
+-- a text that is a value has a spelling where the value has one
+pub text_spelled : (v : Value) (x : List ℕ) → v ≡ shape.text x → can_be_valued v ≡ true → can_be_spelled x ≡ true
+text_spelled v x e h = ap can_be_valued (sym e) ∙ h
+
 pub string_last : (r : Result (Unit {0}) PutStop) (v : Value) (x : List ℕ) (name : NameId) (old new : Page) (toll charged : Charged) → v ≡ shape.text x
     → PutsIn {A = Unit {0}} {X = Value} r (piece.value datatype.text (align_of old.setting.options) name (shape.text x) old.config.tables) old new toll charged
     → PutsLast {A = Unit {0}} {X = Value} r (value_by old.setting datatype.text name v old.config.tables) old new toll charged

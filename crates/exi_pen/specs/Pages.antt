@@ -17,6 +17,7 @@ use Rattle.exi_reader.specs.Handing.{AreThere, HasLevels, HasRoom, IsThere, rule
 use Rattle.exi_reader.specs.Sound.{FitsIn, IsSound}
 use Rattle.exi_reader.specs.Plans.{Alone, Plan, alone_in, ended_in, is_event, no_element, plan_of}
 use Rattle.exi_reader.specs.Rules.{Rule, Telling, Valuing}
+use Rattle.exi_reader.specs.declared.frames.Outer.TheVariants as outer
 use Rattle.exi_reader.specs.declared.rule.Content.{Content}
 use Rattle.exi_reader.specs.declared.rule.Content.TheVariants as content
 use Rattle.exi_reader.specs.declared.rule.Rule.{Rule as Kept}
@@ -187,6 +188,15 @@ ended_page a p = record { setting = p.setting; bits = ended_bits a p.bits; confi
 
 abbrev pub resumed_page : Body → Page → Page
 resumed_page b p = record p { config = record p.config { meter = without_level p.config.meter; tables = b.tables; elements = enclosing b.elements; outer = b.outer; learned = b.learned } }
+
+-- behind a refusal, where nothing has ended: an event for which no production stands charges nothing
+abbrev pub refused_meter : PutStop → Metering → Metering → Metering
+refused_meter stop.NotDerived before charged = before
+refused_meter (stop.Limit k) before charged = charged
+refused_meter stop.Memory before charged = charged
+
+abbrev pub refused_page : PutStop → Metering → Page → Page
+refused_page s before p = record p { config = record p.config { outer = outer.AloneStart; meter = refused_meter s before p.config.meter } }
 
 -- behind a fragment that was written apart
 abbrev pub spliced_page : List Bool → Tally → Page → Page

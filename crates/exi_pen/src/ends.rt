@@ -7,7 +7,7 @@ ghost use Rattle.exi_reader.specs.Changes.{innermost, texts_of};
 ghost use Rattle.exi_reader.specs.Configurations.{IsSetting};
 ghost use Rattle.exi_reader.specs.Handing.{HasLevels, alone_of};
 ghost use Rattle.exi_tables.specs.Partitions.{IsName};
-ghost use Rattle.exi_pen.specs.Pages.{StartsAt, ended_page, first_page, fragment_page, resumed_page, spliced_page};
+ghost use Rattle.exi_pen.specs.Pages.{StartsAt, ended_page, first_page, fragment_page, refused_page, resumed_page, spliced_page};
 
 use crate::pen::Pen;
 use exi_bits::BitOut;
@@ -17,6 +17,7 @@ use exi_meter::{Limits, Meter, Tally};
 use exi_names::{NameId, NameRef, QName};
 use exi_reader::{Alone, Aside, Asides, Elements, Outer, Start, first_outer, first_tables};
 use exi_tables::Tables;
+use exi_toll::PutStop;
 use std::alloc::{AllocError, Global};
 use std::mem;
 
@@ -81,6 +82,19 @@ impl<'a, T: Tables + Drop> Pen<'a, T> {
         match self.aside.pop() {
             None => self.outer = Outer::Ended,
             Some(body) => self.resume(body),
+        }
+    }
+
+    /// Behind a refusal it stands where nothing has ended, so that no bits are given out. An event for which no production
+    /// stands charges nothing: what was charged before it is what is charged.
+    #[cold]
+    pub fn give_up(&mut self, stop: PutStop, before: Meter)
+        ensures { self.new ≡ refused_page stop before self.old }
+    {
+        self.outer = Outer::AloneStart;
+        match stop {
+            PutStop::NotDerived => self.meter = before,
+            PutStop::Limit(_) | PutStop::Memory => {}
         }
     }
 

@@ -3,8 +3,8 @@ ghost use Rattle.exi_gram.specs.Books.{IsStateOf};
 ghost use Rattle.exi_gram.specs.Codes.{code_bits};
 ghost use Rattle.exi_gram.specs.Laws.{codes};
 ghost use Rattle.exi_gram.specs.Switches.{align_of};
-ghost use Rattle.exi_reader.specs.Configurations.{alone_rules, outer_rules, rules_of};
-ghost use Rattle.exi_reader.specs.Handing.{AreThere, IsThere, alone_of};
+ghost use Rattle.exi_reader.specs.Configurations.{alone_rules, in_book, outer_rules, rules_of};
+ghost use Rattle.exi_reader.specs.Handing.{IsThere, alone_of};
 ghost use Rattle.std.specs.Option.{is_some};
 ghost use Rattle.exi_pen.specs.Pages.{Begins, BeginsKind, IsReady, attribute_wanted, characters_wanted, no_element_for, with_bits};
 ghost use Rattle.exi_choice.specs.Choices.{Finds, IsWay, wanting, way_parts};
@@ -142,25 +142,8 @@ impl<'a, T: Tables + Drop> Pen<'a, T> {
         }
     }
 
-    /// The production that suits an event.
-    fn find(&self, wanted: Wanted<'_>) -> Result<Option<Found<'a>>, AllocError>
-        requires there { IsThere self.now.setting self.now.config.outer }
-        requires elements { AreThere self.now.setting self.now.config.learned self.now.config.elements }
-        ensures { IfOk result (λ found. Finds self.now.setting self.now.config.learned (wanting wanted.entry) (rules_of self.now.setting self.now.config) found) }
-    {
-        let (alloc, book) = (self.alloc, self.book);
-        match self.elements.innermost() {
-            Some(element) => match element.state {
-                State::BuiltIn(room) => find_built_in(alloc, book, &self.overlay, room, wanted),
-                State::Informed { grammar, state, .. } => {
-                    find_in_book(alloc, book, grammar, state, wanted)
-                }
-            },
-            None => self.find_outside(wanted),
-        }
-    }
-
     /// Writes the code of a production.
+    #[inline(always)]
     fn put_code(&mut self, way: Way) -> Result<(), AllocError>
         requires way { IsWay self.old.setting self.old.config.learned (rules_of self.old.setting self.old.config) way }
         ensures ok { OnOk result (self.new ≡ with_bits self.old (code_bits (align_of self.old.setting.options) (codes (rules_of self.old.setting self.old.config)) (way_parts self.old.setting way))) }
@@ -180,14 +163,21 @@ impl<'a, T: Tables + Drop> Pen<'a, T> {
         }
     }
 
-    /// Finds the production that suits an event, and writes its code.
-    pub fn begin(&mut self, wanted: Wanted<'_>, toll: &mut Toll) -> Result<Begun<'a>, PutStop>
+    /// Writes the code of the production that was found for an event, where it may stand here.
+    #[inline(always)]
+    fn begin_by(
+        &mut self,
+        wanted: Wanted<'_>,
+        found: Option<Found<'a>>,
+        toll: &mut Toll,
+    ) -> Result<Begun<'a>, PutStop>
         requires ready { IsReady self.old }
+        requires found { Finds self.old.setting self.old.config.learned (wanting wanted) (rules_of self.old.setting self.old.config) found }
         ensures begins { Begins (wanting wanted.entry) result self.old self.new toll.old toll.new }
         ensures meter { self.new.config.meter ≡ self.old.config.meter }
     {
         chosen_suits();
-        let Some(found) = self.find(wanted)? else {
+        let Some(found) = found else {
             return Err(PutStop::NotDerived);
         };
         let Found { choice, value } = found;
@@ -207,7 +197,63 @@ impl<'a, T: Tables + Drop> Pen<'a, T> {
         })
     }
 
+    /// Begins an event outside of all elements.
+    #[cold]
+    #[inline(never)]
+    fn begin_outside(&mut self, wanted: Wanted<'_>, toll: &mut Toll) -> Result<Begun<'a>, PutStop>
+        requires ready { IsReady self.old }
+        requires rules { rules_of self.old.setting self.old.config ≡ outer_rules self.old.setting self.old.config.learned self.old.config.outer }
+        ensures begins { Begins (wanting wanted.entry) result self.old self.new toll.old toll.new }
+        ensures meter { self.new.config.meter ≡ self.old.config.meter }
+    {
+        let found = self.find_outside(wanted)?;
+        self.begin_by(wanted, found, toll)
+    }
+
+    /// Begins an event in a state of the book.
+    #[inline(never)]
+    fn begin_in_book(
+        &mut self,
+        grammar: u32,
+        state: u32,
+        wanted: Wanted<'_>,
+        toll: &mut Toll,
+    ) -> Result<Begun<'a>, PutStop>
+        requires ready { IsReady self.old }
+        requires exists { IsStateOf self.old.setting grammar state }
+        requires rules { rules_of self.old.setting self.old.config ≡ in_book self.old.setting grammar state }
+        ensures begins { Begins (wanting wanted.entry) result self.old self.new toll.old toll.new }
+        ensures meter { self.new.config.meter ≡ self.old.config.meter }
+    {
+        let found = find_in_book(self.alloc, self.book, grammar, state, wanted)?;
+        self.begin_by(wanted, found, toll)
+    }
+
+    /// Finds the production that suits an event, and writes its code. Each sort of state goes its own way to the end, so that
+    /// what is found need not be moved together.
+    #[inline(always)]
+    pub fn begin(&mut self, wanted: Wanted<'_>, toll: &mut Toll) -> Result<Begun<'a>, PutStop>
+        requires ready { IsReady self.old }
+        ensures begins { Begins (wanting wanted.entry) result self.old self.new toll.old toll.new }
+        ensures meter { self.new.config.meter ≡ self.old.config.meter }
+    {
+        match self.elements.innermost() {
+            Some(element) => match element.state {
+                State::BuiltIn(room) => {
+                    let (alloc, book) = (self.alloc, self.book);
+                    let found = find_built_in(alloc, book, &self.overlay, room, wanted)?;
+                    self.begin_by(wanted, found, toll)
+                }
+                State::Informed { grammar, state, .. } => {
+                    self.begin_in_book(grammar, state, wanted, toll)
+                }
+            },
+            None => self.begin_outside(wanted, toll),
+        }
+    }
+
     /// The same, for an event without a value: its production.
+    #[inline(never)]
     pub fn begin_kind(&mut self, on: Content, toll: &mut Toll) -> Result<Rule<'a>, PutStop>
         requires ready { IsReady self.old }
         ensures begins { BeginsKind on result self.old self.new toll.old toll.new }

@@ -25,6 +25,7 @@ ghost use Rattle.exi_names.specs.Datatypes.{represented};
 ghost use Rattle.exi_pen.specs.Told.{valuing_on};
 ghost use Rattle.exi_pen.specs.Values.{FitsAs, HasRoomBehind, IsSpelledAs, declared_value, value_by};
 ghost use Rattle.exi_writing.specs.Pieces as piece;
+ghost use Rattle.exi_writing.specs.Pieces.{can_be_spelled};
 ghost use Rattle.exi_writing.specs.Pruned.{pruned_name};
 
 use crate::moves::valuing;
@@ -33,7 +34,7 @@ use exi_choice::{Declared, declaration_of, place_told, told_of};
 use exi_gram::Options;
 use exi_names::{Datatype, NameId, NameRef, Txt, Val};
 use exi_pieces::{
-    put_declaration, put_known, put_literal, put_name, put_string, put_under, put_value,
+    put_declaration, put_known, put_literal, put_name, put_spelled, put_under, put_value,
 };
 use exi_reader::{Alone, Rule, Telling, alone_in, innermost, is_strict, keeps_prefixes};
 use exi_tables::Tables;
@@ -280,16 +281,15 @@ impl<'a, T: Tables + Drop> Pen<'a, T> {
 
     /// Writes a string under a name.
     fn put_string(&mut self, toll: &mut Toll, name: NameId, text: &Txt) -> Result<(), PutStop>
+        requires can { can_be_spelled text.now ≡ true }
         requires name { IsName self.old.config.tables name }
         requires few { NoneLonger (2 ^ 31) self.old.config.tables }
         ensures put { PutsIn result (piece.value datatype.text (align_of self.old.setting.options) name (shape.text text.now) self.old.config.tables) self.old self.new toll.old toll.new }
     {
         let options = self.book.options();
         let tables = &mut self.tables;
-        if put_string(self.alloc, options, &mut self.out, toll, tables, name, text)? {
-            return Ok(());
-        }
-        Err(PutStop::NotDerived)
+        put_spelled(self.alloc, options, &mut self.out, toll, tables, name, text)?;
+        Ok(())
     }
 
     /// Writes a value that is a string.

@@ -16,7 +16,7 @@ use crate::pen::Pen;
 use bitflags::Flags;
 use exi_bits::BitOut;
 use exi_gram::{OptionFlags, Options};
-use exi_meter::Tally;
+use exi_meter::{Meter, Tally};
 use exi_names::{Event, QName};
 use exi_reader::{Alone, Outer, alone_in, innermost};
 use exi_tables::Tables;
@@ -93,6 +93,13 @@ impl<'a, T: Tables + Drop> Pen<'a, T> {
         ensures { result ≡ tally_fits self.now.config.meter tally.now }
     {
         self.meter.fits(tally)
+    }
+
+    /// What was charged, within which limits, and how many elements are open.
+    pub fn charged(&self) -> Meter
+        ensures { result ≡ self.now.config.meter }
+    {
+        self.meter
     }
 
     /// What was charged.

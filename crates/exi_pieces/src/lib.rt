@@ -8,6 +8,6 @@ mod pieces;
 mod spelled;
 mod values;
 
-pub use pieces::{put_declaration, put_known, put_literal, put_name, put_string, put_under};
+pub use pieces::{put_declaration, put_known, put_literal, put_name, put_spelled, put_under};
 pub use spelled::{can_be_spelled, can_name, can_tell};
 pub use values::put_value;

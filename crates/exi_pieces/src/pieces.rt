@@ -1,4 +1,4 @@
-ghost use Rattle.std.specs.Prelude.{◌≡◌, ◌<◌, ◌++◌, ◌&&◌, ◌^◌, ◌-◌, [], ◌∷◌, None, Some, IfOk, IfSome, OnOk, IsTrue, if◌then◌else◌, length};
+ghost use Rattle.std.specs.Prelude.{◌≡◌, ◌<◌, ◌++◌, ◌&&◌, ◌^◌, ◌-◌, [], ◌∷◌, None, Some, IfOk, IfSome, OnOk, IsTrue, if◌then◌else◌, length, true};
 ghost use Rattle.exi_bits.specs.Written.{IsWholeBytes};
 ghost use Rattle.exi_gram.specs.Switches.{align_of, prefixes};
 ghost use Rattle.exi_names.specs.Shown.{named};
@@ -165,8 +165,8 @@ pub fn put_under<T: Tables>(
     Ok(Some(id))
 }
 
-/// Writes a string value of a name. False where it has no spelling.
-pub fn put_string<T: Tables>(
+/// Writes a string value of a name, which has to have a spelling.
+pub fn put_spelled<T: Tables>(
     alloc: Global,
     options: &Options,
     out: &mut BitOut,
@@ -174,22 +174,18 @@ pub fn put_string<T: Tables>(
     tables: &mut T,
     name: NameId,
     text: &Txt,
-) -> Result<bool, AllocError>
+) -> Result<(), AllocError>
+    requires can { can_be_spelled text.now ≡ true }
     requires name { IsName (T.held tables.old) name }
     requires few { NoneLonger (2 ^ 31) (T.held tables.old) }
     requires aligned { IsWholeBytes (align_of options.now) out.old }
-    ensures can { IfOk result (λ b. b ≡ can_be_spelled text.now) }
-    ensures bits { IfOk result (λ b. IsTrue b → out.new ≡ out.old ++ string_bits None (align_of options.now) (T.held tables.old) name text.now) }
-    ensures tables { IfOk result (λ b. IsTrue b → T.held tables.new ≡ after_string (T.held tables.old) name text.now) }
-    ensures toll { IfOk result (λ b. IsTrue b → toll.new ≡ charge (length text.now ∷ []) toll.old) }
+    ensures bits { OnOk result (out.new ≡ out.old ++ string_bits None (align_of options.now) (T.held tables.old) name text.now) }
+    ensures tables { OnOk result (T.held tables.new ≡ after_string (T.held tables.old) name text.now) }
+    ensures toll { OnOk result (toll.new ≡ charge (length text.now ∷ []) toll.old) }
     ensures aligned { IsWholeBytes (align_of options.now) out.new }
 {
-    if !can_be_spelled(text) {
-        return Ok(false);
-    }
     toll.text(text.count());
-    write_string(alloc, out, text, None, options.align(), name, tables)?;
-    Ok(true)
+    write_string(alloc, out, text, None, options.align(), name, tables)
 }
 
 /// Writes a namespace declaration. False where it has no spelling.

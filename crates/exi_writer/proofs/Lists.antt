@@ -1,12 +1,11 @@
 -- A whole list, event by event.
 use Rattle.std.proofs.Common.{◌≡◌, ℕ, zero, suc, ◌+◌, ◌<◌, get_or, Bool, true, false, cond, drop, List, [], ◌∷◌, ◌++◌, length, map, Option, Some, None, refl, sym, ap, ◌∙◌, subst, append_assoc, append-nil, arith}
-use Rattle.std.specs.Prelude.{Result, Ok, Err}
+use Rattle.std.specs.Prelude.{◌≤◌, Result, Ok, Err, IsSome, is_some}
 use Rattle.exi_meter.specs.Metering.{Bounds}
 use Rattle.exi_names.specs.Events.{Happening}
 use Rattle.exi_pen.specs.Steps.{begins_fragment}
-use Rattle.exi_reader.specs.Configurations.{Config, Setting, first_config}
+use Rattle.exi_reader.specs.Configurations.{Config, Setting}
 use Rattle.exi_reader.specs.Runs.{has_ended}
-use Rattle.exi_reader.specs.declared.start.Start.TheVariants as start
 use Rattle.exi_toll.specs.declared.stop.PutStop.{PutStop}
 use Rattle.exi_toll.specs.declared.stop.PutStop.TheVariants as stop
 use Rattle.exi_writing.specs.OneEvent.{Refused, Written, ◌>>=◌, limit, not_derived, written}
@@ -15,7 +14,9 @@ use Rattle.exi_writing.specs.Runs.{Refusal, Run, behind_run, body, go_on, in_fro
 use Rattle.exi_writing.proofs.OneEvent.{bind_parts}
 use Rattle.exi_writer.proofs.Composed.{then_parts}
 use Rattle.exi_writer.proofs.Putting.{no_wait, put_behind, put_refused}
-use Rattle.exi_writer.specs.Writing.{Bodies, Composes, Composing, MayGoOn, PutsOne, PutsWhole, composed_behind, fault_of, first_composing}
+use Rattle.exi_writer.specs.Writing.{Answers, Begins, Bodies, Composes, Composing, Listing, MayGoOn, MayTake, MayTakeBy, PutsOne, PutsWhole, Takes, composed_behind, fault_of, first_composing, steps_of}
+use Rattle.exi_writer.specs.declared.fault.WriteFault.{WriteFault}
+use Rattle.exi_writer.specs.declared.fault.WriteFault.TheVariants as fault
 
 -- ---- an event, and the fragment that it begins
 abbrev refused_run : Refused → Result Run Refused
@@ -86,89 +87,83 @@ pub put_entered : (x : Bool) (res : Result (Unit {0}) PutStop) (old mid new : Co
 put_entered true res old mid new o e h k = wholes_entered res old mid new o h k
 put_entered false res old mid new o e h k = no_wait (sym e)
 
--- ---- so many events of the list are written
-pub record SoFar (g : Setting) (limits : Bounds) (head : List Bool) (all : List Happening) (n : ℕ) (w : Composing) : Type 0 where
-  pub run : Run
-  pub left : body g (length head) limits all ≡ behind_run run (put_from (suc n) g w.config (drop n all))
-  pub bits : w.bits ≡ head ++ run.bits
-  pub setting : w.setting ≡ g
-  pub going : w.waits ≡ false
-  pub may : MayGoOn w
-
-nothing_front : (c : Config) (o : Result Run Refusal) → o ≡ behind_run (nothing_from c) o
-nothing_front c (Ok s) = refl
-nothing_front c (Err e) = refl
-
-abbrev joined : Run → Run → Run
-joined a b = record { bits = a.bits ++ b.bits; events = a.events ++ b.events; last = b.last }
-
-both_runs : (a b : Run) (o : Result Run Refusal) → behind_run a (behind_run b o) ≡ behind_run (joined a b) o
-both_runs a b (Ok s) = ap (λ (z : List Bool). Ok (record { bits = z; events = a.events ++ (b.events ++ s.events); last = s.last })) (sym (append_assoc a.bits b.bits s.bits)) ∙ ap (λ (z : List (Option Happening)). Ok (record { bits = (a.bits ++ b.bits) ++ s.bits; events = z; last = s.last })) (sym (append_assoc a.events b.events s.events))
-both_runs a b (Err e) = refl
-
-pub so_far_first : (g : Setting) (limits : Bounds) (head : List Bool) (all : List Happening) (w : Composing) → w ≡ first_composing g limits head → MayGoOn w → SoFar g limits head all 0 w
-unfolding body
-so_far_first g limits head all w is may =
-    let c : Config = first_config g (length head) start.Body limits in
-    record {
-      run = nothing_from c;
-      left = nothing_front c (put_from 1 g c all) ∙ ap (λ (z : Composing). behind_run (nothing_from c) (put_from 1 g z.config all)) (sym is);
-      bits = ap (λ (z : Composing). z.bits) is ∙ sym (append-nil head);
-      setting = ap (λ (z : Composing). z.setting) is;
-      going = ap (λ (z : Composing). z.waits) is;
-      may = may;
-    }
-
 -- ---- one event more
-step_by : (g : Setting) (limits : Bounds) (head : List Bool) (all rest : List Happening) (n : ℕ) (w v : Composing) (o : Option Happening) → g ≡ w.setting → (s : SoFar g limits head all n w) → drop (suc n) all ≡ rest → body g (length head) limits all ≡ behind_run s.run (put_then (suc n) g w.config o (λ d. put_from (suc (suc n)) g d rest)) → PutsWhole (Ok tt) w v o → v.waits ≡ false → MayGoOn v → SoFar g limits head all (suc n) v
-step_by g limits head all rest n w v None same s behind left h going may = record {
-  run = s.run;
-  left = left ∙ (ap (λ (z : Composing). behind_run s.run (put_from (suc (suc n)) g z.config rest)) (sym h.1) ∙ ap (λ (z : List Happening). behind_run s.run (put_from (suc (suc n)) g v.config z)) (sym behind));
-  bits = ap (λ (z : Composing). z.bits) h.1 ∙ s.bits;
-  setting = ap (λ (z : Composing). z.setting) h.1 ∙ s.setting;
-  going = going;
-  may = may;
-}
-step_by g limits head all rest n w v (Some e) same s behind left h going may =
+-- what is answered behind a run is answered of the run and of what is behind it
+behind_bits : (answer : Result (List Bool) WriteFault) (head : List Bool) (r : Run) (o : Result Run Refusal) → Bodies answer (head ++ r.bits) o → Bodies answer head (behind_run r o)
+behind_bits (Ok out) head r o (s, is, e) = (record { bits = r.bits ++ s.bits; events = r.events ++ s.events; last = s.last }, ap (behind_run r) is, e ∙ append_assoc head r.bits s.bits)
+behind_bits (Err (fault.NotDerived n)) head r o is = ap (behind_run r) is
+behind_bits (Err (fault.Limit n k)) head r o (m, is) = (m, ap (behind_run r) is)
+behind_bits (Err fault.Memory) head r o is = tt
+
+put_on : (w v : Composing) (n : ℕ) (o : Option Happening) → PutsWhole (Ok tt) w v o → (es : List Happening) (answer : Result (List Bool) WriteFault) → Bodies answer v.bits (put_from (suc n) v.setting v.config es) → Bodies answer w.bits (put_then n w.setting w.config o (λ d. put_from (suc n) w.setting d es))
+put_on w v n None h es answer k = subst (λ (z : Composing). Bodies answer z.bits (put_from (suc n) z.setting z.config es)) h.1 k
+put_on w v n (Some e) h es answer k =
     let r = h.0 in
-    let is : put g w.config e ≡ Ok r = ap (λ (z : Setting). put z w.config e) same ∙ h.1 in
-    record {
-      run = joined s.run r;
-      left = left ∙ (ap (λ (z : Result Run Refused). behind_run s.run (go_on (suc n) z (λ d. put_from (suc (suc n)) g d rest))) is ∙ (both_runs s.run r (put_from (suc (suc n)) g r.last rest) ∙ (ap (λ (z : Composing). behind_run (joined s.run r) (put_from (suc (suc n)) g z.config rest)) (sym h.2) ∙ ap (λ (z : List Happening). behind_run (joined s.run r) (put_from (suc (suc n)) g v.config z)) (sym behind))));
-      bits = ap (λ (z : Composing). z.bits) h.2 ∙ (ap (λ (z : List Bool). z ++ r.bits) s.bits ∙ append_assoc head s.run.bits r.bits);
-      setting = ap (λ (z : Composing). z.setting) h.2 ∙ s.setting;
-      going = going;
-      may = may;
-    }
+    let there : Bodies answer (w.bits ++ r.bits) (put_from (suc n) w.setting r.last es) = subst (λ (z : Composing). Bodies answer z.bits (put_from (suc n) z.setting z.config es)) h.2 k in
+    subst (λ (z : Result Run Refused). Bodies answer w.bits (go_on n z (λ d. put_from (suc n) w.setting d es))) (sym h.1) (behind_bits answer w.bits r (put_from (suc n) w.setting r.last es) there)
 
-here : (g : Setting) (limits : Bounds) (head : List Bool) (all : List Happening) (n : ℕ) (w : Composing) (e : Happening) (rest : List Happening) → (s : SoFar g limits head all n w) → drop n all ≡ e ∷ rest → body g (length head) limits all ≡ behind_run s.run (put_then (suc n) g w.config (pruned w.setting.options e) (λ d. put_from (suc (suc n)) g d rest))
-here g limits head all n w e rest s front = s.left ∙ (ap (λ (z : List Happening). behind_run s.run (put_from (suc n) g w.config z)) front ∙ ap (λ (z : Setting). behind_run s.run (put_then (suc n) g w.config (pruned z.options e) (λ d. put_from (suc (suc n)) g d rest))) (sym s.setting))
+none_refused : (f : Option WriteFault) → false ≡ is_some f → f ≡ None
+none_refused None h = refl
+none_refused (Some why) h = absurd cc
 
-pub so_far_more : (g : Setting) (limits : Bounds) (head : List Bool) (all : List Happening) (n : ℕ) (w v : Composing) (e : Happening) → SoFar g limits head all n w → drop n all ≡ e ∷ drop (suc n) all → PutsWhole (Ok tt) w v (pruned w.setting.options e) → v.waits ≡ false → MayGoOn v → SoFar g limits head all (suc n) v
-so_far_more g limits head all n w v e s front h going may = step_by g limits head all (drop (suc n) all) n w v (pruned w.setting.options e) (sym s.setting) s refl (here g limits head all n w e (drop (suc n) all) s front) h going may
+pub takes_one : (old : Listing) (w v : Composing) (n m : ℕ) (f : Option WriteFault) (e : Happening) → record { written = w; number = n; refused = f } ≡ old → false ≡ is_some f → m ≡ suc n → PutsWhole (Ok tt) w v (pruned w.setting.options e) → Takes old e (record { written = v; number = m; refused = f })
+takes_one old w v n m f e is none up h =
+    let bare : f ≡ None = none_refused f none in
+    subst (λ (l : Listing). Takes l e (record { written = v; number = m; refused = f })) is (rw (bare, up) record { behind = put_on w v n (pruned w.setting.options e) h })
 
 -- ---- where it stops
-fails_by : (st : PutStop) (g : Setting) (head : List Bool) (n : ℕ) (w v : Composing) (o : Option Happening) (run : Run) (next : Config → Result Run Refusal) (all : Result Run Refusal) → g ≡ w.setting → all ≡ behind_run run (put_then (suc n) g w.config o next) → PutsWhole (Err st) w v o → Bodies (Err (fault_of (suc n) st)) head all
-fails_by st g head n w v None run next all same left h = absurd (let k = h.0 in cc)
-fails_by stop.NotDerived g head n w v (Some e) run next all same left h = left ∙ ap (λ (z : Result Run Refused). behind_run run (go_on (suc n) z next)) (ap (λ (z : Setting). put z w.config e) same ∙ h)
-fails_by (stop.Limit k) g head n w v (Some e) run next all same left h = (v.config.meter, left ∙ ap (λ (z : Result Run Refused). behind_run run (go_on (suc n) z next)) (ap (λ (z : Setting). put z w.config e) same ∙ h))
-fails_by stop.Memory g head n w v (Some e) run next all same left h = tt
+refused_on : (st : PutStop) (w v : Composing) (n : ℕ) (o : Option Happening) (others : Config → Result Run Refusal) → PutsWhole (Err st) w v o → Bodies (Err (fault_of n st)) w.bits (put_then n w.setting w.config o others)
+refused_on st w v n None others h = absurd (let k = h.0 in cc)
+refused_on stop.NotDerived w v n (Some e) others h = ap (λ (z : Result Run Refused). go_on n z others) h
+refused_on (stop.Limit k) w v n (Some e) others h = (v.config.meter, ap (λ (z : Result Run Refused). go_on n z others) h)
+refused_on stop.Memory w v n (Some e) others h = tt
 
-pub so_far_fails : (st : PutStop) (g : Setting) (limits : Bounds) (head : List Bool) (all : List Happening) (n m : ℕ) (w v : Composing) (e : Happening) → SoFar g limits head all n w → m ≡ suc n → drop n all ≡ e ∷ drop (suc n) all → PutsWhole (Err st) w v (pruned w.setting.options e) → Bodies (Err (fault_of m st)) head (body g (length head) limits all)
-so_far_fails st g limits head all n m w v e s count front h =
-    subst (λ (i : ℕ). Bodies (Err (fault_of i st)) head (body g (length head) limits all)) (sym count) (fails_by st g head n w v (pruned w.setting.options e) s.run (λ d. put_from (suc (suc n)) g d (drop (suc n) all)) (body g (length head) limits all) (sym s.setting) (here g limits head all n w e (drop (suc n) all) s front) h)
+pub takes_refused : (st : PutStop) (old : Listing) (w v : Composing) (n : ℕ) (f : Option WriteFault) (e : Happening) (why : WriteFault) → record { written = w; number = n; refused = f } ≡ old → false ≡ is_some f → why ≡ fault_of n st → PutsWhole (Err st) w v (pruned w.setting.options e) → Takes old e (record { written = v; number = n; refused = Some why })
+takes_refused st old w v n f e why is none stands h =
+    let bare : f ≡ None = none_refused f none in
+    subst (λ (l : Listing). Takes l e (record { written = v; number = n; refused = Some why })) is (rw (bare, stands) record {
+      behind = λ es answer k. subst (λ (z : Result (List Bool) WriteFault). Bodies z w.bits (put_from n w.setting w.config (e ∷ es))) (sym k) (refused_on st w v n (pruned w.setting.options e) (λ d. put_from (suc n) w.setting d es) h);
+    })
 
--- ---- the end
-at_last : (g : Setting) (limits : Bounds) (head : List Bool) (all : List Happening) (n : ℕ) (w : Composing) → (s : SoFar g limits head all n w) → drop n all ≡ [] → (b : Bool) → has_ended w.config ≡ b → body g (length head) limits all ≡ behind_run s.run (cond b (Ok (nothing_from w.config)) (Err (record { event = suc n; why = not_derived })))
-at_last g limits head all n w s none b h = s.left ∙ (ap (λ (z : List Happening). behind_run s.run (put_from (suc n) g w.config z)) none ∙ ap (λ (z : Bool). behind_run s.run (cond z (Ok (nothing_from w.config)) (Err (record { event = suc n; why = not_derived })))) h)
+still : (w : Composing) (n : ℕ) (f : Option WriteFault) (e : Happening) → true ≡ is_some f → Takes (record { written = w; number = n; refused = f }) e (record { written = w; number = n; refused = f })
+still w n None e some = absurd cc
+still w n (Some why) e some = record { behind = λ es answer k. k }
 
-pub so_far_open : (g : Setting) (limits : Bounds) (head : List Bool) (all : List Happening) (n m : ℕ) (w : Composing) → SoFar g limits head all n w → drop n all ≡ [] → m ≡ suc n → has_ended w.config ≡ false → Bodies (Err (fault_of m stop.NotDerived)) head (body g (length head) limits all)
-so_far_open g limits head all n m w s none count h = subst (λ (i : ℕ). Bodies (Err (fault_of i stop.NotDerived)) head (body g (length head) limits all)) (sym count) (at_last g limits head all n w s none false h)
+pub takes_still : (old : Listing) (w : Composing) (n : ℕ) (f : Option WriteFault) (e : Happening) → record { written = w; number = n; refused = f } ≡ old → true ≡ is_some f → Takes old e old
+takes_still old w n f e is some = subst (λ (l : Listing). Takes l e l) is (still w n f e some)
 
-pub so_far_done : (g : Setting) (limits : Bounds) (head : List Bool) (all : List Happening) (n : ℕ) (w : Composing) (out : List Bool) → SoFar g limits head all n w → drop n all ≡ [] → has_ended w.config ≡ true → out ≡ w.bits → Bodies (Ok out) head (body g (length head) limits all)
-so_far_done g limits head all n w out s none h is = (joined s.run (nothing_from w.config), at_last g limits head all n w s none true h, is ∙ (s.bits ∙ ap (λ (z : List Bool). head ++ z) (sym (append-nil s.run.bits))))
+-- where none was refused, nothing is told of what is behind one that was
+pub none_before : (old new : Listing) (w : Composing) (n : ℕ) (f : Option WriteFault) → record { written = w; number = n; refused = f } ≡ old → false ≡ is_some f → IsSome old.refused → new ≡ old
+none_before old new w n f is none some = no_wait (sym some ∙ (ap (λ (l : Listing). is_some l.refused) (sym is) ∙ sym none))
 
--- ---- by events
+pub may_here : (old : Listing) (w : Composing) (n : ℕ) (f : Option WriteFault) → record { written = w; number = n; refused = f } ≡ old → false ≡ is_some f → MayTake old → (w.waits ≡ false) × MayGoOn w
+may_here old w n f is none k = subst (λ (z : Option WriteFault). MayTakeBy z w) (none_refused f none) (subst MayTake (sym is) k)
+
+pub may_on : (w : Composing) (f : Option WriteFault) → w.waits ≡ false → MayGoOn w → MayTakeBy f w
+may_on w None waits may = (waits, may)
+may_on w (Some why) waits may = tt
+
+pub one_step : (o : Option Happening) → steps_of o ≤ 1
+one_step None = omega arith
+one_step (Some e) = omega arith
+
+-- ---- first and last
+pub begins_first : (head : List Bool) (g : Setting) (limits : Bounds) (w : Composing) → w ≡ first_composing g limits head → Begins head g limits (record { written = w; number = 1; refused = None })
+unfolding body
+begins_first head g limits w is = rw is record { whole = λ es answer k. k }
+
+pub ends_done : (l : Listing) (w : Composing) (n : ℕ) (f : Option WriteFault) (out : List Bool) → record { written = w; number = n; refused = f } ≡ l → f ≡ None → has_ended w.config ≡ true → out ≡ w.bits → Answers (Ok out) l []
+ends_done l w n f out is none ended same = subst (λ (z : Listing). Answers (Ok out) z []) is (rw none (nothing_from w.config, rw ended refl, same ∙ sym (append-nil w.bits)))
+
+-- ---- so many events of a list are taken
+pub record SoFar (g : Setting) (limits : Bounds) (head : List Bool) (all : List Happening) (n : ℕ) (l : Listing) : Type 0 where
+  pub rest : (answer : Result (List Bool) WriteFault) → Answers answer l (drop n all) → Bodies answer head (body g (length head) limits all)
+  pub going : MayTake l
+  pub few : l.number ≤ n + 1
+
+pub so_far_first : (g : Setting) (limits : Bounds) (head : List Bool) (all : List Happening) (l : Listing) → Begins head g limits l → MayTake l → l.number ≡ 1 → SoFar g limits head all 0 l
+so_far_first g limits head all l begins going one = record { rest = begins.whole all; going = going; few = omega (arith, one) }
+
 event_at : {X : Type 0} (f : X → Happening) (xs : List X) (n : ℕ) (x : X) → n < length xs → x ≡ get_or xs n x → drop n (map f xs) ≡ f x ∷ drop (suc n) (map f xs)
 event_at {X} f [] n x within is = absurd (omega (arith, within))
 event_at {X} f (y ∷ xs) zero x within is = ap (λ (z : X). f z ∷ map f xs) (sym is)
@@ -181,15 +176,13 @@ none_at {X} f xs n e = ap (λ (i : ℕ). drop i (map f xs)) e ∙ none_left xs
     none_left [] = refl
     none_left (y ∷ ys) = none_left ys
 
-pub list_more : {X : Type 0} (f : X → Happening) (g : Setting) (limits : Bounds) (head : List Bool) (xs : List X) (n m : ℕ) (w v : Composing) (x : X) → SoFar g limits head (map f xs) n w → n < length xs → x ≡ get_or xs n x → m ≡ suc n → PutsWhole (Ok tt) w v (pruned w.setting.options (f x)) → v.waits ≡ false → MayGoOn v → SoFar g limits head (map f xs) m v
-list_more {X} f g limits head xs n m w v x s within is count h going may =
-    subst (λ (i : ℕ). SoFar g limits head (map f xs) i v) (sym count) (so_far_more g limits head (map f xs) n w v (f x) s (event_at f xs n x within is) h going may)
+pub so_far_more : {X : Type 0} (f : X → Happening) (g : Setting) (limits : Bounds) (head : List Bool) (xs : List X) (n m : ℕ) (l k : Listing) (x : X) → SoFar g limits head (map f xs) n l → n < length xs → x ≡ get_or xs n x → m ≡ suc n → Takes l (f x) k → MayTake k → k.number ≤ l.number + 1 → SoFar g limits head (map f xs) m k
+so_far_more {X} f g limits head xs n m l k x s within is up takes going count =
+    rw up record {
+      rest = λ answer h. s.rest answer (subst (λ (es : List Happening). Answers answer l es) (sym (event_at f xs n x within is)) (takes.behind (drop (suc n) (map f xs)) answer h));
+      going = going;
+      few = (let few = s.few in omega (arith, few, count));
+    }
 
-pub list_fails : {X : Type 0} (f : X → Happening) (st : PutStop) (g : Setting) (limits : Bounds) (head : List Bool) (xs : List X) (n m : ℕ) (w v : Composing) (x : X) → SoFar g limits head (map f xs) n w → n < length xs → x ≡ get_or xs n x → m ≡ suc n → PutsWhole (Err st) w v (pruned w.setting.options (f x)) → Bodies (Err (fault_of m st)) head (body g (length head) limits (map f xs))
-list_fails {X} f st g limits head xs n m w v x s within is count h = so_far_fails st g limits head (map f xs) n m w v (f x) s count (event_at f xs n x within is) h
-
-pub list_open : {X : Type 0} (f : X → Happening) (g : Setting) (limits : Bounds) (head : List Bool) (xs : List X) (n m : ℕ) (w : Composing) → SoFar g limits head (map f xs) n w → n ≡ length xs → m ≡ suc n → has_ended w.config ≡ false → Bodies (Err (fault_of m stop.NotDerived)) head (body g (length head) limits (map f xs))
-list_open {X} f g limits head xs n m w s e count h = so_far_open g limits head (map f xs) n m w s (none_at f xs n e) count h
-
-pub list_done : {X : Type 0} (f : X → Happening) (g : Setting) (limits : Bounds) (head : List Bool) (xs : List X) (n : ℕ) (w : Composing) (out : List Bool) → SoFar g limits head (map f xs) n w → n ≡ length xs → has_ended w.config ≡ true → out ≡ w.bits → Bodies (Ok out) head (body g (length head) limits (map f xs))
-list_done {X} f g limits head xs n w out s e h is = so_far_done g limits head (map f xs) n w out s (none_at f xs n e) h is
+pub so_far_all : {X : Type 0} (f : X → Happening) (g : Setting) (limits : Bounds) (head : List Bool) (xs : List X) (n : ℕ) (l : Listing) (answer : Result (List Bool) WriteFault) → SoFar g limits head (map f xs) n l → n ≡ length xs → Answers answer l [] → Bodies answer head (body g (length head) limits (map f xs))
+so_far_all {X} f g limits head xs n l answer s last h = s.rest answer (subst (λ (es : List Happening). Answers answer l es) (sym (none_at f xs n last)) h)

@@ -1,7 +1,7 @@
 -- One event of a list, in the words of the definition of writing: what the pen wrote of it, and what a fragment has of its own
 -- behind it.
-use Rattle.std.proofs.Common.{◌≡◌, ◌≢◌, ◌⊎◌, inl, inr, ℕ, ◌+◌, Bool, true, false, cond, List, [], ◌∷◌, ◌++◌, Option, Some, refl, sym, ap, ◌∙◌, subst, append_assoc, append-nil}
-use Rattle.std.specs.Prelude.{Result, Ok, Err, OnOk}
+use Rattle.std.proofs.Common.{◌≡◌, ◌≢◌, ◌⊎◌, inl, inr, ℕ, Bool, true, false, cond, List, [], ◌∷◌, ◌++◌, Option, Some, None, refl, sym, ap, ◌∙◌, subst, append_assoc, append-nil}
+use Rattle.std.specs.Prelude.{Result, Ok, Err, OnOk, OnErr}
 use Rattle.std.proofs.lemmas.List.Elements.{All-head}
 use Rattle.exi_builtin.specs.Learning.{Learning}
 use Rattle.exi_gram.specs.declared.options.Options.{Options}
@@ -9,7 +9,7 @@ use Rattle.exi_meter.specs.Metering.{Metering}
 use Rattle.exi_names.specs.Events.{Happening}
 use Rattle.exi_names.specs.Events as event
 use Rattle.exi_names.specs.declared.names.QName.{QName}
-use Rattle.exi_pen.specs.Pages.{IsReady, Page, Writes, WritesFragment, by_chosen, fragment_page, page_behind}
+use Rattle.exi_pen.specs.Pages.{IsReady, Page, Writes, WritesFragment, by_chosen, fragment_page, page_behind, refused_meter, refused_page}
 use Rattle.exi_pen.specs.Steps.{StepsAs, begins_fragment, left_of}
 use Rattle.exi_reader.proofs.Steady.{open_name}
 use Rattle.exi_reader.specs.Changes.{has_level, innermost, put_aside, texts_of}
@@ -36,7 +36,7 @@ use Rattle.exi_writing.specs.Runs.{Run, in_front, nothing_from, own, put, then_r
 use Rattle.exi_writing.proofs.OneEvent.{one_going}
 use Rattle.exi_writer.proofs.Composed.{composed_on, composed_same, fragment_at, may_all, may_same, ready}
 use Rattle.exi_writer.proofs.Moves.{Away, begin_goes, end_goes, next_away, sc_given, start_goes}
-use Rattle.exi_writer.specs.Writing.{Composes, Composing, IsAtFragment, IsComposed, MayGoOn, PutsOne, WritesAll, closing_events, closing_in, composed_behind, composing_at, page_after, put_so_far}
+use Rattle.exi_writer.specs.Writing.{Composes, Composing, IsAtFragment, IsComposed, IsUncharged, MayGoOn, PutsOne, WritesAll, closing_events, closing_in, composed_behind, composing_at, page_after, put_so_far}
 
 -- ---- events one after another
 pub all_refused : (g : Setting) (c : Config) (e : Happening) (es : List Happening) (why : Refused) → written g c e ≡ Err why → written_all g c (e ∷ es) ≡ Err why
@@ -347,8 +347,11 @@ starts_on res p q r n at h more =
     (subst (λ (z : Page). WritesAll res q r (written_all z.setting z.config (event.se (pruned_name z.setting.options n) ∷ []))) h.2 second)
 
 -- ---- as it is answered
-pub left_seen : (p : Page) (w : Bool) (r : Composing) (h e : Happening) → view p w ≡ r → pruned p.setting.options h ≡ Some e → pruned r.setting.options h ≡ Some e
-left_seen p w r h e is k = ap (λ (z : Composing). pruned z.setting.options h) (sym is) ∙ k
+pub left_there : (p : Page) (w : Bool) (r : Composing) (h : Happening) → view p w ≡ r → pruned p.setting.options h ≡ Some (left_of p.setting.options h) → pruned r.setting.options h ≡ Some (left_of r.setting.options h)
+left_there p w r h is k = subst (λ (z : Composing). pruned z.setting.options h ≡ Some (left_of z.setting.options h)) is k
+
+pub left_kept : (p : Page) (w : Bool) (r : Composing) (h : Happening) → view p w ≡ r → pruned r.setting.options h ≡ Some (left_of r.setting.options h) → pruned r.setting.options h ≡ Some (left_of p.setting.options h)
+left_kept p w r h is k = k ∙ ap (λ (z : Composing). Some (left_of z.setting.options h)) (sym is)
 
 pub told_sc : (x : Bool) (p q : Page) (w : Bool) (r : Composing) (o : Option Happening) (h : Happening) → view p w ≡ r → r.waits ≡ false → o ≡ Some (left_of p.setting.options h) → x ≡ true → x ≡ begins_fragment h → StepsAs (begins_fragment h) (Ok x) p q (written p.setting p.config (left_of p.setting.options h)) → PutsOne (Ok true) r (view q true) o
 told_sc true p q w r o h is g left t told k = puts_sc (begins_fragment h) p q w r o h is g left told refl k
@@ -361,3 +364,42 @@ told_at_fragment law false p q w r h is g k t told s = no_wait (sym t)
 pub enters_on : OneIsRead → (res : Result (Unit {0}) PutStop) (q s : Page) (es : List Happening) → IsComposed (composing_at q) → WritesAll res q s (written_all q.setting q.config es) → OnOk res (MayGoOn (view s false))
 enters_on law (Ok x) q s es k h = enters_may law q s es k h
 enters_on law (Err e) q s es k h = tt
+
+-- ---- behind a refusal
+abbrev refused_so : Refused → Result Run Refused
+refused_so why = Err why
+
+-- of what stands then, only what is charged is told
+pub puts_refused : (s : PutStop) (m : Metering) (old mid new : Composing) (o : Option Happening) → new.config.meter ≡ refused_meter s m mid.config.meter → PutsOne (Err s) old mid o → PutsOne (Err s) old new o
+puts_refused s m old mid new None is h = absurd (let k = h.0 in cc)
+puts_refused stop.NotDerived m old mid new (Some e) is h = (h.0, tt)
+puts_refused (stop.Limit k) m old mid new (Some e) is h = (h.0 ∙ ap (λ (z : Metering). refused_so (limit k z)) (sym is), tt)
+puts_refused stop.Memory m old mid new (Some e) is h = (tt, tt)
+
+pub enters_refused : (s : PutStop) (m : Metering) (old mid new : Composing) (o : Result Run Refused) → new.config.meter ≡ refused_meter s m mid.config.meter → Composes {X = Unit {0}} (Err s) old mid false o → Composes {X = Unit {0}} (Err s) old new false o
+enters_refused stop.NotDerived m old mid new o is h = h
+enters_refused (stop.Limit k) m old mid new o is h = h ∙ ap (λ (z : Metering). refused_so (limit k z)) (sym is)
+enters_refused stop.Memory m old mid new o is h = tt
+
+pub refused_uncharged : (X : Type 0) (s : PutStop) (m : Metering) (old mid new : Composing) → m ≡ old.config.meter → new.config.meter ≡ refused_meter s m mid.config.meter → IsUncharged {X = X} (Err s) old new
+refused_uncharged X stop.NotDerived m old mid new before is = is ∙ before
+refused_uncharged X (stop.Limit k) m old mid new before is = tt
+refused_uncharged X stop.Memory m old mid new before is = tt
+
+-- it has not ended, whether it stood at a fragment or not
+pub refused_goes : (s : PutStop) (m : Metering) (p q : Page) (w : Bool) → q ≡ refused_page s m p → has_ended (fragment_in w q.setting q.config) ≡ false
+refused_goes s m p q true is = refl
+refused_goes s m p q false is = ap (λ (z : Page). has_ended z.config) is
+
+pub refused_charges : (s : PutStop) (m : Metering) (p q : Page) (w : Bool) (r : Composing) → view p w ≡ r → q ≡ refused_page s m p → (fragment_in w q.setting q.config).meter ≡ refused_meter s m r.config.meter
+refused_charges s m p q true r e is = ap (λ (z : Page). z.config.meter) is ∙ ap (λ (z : Composing). refused_meter s m z.config.meter) e
+refused_charges s m p q false r e is = ap (λ (z : Page). z.config.meter) is ∙ ap (λ (z : Composing). refused_meter s m z.config.meter) e
+
+-- at a fragment it has not ended
+pub waits_goes : (p q : Page) (w : Bool) (r : Composing) → view p w ≡ r → r.waits ≡ true → has_ended (fragment_in w q.setting q.config) ≡ false
+waits_goes p q true r e h = refl
+waits_goes p q false r e h = no_wait (sym (ap (λ (z : Composing). z.waits) e ∙ h))
+
+pub on_err : {T E P : Type 0} → (r : Result T E) → P → OnErr r P
+on_err {T} {E} {P} (Ok x) p = tt
+on_err {T} {E} {P} (Err e) p = p

@@ -1,5 +1,5 @@
 -- What the calls of a writer promise, in the words of the definition of writing.
-use Rattle.std.specs.Prelude.{◌≡◌, ◌+◌, ◌*◌, ◌%◌, ◌/◌, ℕ, Bool, true, false, List, [], ◌∷◌, ◌++◌, length, Option, Some, None, Result, Ok, Err, IfOk, if◌then◌else◌}
+use Rattle.std.specs.Prelude.{◌≡◌, ◌*◌, ◌%◌, ◌/◌, ℕ, Bool, true, false, List, [], ◌∷◌, ◌++◌, length, Option, Some, None, Result, Ok, Err, IfOk, if◌then◌else◌}
 use Rattle.exi_bits.specs.Bits.{IsBytes, bits}
 use Rattle.exi_bits.specs.Written.{IsWholeBytes}
 use Rattle.exi_bits.specs.declared.align.Align.{Align}
@@ -22,7 +22,7 @@ use Rattle.exi_names.specs.StartTables.{IsStart}
 use Rattle.exi_pen.specs.Pages.{Page, first_page}
 use Rattle.exi_writing.specs.Pruned.{pruned_name}
 use Rattle.exi_pen.specs.Steps.{begins_fragment}
-use Rattle.exi_writing.specs.Runs.{Refusal, Run, opened, put, written_all}
+use Rattle.exi_writing.specs.Runs.{Refusal, Run, body, opened, put, put_from, written_all}
 use Rattle.exi_writing.specs.Sound.{HasSoundTables}
 use Rattle.exi_writer.specs.declared.start.WriteStart.{WriteStart}
 use Rattle.exi_writer.specs.declared.start.WriteStart.TheVariants as begin
@@ -91,6 +91,13 @@ Composes (Ok x) old new waits runs = (r : Run) × (runs ≡ Ok r) × (new ≡ co
 Composes (Err stop.NotDerived) old new waits runs = runs ≡ Err not_derived
 Composes (Err (stop.Limit k)) old new waits runs = runs ≡ Err (limit k new.config.meter)
 Composes (Err stop.Memory) old new waits runs = Unit {0}
+
+-- where no production stands, nothing was charged
+abbrev pub IsUncharged : {X : Type 0} → Result X PutStop → Composing → Composing → Type 0
+IsUncharged (Ok x) old new = Unit {0}
+IsUncharged (Err stop.NotDerived) old new = new.config.meter ≡ old.config.meter
+IsUncharged (Err (stop.Limit k)) old new = Unit {0}
+IsUncharged (Err stop.Memory) old new = Unit {0}
 
 -- the same of a page
 abbrev pub page_after : Page → Run → Page
@@ -184,3 +191,35 @@ Bodies (Ok out) head written = (r : Run) × (written ≡ Ok r) × (out ≡ head 
 Bodies (Err (fault.NotDerived n)) head written = written ≡ Err (record { event = n; why = not_derived })
 Bodies (Err (fault.Limit n k)) head written = (m : Metering) × (written ≡ Err (record { event = n; why = limit k m }))
 Bodies (Err fault.Memory) head written = Unit {0}
+
+-- ---- a list, one event after another
+-- what a writer of a list stands for: what is written of it, the number of the next event, counted from 1, and why no more are
+-- taken, where one was refused
+pub record Listing : Type 0 where
+  pub written : Composing
+  pub number : ℕ
+  pub refused : Option WriteFault
+
+-- these are the answers where these events come now, and then the list's end
+abbrev pub AnswersBy : Option WriteFault → Result (List Bool) WriteFault → Composing → ℕ → List Happening → Type 0
+AnswersBy None answer w n es = Bodies answer w.bits (put_from n w.setting w.config es)
+AnswersBy (Some f) answer w n es = answer ≡ Err f
+
+abbrev pub Answers : Result (List Bool) WriteFault → Listing → List Happening → Type 0
+Answers answer l es = AnswersBy l.refused answer l.written l.number es
+
+-- before its first event: what is answered of any list is the body of that list behind these bits
+pub record Begins (head : List Bool) (g : Setting) (limits : Bounds) (l : Listing) : Type 0 where
+  pub whole : (es : List Happening) (answer : Result (List Bool) WriteFault) → Answers answer l es → Bodies answer head (body g (length head) limits es)
+
+-- an event was taken: whatever comes behind it, what is answered now was to be answered of it and of what comes behind it
+pub record Takes (old : Listing) (e : Happening) (new : Listing) : Type 0 where
+  pub behind : (es : List Happening) (answer : Result (List Bool) WriteFault) → Answers answer new es → Answers answer old (e ∷ es)
+
+-- the next event may come: where none was refused, it stands between two events
+abbrev pub MayTakeBy : Option WriteFault → Composing → Type 0
+MayTakeBy None w = (w.waits ≡ false) × MayGoOn w
+MayTakeBy (Some f) w = Unit {0}
+
+abbrev pub MayTake : Listing → Type 0
+MayTake l = MayTakeBy l.refused l.written

@@ -1,8 +1,9 @@
 //! A writer of EXI 1.0 (sections 6, 7.1, 8.4 and 8.5), by a schema or without one, and what holds of what it writes.
 //!
-//! [`write_body`] writes a list of events behind a header's bits. A [`Writer`] takes one event at a time: [`Writer::put`]
-//! writes it, and where it was SC, [`Writer::enter`] goes into the fragment, or [`Writer::splice`] takes what was written of it
-//! apart. Without a schema, behind the header `80`, the events SD, SE "a", CH "x", EE, ED are `40 98 70 37 80`, bit by bit:
+//! [`write_body`] writes a list of events behind a header's bits, and a [`ListWriter`] a list whose events come one after
+//! another. A [`Writer`] takes one event at a time: [`Writer::put`] writes it, and where it was SC, [`Writer::enter`] goes into
+//! the fragment, or [`Writer::splice`] takes what was written of it apart. Without a schema, behind the header `80`, the events
+//! SD, SE "a", CH "x", EE, ED are `40 98 70 37 80`, bit by bit:
 //!
 //! ```text
 //!        SE(*)                             CH                        EE  ED
@@ -23,11 +24,13 @@ mod body;
 mod fault;
 mod fragments;
 pub mod laws;
+mod list;
 mod start;
 mod writer;
 
 pub use body::write_body;
 pub use exi_toll::PutStop;
 pub use fault::WriteFault;
+pub use list::ListWriter;
 pub use start::WriteStart;
 pub use writer::Writer;

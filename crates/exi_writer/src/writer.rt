@@ -1,17 +1,19 @@
-ghost use Rattle.std.specs.Prelude.{◌≡◌, ◌+◌, ◌%◌, false, length, true, IfOk, IsTrue, OnOk};
+ghost use Rattle.std.specs.Prelude.{◌≡◌, ◌+◌, ◌%◌, Some, false, length, true, IfOk, IsTrue, OnErr, OnOk};
 ghost use Rattle.exi_gram.specs.Switches.{align_of};
 ghost use Rattle.exi_meter.specs.Metering.{tally_fits};
 ghost use Rattle.exi_names.specs.Events.{happens};
+ghost use Rattle.exi_pen.specs.Pages.{refused_meter};
+ghost use Rattle.exi_pen.specs.Steps.{left_of};
 ghost use Rattle.exi_reader.specs.Runs.{has_ended};
 ghost use Rattle.exi_writing.specs.Pruned.{pruned};
 ghost use Rattle.exi_writing.specs.Runs.{own, written_all};
-ghost use Rattle.exi_writer.specs.Writing.{CanBegin, Composes, IsAtFragment, IsPart, MayGoOn, PutsOne, Starts, spliced_behind, steps_of};
+ghost use Rattle.exi_writer.specs.Writing.{CanBegin, Composes, IsAtFragment, IsPart, IsUncharged, MayGoOn, PutsOne, Starts, spliced_behind, steps_of};
 
 use crate::fragments::{leave_fragment, start_fragment};
 use crate::start::WriteStart;
 use exi_bits::BitOut;
 use exi_gram::Book;
-use exi_meter::{Limits, Tally};
+use exi_meter::{Limits, Meter, Tally};
 use exi_names::Event;
 use exi_pen::Pen;
 use exi_reader::Start;
@@ -95,7 +97,8 @@ impl<'a, T: Tables + Drop> Writer<'a, T> {
     ///
     /// `PutStop::NotDerived` where no production stands for the event or one of its items has no spelling, and after the
     /// end; else `PutStop::Limit` where a charge of the event passes its limit; `PutStop::Memory` where memory is refused.
-    /// Only [`Writer::tally`] may then be called; after `Limit` it has all charges before.
+    /// Only [`Writer::tally`] may then be called; after `NotDerived` it has what was charged before the event, and after `Limit`
+    /// all charges before that one. It has not ended then, even where it had before: no bits are given out.
     pub fn put<L: Ledger>(&mut self, event: &Event, steps: &mut Steps<L>) -> Result<bool, PutStop>
         requires going { self.old.waits ≡ false }
         requires composed { MayGoOn self.old }
@@ -104,12 +107,31 @@ impl<'a, T: Tables + Drop> Writer<'a, T> {
         ensures waits { IfOk result (λ b. self.new.waits ≡ b) }
         ensures fragment { IfOk result (λ b. IsTrue b → IsAtFragment self.new) }
         ensures steps { steps.new ≡ steps.old + steps_of (pruned self.old.setting.options (happens event.now)) }
+        ensures refused { OnErr result (has_ended self.new.config ≡ false) }
+        ensures uncharged { IsUncharged result self.old self.new }
     {
-        written_is_read();
         if self.pen.prunes(event) {
             return Ok(false);
         }
         steps.tick();
+        let before = self.charged();
+        match self.put_left(event) {
+            Ok(begins) => Ok(begins),
+            Err(stop) => Err(self.refuse(stop, before)),
+        }
+    }
+
+    /// Writes one event that the options leave.
+    fn put_left(&mut self, event: &Event) -> Result<bool, PutStop>
+        requires left { pruned self.old.setting.options (happens event.now) ≡ Some (left_of self.old.setting.options (happens event.now)) }
+        requires going { self.old.waits ≡ false }
+        requires composed { MayGoOn self.old }
+        ensures put { PutsOne result self.old self.new (pruned self.old.setting.options (happens event.now)) }
+        ensures composed { OnOk result (MayGoOn self.new) }
+        ensures waits { IfOk result (λ b. self.new.waits ≡ b) }
+        ensures fragment { IfOk result (λ b. IsTrue b → IsAtFragment self.new) }
+    {
+        written_is_read();
         if self.pen.has_ended() {
             return Err(PutStop::NotDerived);
         }
@@ -121,14 +143,50 @@ impl<'a, T: Tables + Drop> Writer<'a, T> {
         Ok(false)
     }
 
+    /// What was charged, within which limits, and how many elements are open.
+    fn charged(&self) -> Meter
+        ensures { result ≡ self.now.config.meter }
+    {
+        self.pen.charged()
+    }
+
+    /// Behind a refusal, before which so much was charged: it has not ended, so that no bits are given out, and an event for
+    /// which no production stands has charged nothing.
+    #[cold]
+    fn refuse(&mut self, stop: PutStop, before: Meter) -> PutStop
+        ensures stop { result ≡ stop }
+        ensures refused { has_ended self.new.config ≡ false }
+        ensures charged { self.new.config.meter ≡ refused_meter stop before self.old.config.meter }
+    {
+        self.pen.give_up(stop, before);
+        stop
+    }
+
     /// Goes into the fragment at which it stands: its SD, and SE of the element for which it stands. It has to stand at one.
     ///
     /// # Errors
     ///
     /// `PutStop::Limit` where the charge of that element's name passes, `PutStop::NotDerived` where writing has no spelling of
     /// that name, and `PutStop::Memory` where memory is refused.
-    /// Only [`Writer::tally`] may then be called.
+    /// Only [`Writer::tally`] may then be called, as after a refusal of [`Writer::put`].
     pub fn enter(&mut self) -> Result<(), PutStop>
+        requires waits { self.old.waits ≡ true }
+        requires at_fragment { IsAtFragment self.old }
+        ensures entered { Composes result self.old self.new false (written_all self.old.setting self.old.config (own self.old.config)) }
+        ensures composed { OnOk result (MayGoOn self.new) }
+        ensures waits { OnOk result (self.new.waits ≡ false) }
+        ensures refused { OnErr result (has_ended self.new.config ≡ false) }
+        ensures uncharged { IsUncharged result self.old self.new }
+    {
+        let before = self.charged();
+        match self.go_in() {
+            Ok(()) => Ok(()),
+            Err(stop) => Err(self.refuse(stop, before)),
+        }
+    }
+
+    /// Goes into the fragment.
+    fn go_in(&mut self) -> Result<(), PutStop>
         requires waits { self.old.waits ≡ true }
         requires at_fragment { IsAtFragment self.old }
         ensures entered { Composes result self.old self.new false (written_all self.old.setting self.old.config (own self.old.config)) }
@@ -154,7 +212,7 @@ impl<'a, T: Tables + Drop> Writer<'a, T> {
     ///
     /// # Errors
     ///
-    /// `AllocError` where memory is refused. Only [`Writer::tally`] may then be called.
+    /// `AllocError` where memory is refused. Only [`Writer::tally`] may then be called; it has not ended.
     pub fn splice(&mut self, bits: &BitOut, tally: &Tally) -> Result<(), AllocError>
         requires waits { self.old.waits ≡ true }
         requires at_fragment { IsAtFragment self.old }
@@ -162,6 +220,7 @@ impl<'a, T: Tables + Drop> Writer<'a, T> {
         requires fitting { tally_fits self.old.config.meter tally.now ≡ true }
         ensures spliced { OnOk result (self.new ≡ spliced_behind self.old bits.now tally.now) }
         ensures composed { OnOk result (IsPart self.old bits.now tally.now → MayGoOn self.new) }
+        ensures refused { OnErr result (has_ended self.new.config ≡ false) }
     {
         splices_are_runs();
         self.pen.splice(bits, tally)?;

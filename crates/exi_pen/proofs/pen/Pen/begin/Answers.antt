@@ -1,27 +1,15 @@
-use Rattle.std.proofs.Common.{refl, sym, ◌∙◌}
 use Rattle.exi_choice.specs.Choices.{wanting}
-use Rattle.exi_pen.proofs.Begun.{alone_there, are_charged, barred_begun, begun_by, fitted_in, found_is, misplaced_begun, no_element_begun, none_begun, none_found}
+use Rattle.exi_pen.proofs.PutCodes.{built_in_here, informed_rules, informed_there, outside_rules}
 use Rattle.exi_pen.proofs.pen.Pen.begin.Goals as goal
-use Rattle.exi_pen.proofs.pen.Pen.begin.Goals.{then-is_some-via-then-is_some, then-is_some-via-else-is_some+then-is_some-2, then-is_some-via-else-is_some+else-is_some-2+then-is_no_element}
 
-pub returns-then-is_some-clause-begins : goal.returns-then-is_some-clause-begins
-returns-then-is_some-clause-begins g c =
-    let law = c.chosen_suits.ensures.law in
-    let found = found_is (wanting c.args.wanted) c.args.self.now c.in_ok-found.field-0 c.in-Some.found c.in-Some.is c.in_ok-found.ensures in
-    let are = are_charged _ c.args.self.now c.in-Some.found.choice.rule c.of-charges.result _ c.self.view_is c.alone_in-alone.ensures c.of-charges.ensures in
-    elim c.then-is_some.branch [
-      | then-is_some-via-then-is_some w ↦ barred_begun law (wanting c.args.wanted) c.args.self.now c.in-Some.found c.of-charges.result c.requires.ready found are (sym c.is_some.ensures ∙ w.if-is_some.true)
-      | then-is_some-via-else-is_some+then-is_some-2 w ↦ misplaced_begun law (wanting c.args.wanted) c.args.self.now c.in-Some.found c.of-charges.result c.requires.ready found are (sym w.is_some-else-is_some.ensures ∙ w.if-is_some-2.true)
-      | then-is_some-via-else-is_some+else-is_some-2+then-is_no_element w ↦ no_element_begun law (wanting c.args.wanted) c.args.self.now c.in-Some.found _ c.requires.ready found (alone_there _ c.args.self.now _ c.self.view_is c.alone_in-alone.ensures) (sym w.is_no_element.ensures ∙ w.if-is_no_element.true)
-    ]
+pub begin_by-requires-clause-found : goal.begin_by-requires-clause-found
+begin_by-requires-clause-found g c = built_in_here (wanting c.args.wanted) _ c.args.self.now c.in-Some.element c.in-BuiltIn.room c.innermost.result c.in_ok-found-in-BuiltIn.found c.self.view_is c.innermost.ensures c.in-Some.is c.in-BuiltIn.is c.in_ok-found-in-BuiltIn.ensures
 
-pub returns-clause-begins : goal.returns-clause-begins
-returns-clause-begins g c =
-    let found = found_is (wanting c.args.wanted) c.args.self.now c.in_ok-found.field-0 c.in-Some.found c.in-Some.is c.in_ok-found.ensures in
-    let are = are_charged _ c.args.self.now c.in-Some.found.choice.rule c.of-charges.result _ c.self.view_is c.alone_in-alone.ensures c.of-charges.ensures in (
-      begun_by c.chosen_suits.ensures.law (wanting c.args.wanted) c.args.self.now c.put_code.new.self c.args.toll.now c.pay_charges.new.toll c.in-Some.found c.of-charges.result _ c.requires.ready found are (alone_there _ c.args.self.now _ c.self.view_is c.alone_in-alone.ensures) (sym c.is_some.ensures ∙ c.if-is_some.false) (sym c.is_some-else-is_some.ensures ∙ c.if-is_some-2.false) (sym c.is_no_element.ensures ∙ c.if-is_no_element.false) c.in_ok-put_code.ensures.ok c.pay_charges.ensures,
-      fitted_in (wanting c.args.wanted) c.args.self.now c.in-Some.found _ found refl,
-    )
+pub begin_in_book-requires-clause-exists : goal.begin_in_book-requires-clause-exists
+begin_in_book-requires-clause-exists g c = informed_there _ c.args.self.now c.in-Some.element c.in-Informed.grammar c.in-Informed.state c.in-Informed.empty c.innermost.result c.self.view_is c.innermost.ensures c.in-Some.is c.in-Informed.is c.requires.ready.elements
 
-pub returns-in_default-clause-begins : goal.returns-in_default-clause-begins
-returns-in_default-clause-begins g c = none_begun c.chosen_suits.ensures.law (wanting c.args.wanted) c.args.self.now c.requires.ready (none_found (wanting c.args.wanted) c.args.self.now c.in_ok-found.field-0 c.in_default.is c.in_ok-found.ensures)
+pub begin_in_book-requires-clause-rules : goal.begin_in_book-requires-clause-rules
+begin_in_book-requires-clause-rules g c = informed_rules _ c.args.self.now c.in-Some.element c.in-Informed.grammar c.in-Informed.state c.in-Informed.empty c.innermost.result c.self.view_is c.innermost.ensures c.in-Some.is c.in-Informed.is
+
+pub begin_outside-requires-clause-rules : goal.begin_outside-requires-clause-rules
+begin_outside-requires-clause-rules g c = outside_rules _ c.args.self.now c.innermost.result c.self.view_is c.innermost.ensures c.in-None.is

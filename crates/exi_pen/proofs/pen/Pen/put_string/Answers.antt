@@ -1,5 +1,6 @@
+use Rattle.std.proofs.Common.{refl, sym, true}
 use Rattle.exi_pen.proofs.Putting.{string_put}
 use Rattle.exi_pen.proofs.pen.Pen.put_string.Goals as goal
 
-pub returns-then-branch : goal.returns-then-branch
-returns-then-branch g c = record { put = string_put c.self.view_is c.options-options.result.now c.args.name c.args.text.now c.in_ok-put_string.field-0 c.put_string.new.out (g.T.Tables.held c.put_string.new.tables) c.args.toll.now c.put_string.new.toll c.options-options.ensures.options c.in_ok-put_string.ensures.can c.if-branch.true (c.in_ok-put_string.ensures.bits c.if-branch.true) (c.in_ok-put_string.ensures.tables c.if-branch.true) (c.in_ok-put_string.ensures.toll c.if-branch.true) }
+pub returns : goal.returns
+returns g c = record { put = string_put c.self.view_is c.options-options.result.now c.args.name c.args.text.now true c.put_spelled.new.out (g.T.Tables.held c.put_spelled.new.tables) c.args.toll.now c.put_spelled.new.toll c.options-options.ensures.options (sym c.requires.can) refl c.in_ok-put_spelled.ensures.bits c.in_ok-put_spelled.ensures.tables c.in_ok-put_spelled.ensures.toll }

@@ -1,20 +1,8 @@
-use Rattle.std.proofs.Common.{[], ◌∷◌}
-use Rattle.exi_names.specs.Events as event
-use Rattle.exi_names.specs.Shown.{named}
-use Rattle.exi_writer.proofs.Putting.{enter_name, entered_composed, enters_on}
-use Rattle.exi_writing.specs.Pruned.{pruned_name}
+use Rattle.exi_writer.proofs.Putting.{enters_refused, refused_uncharged}
 use Rattle.exi_writer.proofs.writer.Writer.enter.Goals as goal
 
-pub innermost_name-requires : goal.innermost_name-requires
-innermost_name-requires g c = record { name = enter_name c.self.inside.pen c.self.inside.waits c.args.self.now c.self.view_is c.requires.waits c.requires.at_fragment }
+pub returns-in-Err-clause-entered : goal.returns-in-Err-clause-entered
+returns-in-Err-clause-entered g c = rw c.refuse.ensures.stop (enters_refused c.in-Err.stop c.charged-before.result c.args.self.now c.go_in.new.self c.refuse.new.self _ c.refuse.ensures.charged c.in-Err.ensures.entered)
 
-pub put_aside-requires : goal.put_aside-requires
-put_aside-requires g c = record { name = enter_name c.self.inside.pen c.self.inside.waits c.args.self.now c.self.view_is c.requires.waits c.requires.at_fragment }
-
-pub start_fragment-requires-clause-composed : goal.start_fragment-requires-clause-composed
-start_fragment-requires-clause-composed g c = entered_composed c.self.inside.pen c.put_aside.new.self c.self.inside.waits c.args.self.now c.self.view_is c.requires.waits c.requires.at_fragment c.in_ok-put_aside.ensures
-
-pub returns-clause-composed : goal.returns-clause-composed
-returns-clause-composed g c =
-    let here = entered_composed c.self.inside.pen c.put_aside.new.self c.self.inside.waits c.args.self.now c.self.view_is c.requires.waits c.requires.at_fragment c.in_ok-put_aside.ensures in
-    enters_on c.written_is_read.ensures.one c.start_fragment.result c.put_aside.new.self c.start_fragment.new.pen (event.sd ∷ event.se (pruned_name c.put_aside.new.self.setting.options (named c.as_ref.result)) ∷ []) here c.start_fragment.ensures
+pub returns-in-Err-clause-uncharged : goal.returns-in-Err-clause-uncharged
+returns-in-Err-clause-uncharged g c = rw c.refuse.ensures.stop (refused_uncharged (Unit {0}) c.in-Err.stop c.charged-before.result c.args.self.now c.go_in.new.self c.refuse.new.self c.charged-before.ensures c.refuse.ensures.charged)

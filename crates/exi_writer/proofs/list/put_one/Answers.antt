@@ -1,7 +1,7 @@
 use Rattle.std.specs.Prelude.{Ok, Err}
 use Rattle.std.proofs.lemmas.Result.{err_from_is_err_and}
 use Rattle.exi_writer.proofs.Lists.{put_entered, wholes_stop}
-use Rattle.exi_writer.proofs.body.put_one.Goals as goal
+use Rattle.exi_writer.proofs.list.put_one.Goals as goal
 
 pub returns-in_err-put-clause-put : goal.returns-in_err-put-clause-put
 returns-in_err-put-clause-put g c =
