@@ -1,9 +1,14 @@
 -- What stands in front of a mark is a part of the bytes.
-use Rattle.std.proofs.Common.{◌≡◌, ◌≤◌, ℕ, suc, Bool, false, min, List, [], ◌∷◌, length, take, drop, refl, ap, arith, inl, inr}
-use Rattle.std.specs.Str.{IsUtf8, is_utf8}
-use Rattle.std.proofs.lemmas.Str.{IsUtf8-from_is_utf8}
-use Rattle.std.proofs.lemmas.Bool.{cases_Bool}
+use Rattle.std.proofs.Common.{◌≡◌, ◌≤◌, ℕ, suc, Bool, false, eqb, min, List, [], ◌∷◌, ◌++◌, length, take, drop, refl, sym, ap, ◌∙◌, arith, inl, inr}
+use Rattle.std.specs.Prelude.{Option, Some, None, codes}
+use Rattle.std.specs.Str.{IsAscii, IsUtf8, is_utf8}
+use Rattle.std.proofs.lemmas.Str.{IsUtf8-from_ascii, IsUtf8-from_is_utf8, chars-IsAscii, is_utf8-from_IsUtf8}
+use Rattle.std.proofs.lemmas.Bool.{cases_Bool, eqb-true}
+use Rattle.std.proofs.lemmas.List.{append-nil}
+use Rattle.exi_calendar.specs.Reading.{◌>>=◌, past}
 use Rattle.exi_digits.specs.Splits.{before}
+use Rattle.exi_evtext.specs.Reading.{content_at, decoded, item_of, opened_at, opened_value, value_at, value_of}
+use Rattle.exi_evtext.specs.Parsing.{front}
 
 pub before_within : (test : ℕ → Bool) (bytes : List ℕ) → length (before test bytes) ≤ length bytes
 before_within test [] = omega arith
@@ -41,3 +46,34 @@ not_utf8 bytes h = elim (cases_Bool (is_utf8 bytes)) [
   | inl k ↦ absurd (h (IsUtf8-from_is_utf8 bytes k))
   | inr k ↦ k
 ]
+
+-- one mark behind another
+pub past_both : (a b : ℕ) (s : List ℕ) → past (a ∷ b ∷ []) s ≡ past (a ∷ []) s >>= past (b ∷ [])
+unfolding past
+past_both a b [] = refl
+past_both a b (c ∷ s) = elim (cases_Bool (eqb c a)) [
+  | inl h ↦ rw h refl
+  | inr h ↦ rw h refl
+]
+
+-- what a mark in front says of the bytes
+pub past_mark : (a : ℕ) (s behind : List ℕ) → past (a ∷ []) s ≡ Some behind → s ≡ a ∷ behind
+unfolding past
+past_mark a [] behind e = absurd cc
+past_mark a (c ∷ s) behind e = elim (cases_Bool (eqb c a)) [
+  | inl h ↦ let k : Some s ≡ Some behind = rw h at e in let same : s ≡ behind = cc in rw (eqb-true c a h, same) refl
+  | inr h ↦ let k : None ≡ Some behind = rw h at e in absurd cc
+]
+
+-- a text of ASCII that stands for itself
+pub opened_plain : (s run rest behind : List ℕ) → IsAscii run → front run (content_at false rest) ≡ content_at false s → past (34 ∷ []) rest ≡ Some behind → opened_at s ≡ Some (run, behind)
+unfolding decoded
+opened_plain s run rest behind ascii read mark =
+    let quote : content_at false rest ≡ Some ([], behind) = ap (content_at false) (past_mark 34 rest behind mark) in
+    let content : content_at false s ≡ Some (run, behind) = sym read ∙ ap (front run) quote ∙ ap (λ (x : List ℕ). Some (x, behind)) (append-nil run) in
+    ap (λ (o : Option (List ℕ × List ℕ)). o >>= decoded) content ∙ rw (is_utf8-from_IsUtf8 run (IsUtf8-from_ascii run ascii), chars-IsAscii run ascii) refl
+
+-- a text as a value
+pub value_text : (s inside : List ℕ) → s ≡ codes "text \"" ++ inside → value_at s ≡ opened_value inside
+unfolding value_of item_of past
+value_text s inside e = ap value_at e

@@ -16,3 +16,4 @@ pub mod Dates
 pub mod Values
 pub mod LineWise
 pub mod Cursors
+pub mod Lays

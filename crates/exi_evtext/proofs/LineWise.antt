@@ -1,23 +1,23 @@
 -- The events of a text, line by line.
-use Rattle.std.proofs.Common.{◌≡◌, ◌+◌, ◌<◌, ℕ, suc, Bool, true, false, eqb, List, [], ◌∷◌, ◌++◌, length, Option, Some, None, refl, sym, ap, ◌∙◌, subst, inl, inr, append_assoc, arith}
+use Rattle.std.proofs.Common.{◌≡◌, ◌<◌, ℕ, suc, Bool, true, false, eqb, List, [], ◌∷◌, ◌++◌, length, Option, Some, None, refl, sym, ap, ◌∙◌, subst, inl, inr, append_assoc, arith}
 use Rattle.std.specs.Prelude.{Result, Ok, Err, option_copied}
 use Rattle.std.specs.Borrow.{Bor}
 use Rattle.exi_evtext.specs.declared.stop.LineStop.{LineStop}
 use Rattle.exi_evtext.specs.declared.stop.LineStop.TheVariants as stop
 use Rattle.std.specs.List.{onto_first, slice_split}
-use Rattle.std.proofs.lemmas.Bool.{cases_Bool}
-use Rattle.std.proofs.lemmas.List.{append-nil}
+use Rattle.std.proofs.lemmas.Bool.{cases_Bool, eqb-true}
 use Rattle.exi_names.specs.Events.{Happening}
 use Rattle.exi_digits.specs.Digits.{has_any}
 use Rattle.exi_digits.specs.Splits.{before, behind, is_mark}
 use Rattle.exi_evtext.specs.Lines.{lines_of}
 use Rattle.exi_evtext.specs.Laws.{AreEvents}
+use Rattle.exi_evtext.specs.Left.{LinesLeft}
 use Rattle.exi_evtext.specs.Reading.{event_in}
 use Rattle.exi_evtext.specs.Spelling.{SaysAll}
 use Rattle.exi_evtext.proofs.Feedless.{printed_says}
 use Rattle.exi_evtext.proofs.Read.{read_says}
 use Rattle.exi_evtext.proofs.Spelled.{says_read}
-use Rattle.exi_evtext.specs.Parsing.{StopsAs, event_then, events_in, events_of, with_event}
+use Rattle.exi_evtext.specs.Parsing.{StopsAs, event_then, events_in, events_left, events_of, with_event}
 
 -- ---- pieces
 pub split_none : (test : ℕ → Bool) (text : List ℕ) → behind test text ≡ None → slice_split test text ≡ text ∷ []
@@ -72,13 +72,9 @@ after_one : (es : List Happening) (e : Happening) (r : Read) → after es (with_
 after_one es e (Ok more) = ap (λ (x : List Happening). Ok x) (sym (append_assoc es (e ∷ []) more))
 after_one es e (Err n) = refl
 
-after_nothing : (r : Read) → after [] r ≡ r
+pub after_nothing : (r : Read) → after [] r ≡ r
 after_nothing (Ok more) = refl
 after_nothing (Err n) = refl
-
-pub after_none : (bytes : List ℕ) → after [] (from 1 bytes) ≡ events_in bytes
-unfolding events_in
-after_none bytes = after_nothing (from 1 bytes)
 
 behind_is : (text rest : List ℕ) (r : Option (Bor (List ℕ))) (b : Bor (List ℕ)) → option_copied r ≡ behind (is_mark 10) text → r ≡ Some b → behind (is_mark 10) text ≡ Some b.now
 behind_is text rest r b copied is = sym copied ∙ ap (λ (x : Option (Bor (List ℕ))). option_copied x) is
@@ -105,31 +101,42 @@ stopped : (e : LineStop) (o : Option Happening) → e ≡ stop.Form → StopsAs 
 stopped stop.Form o is h = h
 stopped stop.Memory o is h = absurd cc
 
-pub line_goes_on : (es all : List Happening) (n : ℕ) (e : Happening) (text line : List ℕ) (r : Option (Bor (List ℕ))) (b : Bor (List ℕ)) (total : Read) → line ≡ before (is_mark 10) text → option_copied r ≡ behind (is_mark 10) text → r ≡ Some b
-    → event_in line ≡ Some e → all ≡ es ++ e ∷ [] → after es (from n text) ≡ total → after all (from (n + 1) b.now) ≡ total
-line_goes_on es all n e text line r b total l copied is read grown so_far =
+left_is : (text : List ℕ) (n : ℕ) → events_left (record { bytes = text; line = n }) ≡ from n text
+unfolding events_left
+left_is text n = refl
+
+pub all_left : (text : List ℕ) → events_left (record { bytes = text; line = 1 }) ≡ events_in text
+unfolding events_left events_in
+all_left text = refl
+
+from_none : (n : ℕ) (text : List ℕ) → true ≡ eqb (length text) 0 → from n text ≡ Ok []
+from_none n [] h = refl
+from_none n (b ∷ more) h = absurd (omega (arith, eqb-true (suc (length more)) 0 (sym h)))
+
+pub none_left : (l : LinesLeft) (text : List ℕ) (n : ℕ) → record { bytes = text; line = n } ≡ l → true ≡ eqb (length text) 0 → events_left l ≡ Ok []
+none_left l text n is h = sym (ap events_left is) ∙ (left_is text n ∙ from_none n text h)
+
+pub line_left : (l : LinesLeft) (text line : List ℕ) (n m : ℕ) (r : Option (Bor (List ℕ))) (b : Bor (List ℕ)) (e : Happening) → record { bytes = text; line = n } ≡ l → line ≡ before (is_mark 10) text → option_copied r ≡ behind (is_mark 10) text → r ≡ Some b
+    → event_in line ≡ Some e → m ≡ suc n → events_left l ≡ with_event e (events_left (record { bytes = b.now; line = m }))
+line_left l text line n m r b e is front copied found read up =
     let rest = b.now in
-    let up : n + 1 ≡ suc n = omega arith in
-    let here : event_in (before (is_mark 10) text) ≡ Some e = ap event_in (sym l) ∙ read in
-    let one : from n text ≡ with_event e (from (suc n) rest) = from_line n text rest (behind_is text rest r b copied is) ∙ ap (λ (o : Option Happening). event_then n o (from (suc n) rest)) here in
-    ap (λ (x : ℕ). after all (from x rest)) up ∙ ap (λ (x : List Happening). after x (from (suc n) rest)) grown ∙ sym (ap (after es) one ∙ after_one es e (from (suc n) rest)) ∙ so_far
+    let here : event_in (before (is_mark 10) text) ≡ Some e = ap event_in (sym front) ∙ read in
+    let one : from n text ≡ with_event e (from (suc n) rest) = from_line n text rest (behind_is text rest r b copied found) ∙ ap (λ (o : Option Happening). event_then n o (from (suc n) rest)) here in
+    sym (ap events_left is) ∙ (left_is text n ∙ (one ∙ ap (with_event e) (ap (λ (x : ℕ). from x rest) (sym up) ∙ sym (left_is rest m))))
 
-pub line_fails : (es : List Happening) (n : ℕ) (text line : List ℕ) (r : Option (Bor (List ℕ))) (b : Bor (List ℕ)) (total : Read) (e : LineStop) → line ≡ before (is_mark 10) text → option_copied r ≡ behind (is_mark 10) text → r ≡ Some b
-    → e ≡ stop.Form → StopsAs e (event_in line) → after es (from n text) ≡ total → total ≡ Err n
-line_fails es n text line r b total e l copied is form h so_far =
+pub formless_left : (l : LinesLeft) (text line : List ℕ) (n : ℕ) (r : Option (Bor (List ℕ))) (b : Bor (List ℕ)) (e : LineStop) → record { bytes = text; line = n } ≡ l → line ≡ before (is_mark 10) text → option_copied r ≡ behind (is_mark 10) text → r ≡ Some b
+    → e ≡ stop.Form → StopsAs e (event_in line) → events_left l ≡ Err n
+formless_left l text line n r b e is front copied found form h =
     let rest = b.now in
-    let here : event_in (before (is_mark 10) text) ≡ None = ap event_in (sym l) ∙ stopped e (event_in line) form h in
-    let one : from n text ≡ Err n = from_line n text rest (behind_is text rest r b copied is) ∙ ap (λ (o : Option Happening). event_then n o (from (suc n) rest)) here in
-    sym so_far ∙ ap (after es) one
+    let here : event_in (before (is_mark 10) text) ≡ None = ap event_in (sym front) ∙ stopped e (event_in line) form h in
+    let one : from n text ≡ Err n = from_line n text rest (behind_is text rest r b copied found) ∙ ap (λ (o : Option Happening). event_then n o (from (suc n) rest)) here in
+    sym (ap events_left is) ∙ (left_is text n ∙ one)
 
-pub line_is_open : (es : List Happening) (n : ℕ) (text : List ℕ) (r : Option (Bor (List ℕ))) (total : Read) → has_any text ≡ true → option_copied r ≡ behind (is_mark 10) text → r ≡ None → after es (from n text) ≡ total → total ≡ Err n
-line_is_open es n text r total some copied is so_far =
-    let none : behind (is_mark 10) text ≡ None = sym copied ∙ ap (λ (x : Option (Bor (List ℕ))). option_copied x) is in
-    let one : from n text ≡ Err n = ap (events_of n) (split_none (is_mark 10) text none) ∙ rw some refl in
-    sym so_far ∙ ap (after es) one
-
-pub lines_end : (es : List Happening) (n : ℕ) (total : Read) → after es (from n []) ≡ total → total ≡ Ok es
-lines_end es n total so_far = sym so_far ∙ ap (λ (x : List Happening). Ok x) (append-nil es)
+pub open_left : (l : LinesLeft) (text : List ℕ) (n : ℕ) (r : Option (Bor (List ℕ))) → record { bytes = text; line = n } ≡ l → false ≡ eqb (length text) 0 → option_copied r ≡ behind (is_mark 10) text → r ≡ None → events_left l ≡ Err n
+open_left l text n r is some copied found =
+    let none : behind (is_mark 10) text ≡ None = sym copied ∙ ap (λ (x : Option (Bor (List ℕ))). option_copied x) found in
+    let one : from n text ≡ Err n = ap (events_of n) (split_none (is_mark 10) text none) ∙ rw (some_left text some) refl in
+    sym (ap events_left is) ∙ (left_is text n ∙ one)
 
 -- ---- a text and the events that its lines say
 says_from : (n : ℕ) (bytes : List ℕ) (es : List Happening) → SaysAll bytes es → from n bytes ≡ Ok es

@@ -1,7 +1,7 @@
 -- Texts between quotes, read run by run.
-use Rattle.std.proofs.Common.{◌≡◌, ℕ, Bool, true, false, eqb, List, [], ◌∷◌, ◌++◌, take, drop, Option, Some, None, refl, sym, ap, ◌∙◌, inl, inr, append_assoc}
+use Rattle.std.proofs.Common.{◌≡◌, ◌<◌, ◌+◌, ℕ, Bool, true, false, eqb, List, [], ◌∷◌, ◌++◌, get_or, length, take, drop, Option, Some, None, refl, sym, ap, ◌∙◌, inl, inr, append_assoc}
 use Rattle.std.proofs.lemmas.Bool.{cases_Bool}
-use Rattle.std.proofs.lemmas.List.{append-nil}
+use Rattle.std.proofs.lemmas.List.{append-nil, drop_more, take_more}
 use Rattle.std.specs.Prelude.{option_map, Result, Ok, Err}
 use Rattle.exi_evtext.specs.declared.stop.LineStop.{LineStop}
 use Rattle.exi_evtext.specs.declared.stop.LineStop.TheVariants as stop
@@ -107,3 +107,17 @@ steps_of (Ok false) had has old new h =
     ∙ ap (λ (x : List ℕ). Some (x, new)) (sym h.1)
 steps_of (Err stop.Form) had has old new h = run_marked old None h
 steps_of (Err stop.Memory) had has old new h = tt
+
+-- one byte more stands for itself
+pub run_more : (s : List ℕ) (i : ℕ) → i < length s → stops_run (get_or s i 0) ≡ false → front (take i s) (content_at false (drop i s)) ≡ content_at false s → front (take (i + 1) s) (content_at false (drop (i + 1) s)) ≡ content_at false s
+run_more s i lt plain h =
+    let b = get_or s i 0 in
+    let more = content_at false (drop (i + 1) s) in
+    ap (λ (x : List ℕ). front x more) (take_more s i 0 lt)
+    ∙ sym (front_front (take i s) (b ∷ []) more)
+    ∙ ap (front (take i s)) (sym (byte_front b more) ∙ sym (plain_byte b (drop (i + 1) s) plain) ∙ ap (content_at false) (sym (drop_more s i 0 lt)))
+    ∙ h
+
+-- no byte is asked
+pub run_none : (s : List ℕ) → front (take 0 s) (content_at false (drop 0 s)) ≡ content_at false s
+run_none s = front_none (content_at false s)

@@ -2,8 +2,9 @@
 use Rattle.std.specs.Prelude.{◌≡◌, ◌||◌, ◌==◌, ℕ, suc, Bool, true, false, if◌then◌else◌, List, [], ◌∷◌, ◌++◌, take, drop, Option, Some, None, option_map, Result, Ok, Err}
 use Rattle.std.specs.Str.{bytes_eq, chars, is_utf8}
 use Rattle.std.specs.List.{slice_split}
-use Rattle.exi_names.specs.Events.{Happening}
+use Rattle.exi_names.specs.Events.{Happening, happens}
 use Rattle.exi_names.specs.Lists as lists
+use Rattle.exi_names.specs.declared.event.Event.{Event}
 use Rattle.exi_names.specs.declared.event_list.EventList.{EventList}
 use Rattle.exi_names.specs.declared.stops.TextStop.{TextStop}
 use Rattle.exi_names.specs.declared.stops.TextStop.TheVariants as text_stop
@@ -14,6 +15,7 @@ use Rattle.exi_digits.specs.Digits.{has_any}
 use Rattle.exi_digits.specs.Splits.{before, is_mark}
 use Rattle.exi_evtext.specs.declared.stop.LineStop.{LineStop}
 use Rattle.exi_evtext.specs.declared.stop.LineStop.TheVariants as stop
+use Rattle.exi_evtext.specs.Left.{LinesLeft}
 use Rattle.exi_evtext.specs.Reading.{content_at, event_in, from_space, is_bare, number_of, or_else, unescaped}
 
 -- ---- answers of calls
@@ -137,3 +139,16 @@ abbrev pub Parses : Result EventList TextStop → Result (List Happening) ℕ �
 Parses (Ok list) read = read ≡ Ok (lists.events_of list)
 Parses (Err (text_stop.Syntax line)) read = read ≡ Err line
 Parses (Err text_stop.Memory) read = Unit {0}
+
+-- ---- a text, line by line
+-- the events of what is left, or the number of the first line of it that says none
+unfoldable pub events_left : LinesLeft → Result (List Happening) ℕ
+events_left l = events_of l.line (slice_split (is_mark 10) l.bytes)
+
+-- what was left says this event, and then what is left now; or it says no event more; or its first line says none, or memory was
+-- refused, and the same is left
+abbrev pub GivesNext : Result (Option Event) TextStop → LinesLeft → LinesLeft → Type 0
+GivesNext (Ok (Some e)) old new = events_left old ≡ with_event (happens e) (events_left new)
+GivesNext (Ok None) old new = (events_left old ≡ Ok []) × (new ≡ old)
+GivesNext (Err (text_stop.Syntax line)) old new = (events_left old ≡ Err line) × (new ≡ old)
+GivesNext (Err text_stop.Memory) old new = new ≡ old

@@ -141,6 +141,10 @@ scalar_at word bytes = do
 abbrev pub text_value : List ℕ × List ℕ → Option (Value × List ℕ)
 text_value found = Some (text found.0, found.1)
 
+-- the same, behind the quote that opens it
+abbrev pub opened_value : List ℕ → Option (Value × List ℕ)
+opened_value bytes = opened_at bytes >>= text_value
+
 abbrev pub name_value : QName × List ℕ → Option (Value × List ℕ)
 name_value found = Some (name found.0, found.1)
 

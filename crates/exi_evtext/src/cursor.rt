@@ -1,9 +1,10 @@
 //! The bytes of a line that are left, and the texts and names in front of them.
 
-ghost use Rattle.std.specs.Prelude.{◌≡◌, ◌<◌, ◌≤◌, length, false, option_copied, IfSome, OnOk};
+ghost use Rattle.std.specs.Prelude.{◌≡◌, ◌∷◌, [], ◌<◌, ◌≤◌, length, take, drop, IsTrue, false, option_copied, IfSome, OnOk};
+ghost use Rattle.std.specs.Str.{IsAscii};
 ghost use Rattle.exi_calendar.specs.Reading.{Reads, past};
 ghost use Rattle.exi_evtext.specs.Reading.{also_at, content_at, name_at, opened_at, plain_at, prefix_at, text_at, unescaped, word_at};
-ghost use Rattle.exi_evtext.specs.Parsing.{Decodes, Ends, Gives, Moves, Runs, Steps, escape_at, mark_at, run_width, stops_run};
+ghost use Rattle.exi_evtext.specs.Parsing.{Decodes, Ends, Gives, Moves, Runs, Steps, escape_at, front, mark_at, run_width, stops_run};
 
 use crate::stop::LineStop;
 use exi_digits::split_at_mark;
@@ -28,11 +29,24 @@ impl<'a> Model for Cursor<'a> {
     ghost view = { λ c. c.left.now };
 }
 
-/// What stands behind these marks, where the bytes begin with them.
-fn past<'a>(marks: &[u8], bytes: &'a [u8]) -> Option<&'a [u8]>
-    ensures { option_copied result ≡ past marks.now bytes.now }
+/// What stands behind this mark, where the bytes begin with it.
+#[inline(always)]
+#[tactic(auto, unfolding(exi_calendar::specs::Reading::past))]
+fn behind_mark(mark: u8, bytes: &[u8]) -> Option<&[u8]>
+    ensures { option_copied result ≡ past (mark ∷ []) bytes.now }
 {
-    bytes.strip_prefix(marks)
+    match bytes.split_first() {
+        Some((byte, behind)) if *byte == mark => Some(behind),
+        _ => None,
+    }
+}
+
+/// What stands behind a space and a quote, where the bytes begin with them.
+#[inline(always)]
+fn behind_quote(bytes: &[u8]) -> Option<&[u8]>
+    ensures { option_copied result ≡ past (32 ∷ 34 ∷ []) bytes.now }
+{
+    behind_mark(b'"', behind_mark(b' ', bytes)?)
 }
 
 /// Whether a byte doesn't stand for itself between quotes.
@@ -49,6 +63,29 @@ fn run_width(bytes: &[u8]) -> usize
 {
     for (place, byte) in bytes.iter().enumerate() {
         if stops_run(*byte) {
+            return place;
+        }
+    }
+    bytes.len()
+}
+
+/// Whether a byte surely is ASCII that stands for itself between quotes.
+#[inline(always)]
+fn is_plain(byte: u8) -> bool
+    ensures { IsTrue result → (stops_run byte ≡ false) × (byte < 128) }
+{
+    (byte >= 93 && byte < 127) || (byte >= 35 && byte < 92) || byte == b' ' || byte == b'!'
+}
+
+/// How many bytes in front are ASCII that stands for itself.
+#[inline(always)]
+fn plain_width(bytes: &[u8]) -> usize
+    ensures within { result ≤ length bytes.now }
+    ensures ascii { IsAscii (take result bytes.now) }
+    ensures read { front (take result bytes.now) (content_at false (drop result bytes.now)) ≡ content_at false bytes.now }
+{
+    for (place, byte) in bytes.iter().enumerate() {
+        if !is_plain(*byte) {
             return place;
         }
     }
@@ -124,11 +161,12 @@ impl<'a> Cursor<'a> {
         }
     }
 
-    /// Goes on behind these marks.
-    pub fn past(&mut self, marks: &[u8]) -> Result<(), LineStop>
-        ensures { Moves result (past marks.now self.old) self.new }
+    /// Goes on behind this mark.
+    #[inline(always)]
+    pub fn past(&mut self, mark: u8) -> Result<(), LineStop>
+        ensures { Moves result (past (mark ∷ []) self.old) self.new }
     {
-        let Some(left) = past(marks, self.left) else {
+        let Some(left) = behind_mark(mark, self.left) else {
             return Err(LineStop::Form);
         };
         self.left = left;
@@ -195,9 +233,25 @@ impl<'a> Cursor<'a> {
         Ok(content)
     }
 
-    /// A text behind the quote that opens it.
+    /// A text behind the quote that opens it; most often all its bytes are ASCII that stands for itself.
+    #[tactic(auto, using(crate::proofs::Cursors::opened_plain))]
+    pub fn opened(&mut self) -> Result<Txt, LineStop>
+        ensures { Gives (λ t. t) result (opened_at self.old) self.new }
+    {
+        let (run, rest) = self.left.split_at(plain_width(self.left));
+        let Some(behind) = behind_mark(b'"', rest) else {
+            return self.any_opened();
+        };
+        let mut text = Txt::new(self.alloc);
+        text.push_ascii(run)?;
+        self.left = behind;
+        Ok(text)
+    }
+
+    /// A text behind the quote that opens it, of any bytes.
+    #[inline(never)]
     #[tactic(auto, unfolding(crate::specs::Reading::decoded))]
-    fn opened(&mut self) -> Result<Txt, LineStop>
+    fn any_opened(&mut self) -> Result<Txt, LineStop>
         ensures { Gives (λ t. t) result (opened_at self.old) self.new }
     {
         let content = self.content()?;
@@ -208,7 +262,7 @@ impl<'a> Cursor<'a> {
     pub fn text(&mut self) -> Result<Txt, LineStop>
         ensures { Gives (λ t. t) result (text_at self.old) self.new }
     {
-        self.past(b"\"")?;
+        self.past(b'"')?;
         self.opened()
     }
 
@@ -216,7 +270,7 @@ impl<'a> Cursor<'a> {
     pub fn also(&mut self) -> Result<Txt, LineStop>
         ensures { Gives (λ t. t) result (also_at self.old) self.new }
     {
-        self.past(b" ")?;
+        self.past(b' ')?;
         self.text()
     }
 
@@ -224,7 +278,7 @@ impl<'a> Cursor<'a> {
     fn prefix(&mut self) -> Result<Option<Txt>, LineStop>
         ensures { Gives (λ p. p) result (prefix_at self.old) self.new }
     {
-        let Some(inside) = past(b" \"", self.left) else {
+        let Some(inside) = behind_quote(self.left) else {
             return Ok(None);
         };
         self.left = inside;

@@ -25,11 +25,14 @@
 //! name "u" "local" "p"        a name: URI, local name, and the prefix where there is one
 //! ```
 //!
-//! Runs of characters that stand for themselves are copied at once.
+//! Runs of characters that stand for themselves are copied at once. The most frequent lines, where their texts hold no
+//! others, are laid in a room that the caller has, with no test of capacity behind each part.
 #![tactic(auto)]
 
 mod cursor;
 pub mod laws;
+mod lay;
+mod lines;
 mod parse;
 mod print;
 mod quote;
@@ -39,5 +42,7 @@ mod scalar;
 mod stop;
 mod value;
 
+pub use lay::lay_event;
+pub use lines::EventLines;
 pub use parse::parse_events;
 pub use print::{print_event, push_event};

@@ -25,6 +25,7 @@ fn escape(byte: u8) -> Option<&'static str>
 }
 
 /// Whether a byte surely stands for itself between quotes.
+#[inline(always)]
 fn stands(byte: u8) -> bool
     ensures { IsTrue result → escaped byte ≡ byte ∷ [] }
 {
@@ -44,7 +45,8 @@ fn each_stands(bytes: &[u8]) -> bool
 }
 
 /// The same, looked at many at once: no byte ends the search.
-fn all_stand(bytes: &[u8]) -> bool
+#[inline(always)]
+pub fn all_stand(bytes: &[u8]) -> bool
     ensures { IsTrue result → flat_map escaped bytes.now ≡ bytes.now }
 {
     let mut all = true;

@@ -1,6 +1,6 @@
 //! The event that a line says.
 
-ghost use Rattle.std.specs.Prelude.{◌≡◌, take, drop, length, bytes_eq, option_map, ◌^◌};
+ghost use Rattle.std.specs.Prelude.{◌≡◌, ◌∷◌, [], take, drop, length, bytes_eq, option_map, ◌^◌};
 ghost use Rattle.exi_names.specs.Events.{happens};
 ghost use Rattle.exi_evtext.specs.Parsing.{Tells};
 ghost use Rattle.exi_evtext.specs.Reading.{attribute_in, bare, characters_in, doctype_in, event_in, event_of, fragment_in, instruction_in, namespace_in, only_text, start_in, truth_of};
@@ -10,8 +10,17 @@ use crate::scalar::number_of;
 use crate::stop::LineStop;
 use exi_names::{Event, Txt};
 
+/// Whether a word has these two bytes, and no more.
+#[inline(always)]
+fn is_pair(word: &[u8], first: u8, second: u8) -> bool
+    ensures { result ≡ bytes_eq word.now (first ∷ second ∷ []) }
+{
+    word.len() == 2 && word[0] == first && word[1] == second
+}
+
 impl<'a> Cursor<'a> {
     /// An event that holds nothing.
+    #[inline(always)]
     fn bare(&self, event: Event) -> Result<Event, LineStop>
         ensures { Tells happens result (bare (happens event) self.now) }
     {
@@ -20,10 +29,11 @@ impl<'a> Cursor<'a> {
     }
 
     /// The start of an element.
+    #[inline(never)]
     fn start(&mut self) -> Result<Event, LineStop>
         ensures { Tells happens result (start_in self.old) }
     {
-        self.past(b" ")?;
+        self.past(b' ')?;
         let name = self.name()?;
         self.end()?;
         Ok(Event::Se(name))
@@ -31,22 +41,24 @@ impl<'a> Cursor<'a> {
 
     /// An attribute.
     #[tactic(auto, unfolding(crate::specs::Reading::attribute_in))]
+    #[inline(never)]
     fn attribute(&mut self) -> Result<Event, LineStop>
         ensures { Tells happens result (attribute_in self.old) }
     {
-        self.past(b" ")?;
+        self.past(b' ')?;
         let name = self.name()?;
-        self.past(b" ")?;
+        self.past(b' ')?;
         let value = self.value()?;
         self.end()?;
         Ok(Event::At(name, value))
     }
 
     /// Characters.
+    #[inline(never)]
     fn characters(&mut self) -> Result<Event, LineStop>
         ensures { Tells happens result (characters_in self.old) }
     {
-        self.past(b" ")?;
+        self.past(b' ')?;
         let value = self.value()?;
         self.end()?;
         Ok(Event::Ch(value))
@@ -87,7 +99,7 @@ impl<'a> Cursor<'a> {
         if self.left.is_empty() {
             return Ok(Event::Sc { at: 0 });
         }
-        self.past(b" ")?;
+        self.past(b' ')?;
         let Some(place) = number_of(self.left) else {
             return Err(LineStop::Form);
         };
@@ -133,9 +145,30 @@ impl<'a> Cursor<'a> {
         })
     }
 
-    /// The event of a word of two letters.
+    /// The event of a word of two letters, the most frequent first.
+    #[inline(always)]
     #[tactic(auto, unfolding(crate::specs::Reading::event_of))]
     fn event_of(&mut self, word: &[u8]) -> Result<Event, LineStop>
+        ensures { Tells happens result (event_of word.now self.old) }
+    {
+        if is_pair(word, b'S', b'E') {
+            self.start()
+        } else if is_pair(word, b'E', b'E') {
+            self.bare(Event::Ee)
+        } else if is_pair(word, b'C', b'H') {
+            self.characters()
+        } else if is_pair(word, b'A', b'T') {
+            self.attribute()
+        } else {
+            self.any_event_of(word)
+        }
+    }
+
+    /// The event of any word of two letters.
+    #[cold]
+    #[inline(never)]
+    #[tactic(auto, unfolding(crate::specs::Reading::event_of))]
+    fn any_event_of(&mut self, word: &[u8]) -> Result<Event, LineStop>
         ensures { Tells happens result (event_of word.now self.old) }
     {
         if word == b"SE".as_slice() {
@@ -168,6 +201,7 @@ impl<'a> Cursor<'a> {
     }
 
     /// The event that a line says.
+    #[inline(always)]
     #[tactic(auto, unfolding(crate::specs::Reading::event_in))]
     pub fn event(&mut self, line: &'a [u8]) -> Result<Event, LineStop>
         ensures { Tells happens result (event_in line.now) }

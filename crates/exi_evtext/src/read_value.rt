@@ -1,9 +1,9 @@
 //! Values in front of the bytes of a line that are left.
 
-ghost use Rattle.std.specs.Prelude.{◌≡◌, length, bytes_eq};
+ghost use Rattle.std.specs.Prelude.{◌≡◌, ◌++◌, length, bytes_eq, codes, IfSome};
 ghost use Rattle.exi_names.specs.Seen.{seen, values_of, vals};
 ghost use Rattle.exi_evtext.specs.Parsing.{Counts, Gives};
-ghost use Rattle.exi_evtext.specs.Reading.{item_at, item_of, items_at, list_at, scalar_at, value_at, value_of};
+ghost use Rattle.exi_evtext.specs.Reading.{item_at, item_of, items_at, list_at, opened_value, scalar_at, value_at, value_of};
 
 use crate::cursor::Cursor;
 use crate::scalar::{number_of, scalar_of};
@@ -11,12 +11,31 @@ use crate::stop::LineStop;
 use exi_digits::split_at_mark;
 use exi_names::{Val, ValList};
 
+/// What stands behind the word of a text and the quote that opens it, where the bytes begin with them.
+#[inline(always)]
+fn inside_text(bytes: &[u8]) -> Option<&[u8]>
+    ensures { IfSome result (λ inside. bytes.now ≡ codes "text \"" ++ inside.now) }
+{
+    if bytes.len() >= 6
+        && bytes[0] == b't'
+        && bytes[1] == b'e'
+        && bytes[2] == b'x'
+        && bytes[3] == b't'
+        && bytes[4] == b' '
+        && bytes[5] == b'"'
+    {
+        Some(&bytes[6..])
+    } else {
+        None
+    }
+}
+
 impl<'a> Cursor<'a> {
     /// A value by its canonical text between quotes.
     fn scalar(&mut self, word: &[u8]) -> Result<Val, LineStop>
         ensures { Gives seen result (scalar_at word.now self.old) self.new }
     {
-        self.past(b"\"")?;
+        self.past(b'"')?;
         let digits = self.plain()?;
         scalar_of(self.alloc, &mut self.scratch, word, digits)
     }
@@ -48,7 +67,7 @@ impl<'a> Cursor<'a> {
     {
         let mut list = ValList::new(self.alloc);
         for _ in 0..count {
-            self.past(b" ")?;
+            self.past(b' ')?;
             let item = self.item()?;
             list.push(item)?;
         }
@@ -78,9 +97,29 @@ impl<'a> Cursor<'a> {
         Ok(count)
     }
 
-    /// A value.
-    #[tactic(auto, unfolding(crate::specs::Reading::value_of))]
+    /// A text as a value, behind the quote that opens it.
+    fn opened_value(&mut self) -> Result<Val, LineStop>
+        ensures { Gives seen result (opened_value self.old) self.new }
+    {
+        let text = self.opened()?;
+        Ok(Val::Text(text))
+    }
+
+    /// A value; most often it is a text.
     pub fn value(&mut self) -> Result<Val, LineStop>
+        ensures { Gives seen result (value_at self.old) self.new }
+    {
+        let Some(inside) = inside_text(self.left) else {
+            return self.any_value();
+        };
+        self.left = inside;
+        self.opened_value()
+    }
+
+    /// A value of any kind.
+    #[inline(never)]
+    #[tactic(auto, unfolding(crate::specs::Reading::value_of))]
+    fn any_value(&mut self) -> Result<Val, LineStop>
         ensures { Gives seen result (value_at self.old) self.new }
     {
         let word = self.word()?;

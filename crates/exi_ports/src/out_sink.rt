@@ -79,6 +79,7 @@ impl<'a, R: Print> OutSink<'a, R> {
     }
 
     /// Counts a fault where not all was taken.
+    #[inline(always)]
     fn counted(&mut self, taken: bool) -> Result<(), SinkStop>
         ensures same { self.new.waiting ≡ self.old.waiting }
         ensures counts { self.new.faults ≡ faults_after_put self.old.faults result }
@@ -101,6 +102,7 @@ impl<'a, R: Print> Sink for OutSink<'a, R> {
     ghost faults = { λ s. s.faults };
 
     /// Lets the piece wait, or writes it. It takes no memory, so it never answers `Memory`.
+    #[inline(always)]
     fn put(&mut self, piece: &[u8]) -> Result<(), SinkStop>
         ensures ok { OnOk result (Grows untold piece.now untold) }
         ensures part { IsErrOf result SinkStop.Failed → GrowsInPart untold piece.now untold }
@@ -125,6 +127,7 @@ impl<'a, R: Print> Sink for OutSink<'a, R> {
 /// Takes a piece: it waits where there is room, and is written behind what waits where it is too large to wait.
 ///
 /// What was taken are the bytes that the writer holds and then those that wait. False means that a write failed.
+#[inline(always)]
 fn gather<W: Write>(to: &mut W, waiting: &mut Vec<u8>, piece: &[u8]) -> bool
     requires { BUFFER ≤ vec_capacity waiting.old }
     ensures piece { TakesPiece (append_known (W.contents to.old) waiting.old.items) (append_known (W.contents to.new) waiting.new.items) piece.now result }
@@ -147,6 +150,8 @@ fn gather<W: Write>(to: &mut W, waiting: &mut Vec<u8>, piece: &[u8]) -> bool
 }
 
 /// Writes what waits; what could not be written waits on. True means that nothing waits any more.
+#[cold]
+#[inline(never)]
 fn write_out<W: Write>(to: &mut W, waiting: &mut Vec<u8>) -> bool
     ensures kept { Keeps (append_known (W.contents to.old) waiting.old.items) (append_known (W.contents to.new) waiting.new.items) }
     ensures empty { IsTrue result → waiting.new.items ≡ [] }
@@ -163,6 +168,8 @@ fn write_out<W: Write>(to: &mut W, waiting: &mut Vec<u8>) -> bool
 }
 
 /// Writes bytes in order until none is left or a write fails or takes nothing, and answers how many were written.
+#[cold]
+#[inline(never)]
 fn write_run<W: Write>(to: &mut W, bytes: &[u8]) -> usize
     ensures within { result ≤ length bytes.now }
     ensures written { Appends (W.contents to.old) (W.contents to.new) (take result bytes.now) }
