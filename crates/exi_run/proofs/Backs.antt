@@ -1,7 +1,9 @@
 -- The stream that is written is read back.
-use Rattle.std.proofs.Common.{◌≡◌, ◌+◌, ◌*◌, ◌^◌, ◌<◌, ◌≤◌, ℕ, zero, suc, Bool, true, false, List, ◌++◌, length, take, drop, refl, sym, ap, ◌∙◌, subst, append_assoc, arith}
-use Rattle.std.specs.Prelude.{IfSome, Option, Some, None, Result, Ok, Err, if◌then◌else◌}
+use Rattle.std.proofs.Common.{◌≡◌, ◌≢◌, ◌⊎◌, inl, inr, ◌+◌, ◌*◌, ◌^◌, ◌<◌, ◌≤◌, ℕ, zero, suc, Bool, true, false, List, [], ◌∷◌, ◌++◌, length, take, drop, refl, sym, ap, ◌∙◌, subst, append_assoc, arith}
+use Rattle.std.specs.Prelude.{IfSome, Option, Some, None, Result, Ok, Err, encode_utf8_all, not, if◌then◌else◌}
 use Rattle.std.proofs.lemmas.List.{length-append, length-replicate, length-take, drop_at, take_all}
+use Rattle.std.proofs.lemmas.Slice.Eq.{bytes_eq-Decides}
+use Rattle.std.proofs.lemmas.Str.{length-le-encodes}
 use Rattle.exi_bits.specs.Bits.{IsBytes, bits, octets, octets_of, value_of}
 use Rattle.exi_bits.specs.Written.{padded, to_byte, zeros}
 use Rattle.exi_bits.proofs.BitLaws.{pow_up, value_of_below}
@@ -25,8 +27,9 @@ use Rattle.exi_reader.specs.Runs.{Job, done, events_of, first, whole_bytes}
 use Rattle.exi_reader.specs.Spelled.{IsIn}
 use Rattle.exi_reader.specs.declared.start.Start.TheVariants as start
 use Rattle.exi_run.specs.Backs.{IsSound, ReadsBack, WrittenIsRead, written_end, written_from, written_job}
+use Rattle.exi_run.specs.declared.ending.Ending.{Ending}
 use Rattle.exi_run.specs.declared.ending.Ending.TheVariants as ending
-use Rattle.exi_opening.specs.Header.{known_by, stream_header}
+use Rattle.exi_opening.specs.Header.{is_another, is_empty_name, known_by, stream_header}
 use Rattle.exi_ports.specs.Ports.{file_at}
 use Rattle.exi_run.specs.declared.command.Command.{Command}
 use Rattle.exi_run.specs.Answers.{IsBack, OfBoth, OfFile, OfWriting, Stands, StandsFor}
@@ -39,6 +42,7 @@ use Rattle.exi_run.specs.declared.status.Status.TheVariants as status
 use Rattle.exi_run.specs.Wholes.{IsBody, IsWhole, IsWholeFrom}
 use Rattle.exi_run.specs.Wishes.{Wish, body_by, body_for, head_bits, head_options, run_or_why, setting_for, stream_bytes, stream_of, written_for}
 use Rattle.exi_run.proofs.Places.{body_place}
+use Rattle.exi_run.proofs.Told.{same_body, setting_told}
 use Rattle.exi_run.proofs.Writes.{head_whole}
 use Rattle.exi_writer.specs.Same.{AreSame, AreSameText, ListIsSame, ListIsSameText, pruned_list}
 use Rattle.exi_writing.specs.Laws.{ListIsRead}
@@ -167,6 +171,55 @@ whole_back law w known file r ready none name back =
     subst (λ (x : Result Header Fault). IsWholeFrom (basis_for w known name) (stream_of w r) x (events_of r.events) (written_end w r)) (sym read)
     (subst (λ (j : Job). IsBody j (events_of r.events) (written_end w r)) (sym (same_job w known name (stream_of w r) h (length (head_bits w)) options_are k.2.body ready.2)) back)
 
+-- ---- with a name of the schema in it
+not_empty : (name : List ℕ) → name ≢ [] → is_empty_name name ≡ false
+not_empty [] some = absurd (some refl)
+not_empty (c ∷ cs) some = grind (arith, length-le-encodes (c ∷ cs))
+
+same_name : (name : List ℕ) → is_another (Some (encode_utf8_all name)) name ≡ false
+same_name name = ap not ((bytes_eq-Decides (encode_utf8_all name) (encode_utf8_all name)).1 refl)
+
+-- the options that are read: those of the words, which tell no schema, or with the name that was told
+IsHead : Wish → List ℕ → Options → Type 0
+IsHead w name o = (o ≡ record w.options { schema = schema.Id name }) ⊎ (o ≡ w.options)
+
+head_is : (w : Wish) (name : List ℕ) (told : Bool) → w.schema ≡ schema.Id name → (o : Options) → o ≡ (if told then head_options w else w.options) → IsHead w name o
+unfolding IsHead
+head_is w name true named o is = inl (is ∙ ap (λ (s : SchemaWord). record w.options { schema = s }) named)
+head_is w name false named o is = inr is
+
+abbrev basis_named : Wish → Option Outline → List ℕ → Basis
+basis_named w known name = basis_for w known (Some (encode_utf8_all name))
+
+named_header : (name : List ℕ) (h : Header) → is_empty_name name ≡ false → h.options.schema ≡ schema.Id name → known_by (Some (encode_utf8_all name)) (Ok h) ≡ Ok h
+named_header name h some is = rw (is, some, same_name name) refl
+
+named_job : (w : Wish) (known : Option Outline) (name : List ℕ) (bytes : List ℕ) (h : Header) (n : ℕ) → is_empty_name name ≡ false → h.options ≡ record w.options { schema = schema.Id name } → h.body ≡ n → job_by (basis_named w known name) bytes h ≡ record { setting = setting_told (if_any known) w.options (schema.Id name); bytes = bytes; body = n }
+named_job w known name bytes h n some is at = rw (is, at, some) refl
+
+-- the header is read, and the body goes by options that are those of the words but for what they say of the schema
+named_whole : (w : Wish) (known : Option Outline) (name bytes : List ℕ) (h : Header) (n : ℕ) (es : List Happening) (e : Ending) → is_empty_name name ≡ false → w.options.schema ≡ schema.Absent → IsHead w name h.options → h.body ≡ n → IsBody (record { setting = setting_for w known; bytes = bytes; body = n }) es e → IsWholeFrom (basis_named w known name) bytes (known_by (Some (encode_utf8_all name)) (Ok h)) es e
+unfolding IsHead
+named_whole w known name bytes h n es e some plain (inl is) at back =
+    let read = named_header name h some (ap (λ (x : Options). x.schema) is) in
+    let body = same_body (if_any known) w.options (schema.Id name) bytes n es e back in
+    subst (λ (x : Result Header Fault). IsWholeFrom (basis_named w known name) bytes x es e) (sym read)
+    (subst (λ (j : Job). IsBody j es e) (sym (named_job w known name bytes h n some is at)) body)
+named_whole w known name bytes h n es e some plain (inr is) at back =
+    let read = taken_header (Some (encode_utf8_all name)) h w.options is plain in
+    subst (λ (x : Result Header Fault). IsWholeFrom (basis_named w known name) bytes x es e) (sym read)
+    (subst (λ (j : Job). IsBody j es e) (sym (same_job w known (Some (encode_utf8_all name)) bytes h n is at plain)) back)
+
+named_back : HeadIsRead → (w : Wish) (known : Option Outline) (file : List ℕ) (r : Run) → IsReady (writing file w) → (name : List ℕ) → w.schema ≡ schema.Id name → name ≢ [] → IsBody (written_job w known r) (events_of r.events) (written_end w r) → IsWhole (basis_named w known name) (stream_of w r) (events_of r.events) (written_end w r)
+unfolding stream_header
+named_back law w known file r ready name is some back =
+    let all = head_bits w ++ r.bits in
+    let front : bits (stream_of w r) ≡ head_bits w ++ (r.bits ++ zeros (to_byte (length all))) = stream_bits all ∙ append_assoc (head_bits w) r.bits (zeros (to_byte (length all))) in
+    let k = law (head_options w) w.options w.told w.cookie (stream_of w r) (r.bits ++ zeros (to_byte (length all))) ready.1 ready.0 (octets_fit (octets (length all)) (padded all)) front in
+    let read : header_by (basis_named w known name) (stream_of w r) ≡ known_by (Some (encode_utf8_all name)) (Ok k.0) = ap (known_by (Some (encode_utf8_all name))) k.1 in
+    subst (λ (x : Result Header Fault). IsWholeFrom (basis_named w known name) (stream_of w r) x (events_of r.events) (written_end w r)) (sym read)
+    (named_whole w known name (stream_of w r) k.0 (length (head_bits w)) (events_of r.events) (written_end w r) (not_empty name some) ready.2 (head_is w name w.told is k.0.options k.2.options) k.2.body back)
+
 text_run : (w : Wish) (known : Option Outline) (text : List ℕ) (r : Run) → written_for w known text ≡ Ok r → (es : List Happening) → events_in text ≡ Ok es → run_for w known es ≡ Ok r
 unfolding written_for
 text_run w known text r h es is = run_of (run_for w known es) r (sym (ap (body_by w known) is) ∙ h)
@@ -181,7 +234,7 @@ same_texts law w (Some schema) text r free h none es is = absurd cc
 pub written_read : ListIsRead → ListIsSame → ListIsSameText → IsSchema without_schema → HeadIsRead → WrittenIsRead
 written_read list same texts plain head w name text known ready sound r h =
     let back = body_back list w known r (grammars_of plain known sound) ready.0 (body_run w known text r h) in
-    record { body = back; whole = λ none other. whole_back head w known name r ready none other back; same = same_events same w known text r h; texts = same_texts texts w known text r ready.0 h }
+    record { body = back; whole = λ none other. whole_back head w known name r ready none other back; named = λ outline own by is some. named_back head w known name r ready own is some back; same = same_events same w known text r h; texts = same_texts texts w known text r ready.0 h }
 
 -- ---- of the words
 text_back : WrittenIsRead → (w : Wish) (name : List ℕ) (known : Option Outline) (file : Option (List ℕ)) → IsReady (writing name w) → IsSound known → IfSome file (λ text. ReadsBack w known text)

@@ -6,6 +6,7 @@ pub mod Owing
 pub mod Bodies
 pub mod Writes
 pub mod Places
+pub mod Told
 pub mod Backs
 pub mod Serving
 pub mod Answering

@@ -3,8 +3,6 @@ use Rattle.std.specs.Prelude.{◌≡◌, ◌≢◌, ◌⊎◌, ℕ, ◌<◌, ◌
 use Rattle.exi_gram.specs.Outlines.{Outline}
 use Rattle.exi_gram.specs.Schemas.{IsSchema}
 use Rattle.exi_names.specs.Events.{Happening, Grows}
-use Rattle.exi_names.specs.Lists as lists
-use Rattle.exi_names.specs.declared.event_list.EventList.{EventList}
 use Rattle.xsd_file.specs.Bases.{Basis}
 use Rattle.exi_ports.specs.Ports.{file_at, GrowsInPart}
 use Rattle.exi_run.specs.declared.form.Form.{Form}
@@ -22,11 +20,14 @@ use Rattle.exi_run.specs.Backs.{ReadsBack}
 use Rattle.exi_run.specs.Dues.{Due, all_pieces, basis_by, count_lines, text_of, refusal_due, text_due, Files, most_bytes, found, long, failed, IsHad, Owed}
 use Rattle.exi_run.specs.Refusals.{refusal_line, refusal_status, schema_line, unwritten_line}
 use Rattle.exi_run.specs.Wholes.{IsWhole, IsFront}
+use Rattle.exi_run.specs.Stops.{halt_for}
 use Rattle.exi_run.specs.Statuses.{IsTold, Sort, told, refuses, breaks, starved, sort_of}
 use Rattle.exi_run.specs.Tasks.{Task, Terms, stream, writing, counting, Need, document_of, needs_of}
 use Rattle.exi_run.specs.Wishes.{Wish, head_bits, stream_of, written_for}
 use Rattle.exi_run.specs.Endings.{status_of}
 use Rattle.exi_run.specs.Forms.{all_said, told_as}
+use Rattle.exi_writer.specs.Writing.{Answers, Listing}
+use Rattle.exi_writer.specs.declared.fault.WriteFault.{WriteFault}
 use Rattle.exi_writing.specs.Runs.{Run}
 use Rattle.xsd_file.specs.Documents.{IsDocument}
 use Rattle.xsd_file.specs.declared.refusal.SchemaRefusal.{SchemaRefusal}
@@ -101,12 +102,21 @@ DidLast ps (Err halt.Write) old new = GrowsByFront old (text_of ps) new
 DidLast ps (Err halt.Memory) old new = new ≡ old
 
 -- ---- of a stream that is written
--- the events that a text says, or the line that says none
-abbrev pub Lists : Result EventList Halt → Result (List Happening) ℕ → Type 0
-Lists (Ok list) read = read ≡ Ok (lists.events_of list)
-Lists (Err (halt.Refused r)) read = (line : ℕ) × (r ≡ refusal.Events (unwritten.Syntax line)) × (read ≡ Err line)
-Lists (Err halt.Write) read = ⊥
-Lists (Err halt.Memory) read = Unit {0}
+-- what is answered behind these events now was to be answered of them
+pub record Took (old : Listing) (es : List Happening) (new : Listing) : Type 0 where
+  pub behind : (answer : Result (List Bool) WriteFault) → Answers answer new [] → Answers answer old es
+
+-- all that the lines say was taken; or the first line that says no event, whatever was refused before it
+abbrev pub TakesAll : Result (Unit {0}) Halt → Result (List Happening) ℕ → Listing → Listing → Type 0
+TakesAll (Ok done) read old new = (es : List Happening) × (read ≡ Ok es) × Took old es new
+TakesAll (Err (halt.Refused r)) read old new = (line : ℕ) × (r ≡ refusal.Events (unwritten.Syntax line)) × (read ≡ Err line)
+TakesAll (Err halt.Write) read old new = ⊥
+TakesAll (Err halt.Memory) read old new = Unit {0}
+
+-- the bits of a list that ends here, or why there are none
+abbrev pub Finishes : Result (List Bool) Halt → Listing → Type 0
+Finishes (Ok out) list = Answers (Ok out) list []
+Finishes (Err h) list = (f : WriteFault) × (h ≡ halt_for f) × Answers (Err f) list []
 
 -- the bits of header and body, or why there are none
 abbrev pub Composes : Wish → Option Outline → List ℕ → Result (List Bool) Halt → Type 0

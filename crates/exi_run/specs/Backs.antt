@@ -1,5 +1,5 @@
 -- What is read of a stream that is written.
-use Rattle.std.specs.Prelude.{◌≡◌, ℕ, List, ◌++◌, length, Option, Some, None, Ok}
+use Rattle.std.specs.Prelude.{◌≡◌, ◌≢◌, ℕ, List, [], ◌++◌, length, Option, Some, None, Ok, encode_utf8_all}
 use Rattle.exi_evtext.specs.Parsing.{events_in}
 use Rattle.exi_gram.specs.Outlines.{Outline}
 use Rattle.exi_gram.specs.Schemas.{IsSchema}
@@ -30,12 +30,13 @@ abbrev pub written_from : Wish → Option Outline → Config
 written_from w known = first_config (setting_for w known) (length (head_bits w)) start.Body stream_bounds
 
 -- Reading the stream's body gives the events that were written, and ends at the last bit. So does reading the stream under the
--- same options and by the same schema, by whatever name it may be known, where the header tells no schema. These events are those of
--- the text that the options leave, one by one: each value is the one that its canonical text has under its datatype, which without a
--- schema is that text
+-- same options and by the same schema, by whatever name it may be known, where the header tells no schema; and where the header tells
+-- its name, which is not empty, and it is known by that name, as its bytes in UTF-8. These events are those of the text that the options
+-- leave, one by one: each value is the one that its canonical text has under its datatype, which without a schema is that text
 pub record IsReadBack (w : Wish) (known : Option Outline) (text : List ℕ) (r : Run) : Type 0 where
   pub body : IsBody (written_job w known r) (events_of r.events) (written_end w r)
   pub whole : w.schema ≡ schema.Absent → (name : Option (List ℕ)) → IsWhole (record { options = w.options; schema = known; name = name }) (stream_of w r) (events_of r.events) (written_end w r)
+  pub named : (outline : Outline) (name : List ℕ) → known ≡ Some outline → w.schema ≡ schema.Id name → name ≢ [] → IsWhole (record { options = w.options; schema = known; name = Some (encode_utf8_all name) }) (stream_of w r) (events_of r.events) (written_end w r)
   pub same : (es : List Happening) → events_in text ≡ Ok es → AreSame (setting_for w known) (written_from w known) (pruned_list w.options es) (events_of r.events)
   pub texts : known ≡ None → (es : List Happening) → events_in text ≡ Ok es → AreSameText (pruned_list w.options es) (events_of r.events)
 

@@ -1,4 +1,6 @@
 -- A stop of what a command uses is a stop of the command.
+use Rattle.exi_names.specs.declared.stops.TextStop.{TextStop}
+use Rattle.exi_names.specs.declared.stops.TextStop.TheVariants as text_stop
 use Rattle.exi_ports.specs.declared.sink.SinkStop.{SinkStop}
 use Rattle.exi_ports.specs.declared.sink.SinkStop.TheVariants as sink_stop
 use Rattle.exi_run.specs.declared.halt.Halt.{Halt}
@@ -19,6 +21,11 @@ halt_of sink_stop.Memory = halt.Memory
 abbrev pub halt_by : ReadStop → Halt
 halt_by read_stop.Stopped = halt.Write
 halt_by read_stop.Memory = halt.Memory
+
+-- of the event text
+abbrev pub halt_at : TextStop → Halt
+halt_at (text_stop.Syntax line) = halt.Refused (refusal.Events (unwritten.Syntax line))
+halt_at text_stop.Memory = halt.Memory
 
 -- of the writer
 abbrev pub halt_for : WriteFault → Halt

@@ -1,18 +1,19 @@
 //! A stream of an event text.
 
-ghost use Rattle.std.specs.Prelude.{◌≡◌, ◌≤◌, ◌∷◌, [], Some, None, IfOk, IsErrOf, length, option_copied};
+ghost use Rattle.std.specs.Prelude.{◌≡◌, ◌+◌, ◌<◌, ◌≤◌, ◌∷◌, ◌^◌, [], Some, None, IfOk, IsErrOf, length, option_copied};
 ghost use Rattle.exi_bits.specs.Bits.{IsBytes};
 ghost use Rattle.exi_bits.specs.Written.{IsWholeBytes};
-ghost use Rattle.exi_evtext.specs.Parsing.{events_in};
+ghost use Rattle.exi_evtext.specs.Parsing.{events_left};
 ghost use Rattle.exi_gram.specs.Switches.{align_of};
 ghost use Rattle.exi_names.specs.Events.{Rose};
 ghost use Rattle.exi_options.specs.Writing.{IsNamable};
-ghost use Rattle.exi_run.specs.Answers.{Composes, Did, DidLast, DidWrite, GrowsByFront, Lists, OfDocument, Served, Stands};
+ghost use Rattle.exi_run.specs.Answers.{Composes, Finishes, Did, DidLast, DidWrite, GrowsByFront, OfDocument, Served, Stands, TakesAll};
 ghost use Rattle.exi_run.specs.Dues.{Due, OwedOfBoth, OwedOfText, most_bytes};
 ghost use Rattle.exi_run.specs.Statuses.{IsTold};
 ghost use Rattle.exi_run.specs.Stops.{halt_for};
 ghost use Rattle.exi_run.specs.Tasks.{IsReady, gathered, names_of, writing_task};
-ghost use Rattle.exi_run.specs.Wishes.{head_bits, head_options, named_schema, stream_bytes, wish_of};
+ghost use Rattle.exi_run.specs.Wishes.{head_bits, head_options, named_schema, setting_for, stream_bytes, wish_of};
+ghost use Rattle.exi_writer.specs.Writing.{MayTake};
 
 use crate::command::Writing;
 use crate::files::fetch_file;
@@ -21,15 +22,18 @@ use crate::status::Status;
 use crate::stream::schema_in;
 use crate::unwritten::Unwritten;
 use exi_bits::BitOut;
-use exi_evtext::parse_events;
-use exi_gram::{Options, Schema, SchemaWord};
+use exi_evtext::EventLines;
+use exi_gram::{Book, Options, Schema, SchemaWord};
 use exi_header::write_header;
 use exi_meter::Limits;
-use exi_names::{EventList, Octets, TextStop, Txt};
+use exi_names::{Octets, Txt};
 use exi_ports::{Shelf, Sink};
+use exi_steps::Steps;
 use exi_tables::HashTables;
-use exi_writer::{WriteFault, write_body};
+use exi_writer::{ListWriter, WriteFault};
 use std::alloc::{AllocError, Global};
+use std::marker::Brand;
+use std::sync::ledger::{Blank, Ledger};
 use xsd_file::book_by;
 use xsd_file::laws::one_document;
 
@@ -45,17 +49,6 @@ fn halt_for(fault: WriteFault) -> Halt
             Halt::Refused(Refusal::Events(Unwritten::Limit { event, kind }))
         }
         WriteFault::Memory => Halt::Memory,
-    }
-}
-
-/// The events of a text.
-fn events_of(alloc: Global, text: &[u8]) -> Result<EventList, Halt>
-    ensures { Lists result (events_in text.now) }
-{
-    match parse_events(alloc, text) {
-        Ok(events) => Ok(events),
-        Err(TextStop::Syntax(line)) => Err(Halt::Refused(Refusal::Events(Unwritten::Syntax(line)))),
-        Err(TextStop::Memory) => Err(Halt::Memory),
     }
 }
 
@@ -91,7 +84,46 @@ fn head_of(alloc: Global, writing: &Writing<'_>) -> Result<BitOut, AllocError>
     write_header(alloc, &options, writing.given.told, writing.given.cookie)
 }
 
-/// The bits of the stream of an event text, by a schema that is known, if there is one.
+/// Writes the events of the lines that are left. Behind one that is refused the lines are read on: a line that says no event comes
+/// before all that is said of events. The steps that it counts are not looked at.
+fn write_lines<L: Ledger>(
+    lines: &mut EventLines<'_>,
+    list: &mut ListWriter<'_, HashTables>,
+    blank: Blank,
+) -> Result<(), Halt>
+    requires name { blank.name ≡ L.name }
+    requires parts { (blank.parts ≡ L.parts) × (blank.parts ≡ 1) }
+    requires going { MayTake list.old }
+    requires room { list.old.number + length lines.old.bytes < 2 ^ 64 }
+    ensures { TakesAll result (events_left lines.old) list.old list.new }
+{
+    let mut steps = Steps::<L>::of(blank);
+    while let Some(event) = lines.next()? {
+        list.push(&event, &mut steps);
+    }
+    Ok(())
+}
+
+/// What a stream is written by: the options of the words, and the schema that is known, if there is one.
+fn book_of(alloc: Global, writing: &Writing<'_>, schema: Option<Schema>) -> Result<Book, AllocError>
+    requires ready { IsReady (writing_task writing.now) }
+    ensures { IfOk result (λ b. b ≡ setting_for (wish_of (gathered writing.now.given)) schema) }
+{
+    book_by(alloc, schema, writing.given.options())
+}
+
+/// The bits of a list that ends here, or why there are none.
+fn finished(list: ListWriter<'_, HashTables>) -> Result<BitOut, Halt>
+    ensures { Finishes result list.entry }
+{
+    match list.finish() {
+        Ok(stream) => Ok(stream),
+        Err(fault) => Err(halt_for(fault)),
+    }
+}
+
+/// The bits of the stream of an event text, by a schema that is known, if there is one. Its events are written one after another,
+/// as the lines say them.
 fn compose(
     alloc: Global,
     writing: &Writing<'_>,
@@ -101,14 +133,13 @@ fn compose(
     requires ready { IsReady (writing_task writing.now) }
     ensures { Composes (wish_of (gathered writing.now.given)) schema text.now result }
 {
-    let events = events_of(alloc, text)?;
     let head = head_of(alloc, writing)?;
-    let book = book_by(alloc, schema, writing.given.options())?;
+    let book = book_of(alloc, writing, schema)?;
     let limits = Limits::of_stream();
-    match write_body::<HashTables>(alloc, &book, limits, events.as_slice(), head) {
-        Ok(stream) => Ok(stream),
-        Err(fault) => Err(halt_for(fault)),
-    }
+    let mut list = ListWriter::<HashTables>::new(alloc, &book, limits, head)?;
+    let mut lines = EventLines::new(alloc, text);
+    write_lines::<Brand>(&mut lines, &mut list, Blank::new(1))?;
+    finished(list)
 }
 
 /// Bytes, in one put.

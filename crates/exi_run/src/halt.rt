@@ -1,10 +1,11 @@
 ghost use Rattle.std.specs.Prelude.{◌≡◌};
 ghost use Rattle.exi_run.specs.Refusals.{refusal_line, refusal_status};
 ghost use Rattle.exi_run.specs.declared.halt.Halt.TheVariants.{Memory};
-ghost use Rattle.exi_run.specs.Stops.{halt_of, halt_by};
+ghost use Rattle.exi_run.specs.Stops.{halt_at, halt_of, halt_by};
 
 use crate::status::Status;
 use crate::unwritten::Unwritten;
+use exi_names::TextStop;
 use exi_ports::SinkStop;
 use exi_reader::ReadStop;
 use std::alloc::AllocError;
@@ -101,6 +102,17 @@ impl From<ReadStop> for Halt {
         match stop {
             ReadStop::Stopped => Halt::Write,
             ReadStop::Memory => Halt::Memory,
+        }
+    }
+}
+
+impl From<TextStop> for Halt {
+    ghost from_gives = { λ s e. e ≡ halt_at s };
+
+    fn from(stop: TextStop) -> Halt {
+        match stop {
+            TextStop::Syntax(line) => Halt::Refused(Refusal::Events(Unwritten::Syntax(line))),
+            TextStop::Memory => Halt::Memory,
         }
     }
 }

@@ -120,7 +120,8 @@ pub fn run<R: Threads + Wait + Sync, F: Shelf, O: Sink, G: Gate>(
 
     // Reading that stream by the same options and the same schema ends at the last bit that was written, and gives the events of the
     // text that the options leave, one by one: each value as the one that its canonical text has under the datatype by which it was
-    // written, without a schema as that text.
+    // written, without a schema as that text. It is read so with its header too, where this tells no schema, or a name that is not
+    // empty of the schema that is known, and by the same name.
     ensures read_back { OfWriting (task_of words.now) (F.files shelf.old) (λ wish document text. IsBack wish result document text) }
 
     // With status Events there is no such stream, and the sink took one line: the first line of the text that says no
