@@ -147,6 +147,7 @@ impl Book {
 ///
 /// At the first bit of a part: `Short` where the bits end before the part does, and `NoCode` where the
 /// state has no production whose code goes on so. The place in the input is then unchanged.
+#[inline(always)]
 pub fn read_code(input: &mut BitIn<'_>, book: &Book, grammar: u32, state: u32) -> Result<u32, Fault>
     requires exists { IsStateOf book.now grammar state }
     requires aligned { IsAligned (align_of book.now.options) input.old }
@@ -164,6 +165,7 @@ pub fn read_code(input: &mut BitIn<'_>, book: &Book, grammar: u32, state: u32) -
 }
 
 /// [`read_code`], with a blank for the steps, which nobody counts.
+#[inline(always)]
 fn find_in<L: Ledger>(
     input: &mut BitIn<'_>,
     book: &Book,

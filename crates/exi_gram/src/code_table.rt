@@ -85,6 +85,7 @@ impl CodeTable {
     ///
     /// At the first bit of a part: `Short` where the bits end before the part does, and `NoCode` where no
     /// code goes on so. The place in the input is then unchanged.
+    #[inline(always)]
     pub fn find<L: Ledger>(
         &self,
         input: &mut BitIn<'_>,
@@ -143,6 +144,7 @@ impl CodeTable {
     }
 
     /// Reads a code. After an `Err` the place in the input is anything.
+    #[inline(always)]
     fn walk<L: Ledger>(
         &self,
         input: &mut BitIn<'_>,
