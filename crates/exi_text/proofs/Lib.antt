@@ -1,4 +1,5 @@
 pub mod Sets
+mod Codes
 mod Runs
 mod WordTests
 pub mod Letters

@@ -250,7 +250,7 @@ pub no_run : (old : List ℕ) (count : ℕ) (s : Spot) → old ≡ [] → with_f
 no_run old count s none = ap (λ (o : List ℕ). with_front o (times code_at count s)) none ∙ nothing_before (times code_at count s)
 
 -- ---- what is written
-ascii_octet : (c : ℕ) → c < 128 → shortest c ≡ c ∷ []
+pub ascii_octet : (c : ℕ) → c < 128 → shortest c ≡ c ∷ []
 unfolding groups
 ascii_octet c small = rw (lt-ltb c 128 small) refl
 

@@ -1,5 +1,7 @@
-ghost use Rattle.std.specs.Prelude.{◌≡◌, ◌++◌, None, OnOk, OnErr, IsTrue, option_copied};
-ghost use Rattle.std.specs.Str.{chars};
+ghost use Rattle.std.specs.Prelude.{◌≡◌, ◌++◌, ◌≤◌, None, OnOk, OnErr, IsTrue, length, option_copied, take};
+ghost use Rattle.std.specs.Str.{IsAscii, chars};
+ghost use Rattle.exi_bits.specs.Bits.{bits};
+ghost use Rattle.exi_bits.specs.Unsigned.{shortest};
 ghost use Rattle.exi_bits.specs.Written.{IsWholeBytes};
 ghost use Rattle.exi_items.specs.Fronts.{HoldsFront};
 ghost use Rattle.exi_text.specs.Literals.{all_xml, char_bits, chars_bits};
@@ -49,6 +51,61 @@ fn put_chars(
     Ok(())
 }
 
+/// Adds a code point, an Unsigned Integer of one to three octets.
+#[inline(always)]
+fn put_code(out: &mut BitOut, c: char) -> Result<(), AllocError>
+    ensures ok { OnOk result (out.new ≡ out.old ++ bits (shortest c)) }
+    ensures err { OnErr result (out.new ≡ out.old) }
+{
+    let code = u64::from(c as u32);
+    if code < 0x80 {
+        return out.put(code, 8, Align::Bits);
+    }
+    let first = code % 128 + 128;
+    let behind = code / 128;
+    if behind < 0x80 {
+        return out.put(first * 256 + behind, 16, Align::Bits);
+    }
+    let second = behind % 128 + 128;
+    out.put(first * 65536 + second * 256 + behind / 128, 24, Align::Bits)
+}
+
+/// How many octets from the first on are ASCII, looked at eight at a time.
+#[inline(always)]
+fn ascii_front(octets: &[u8]) -> usize
+    ensures within { result ≤ length octets.now }
+    ensures ascii { IsAscii (take result octets.now) }
+{
+    let mut run = 0;
+    while octets.len() - run >= 8 && octets[run..run + 8].is_ascii() {
+        run += 8;
+    }
+    while run < octets.len() && octets[run] < 0x80 {
+        run += 1;
+    }
+    run
+}
+
+/// Adds the code points one after another: runs of ASCII by their octets, and each other one by itself.
+fn put_mixed(out: &mut BitOut, text: &str, align: Align) -> Result<(), AllocError>
+    requires aligned { IsWholeBytes align out.old }
+    ensures ok { OnOk result (out.new ≡ out.old ++ chars_bits None align (chars text.now)) }
+    ensures err { OnErr result (HoldsFront out.old (chars_bits None align (chars text.now)) out.new) }
+    ensures aligned { IsWholeBytes align out.new }
+{
+    let mut left = text;
+    loop {
+        let (front, behind) = left.split_at(ascii_front(left.as_bytes()));
+        out.octets(front.as_bytes())?;
+        let mut others = behind.chars();
+        match others.next() {
+            Some(c) => put_code(out, c)?,
+            None => return Ok(()),
+        }
+        left = others.as_str();
+    }
+}
+
 /// Adds the code points one after another: those of a text of ASCII alone are its octets.
 fn put_codes(out: &mut BitOut, text: &str, align: Align) -> Result<(), AllocError>
     requires aligned { IsWholeBytes align out.old }
@@ -59,7 +116,7 @@ fn put_codes(out: &mut BitOut, text: &str, align: Align) -> Result<(), AllocErro
     if text.is_ascii() {
         return out.octets(text.as_bytes());
     }
-    put_chars(out, text, None, align)
+    put_mixed(out, text, align)
 }
 
 /// Adds the characters of a text without its length, with a set of characters or without
