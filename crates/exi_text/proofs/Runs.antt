@@ -76,7 +76,7 @@ first_octets n text le =
     ap (λ (k : ℕ). take n (octets_of k text)) (sym e) ∙ ap (λ (t : List ℕ). take n t) (octets_add n (8 - n) text) ∙ take_at (octets_of n text) (octets_of (8 - n) (drop (8 * n) text)) n (length-octets_of n text)
 
 -- ---- a word
-word_taken : (s : Spot) (v : ℕ) (t : Spot) → number_at 64 align.Bits s ≡ Some (v, t) → (64 ≤ left s) × (v ≡ value_of (take 64 (rest s)))
+pub word_taken : (s : Spot) (v : ℕ) (t : Spot) → number_at 64 align.Bits s ≡ Some (v, t) → (64 ≤ left s) × (v ≡ value_of (take 64 (rest s)))
 unfolding number_at
 word_taken s v t e =
     let p = guard_some (ltb (left s) 64) (value_of (take 64 (rest s)), moved s 64) (v, t) e in

@@ -1,4 +1,4 @@
-ghost use Rattle.std.specs.Prelude.{◌≡◌, ◌-◌, ◌%◌, ◌<◌, ◌≤◌, IfOk, IfErr, OnErr, option_copied};
+ghost use Rattle.std.specs.Prelude.{◌≡◌, ◌-◌, ◌%◌, ◌<◌, ◌≤◌, [], IfOk, IfErr, MatchOption, Ok, OnErr, option_copied};
 ghost use Rattle.exi_bits.specs.Bits.{IsAligned};
 ghost use Rattle.exi_bits.specs.Unsigned.{Reads, ReadsSome, Stops, StopsAs};
 ghost use Rattle.exi_bits.specs.Repeat.{times, with_front};
@@ -13,6 +13,42 @@ use exi_meter::Meter;
 use exi_names::{Alphabet, Txt, xml_char};
 use std::alloc::{AllocError, Global};
 
+/// A character whose code point takes an octet, two or three, all in the word that stands at the place.
+/// None where it takes more, is no XML character, or fewer bits than a word has are left; nothing moves then.
+fn short_code(input: &mut BitIn<'_>) -> Option<char>
+    ensures read { MatchOption result (input.new ≡ input.old) (λ c. code_at input.old ≡ Ok (c, input.new)) }
+    ensures bytes { input.new.bytes ≡ input.old.bytes }
+    ensures phase { input.new.place % 8 ≡ input.old.place % 8 }
+{
+    let bit = input.at();
+    let Some(word) = input.take(64, Align::Bits) else {
+        return None;
+    };
+    let behind = input.at();
+    let octets = word.to_be_bytes();
+    let first = u128::from(octets[0]);
+    let second = u128::from(octets[1]);
+    let third = u128::from(octets[2]);
+    if first < 128 {
+        if let Some(c) = xml_char(first) {
+            input.go_to_bit(behind - 56);
+            return Some(c);
+        }
+    } else if second < 128 {
+        if let Some(c) = xml_char(first - 128 + 128 * second) {
+            input.go_to_bit(behind - 48);
+            return Some(c);
+        }
+    } else if third < 128 {
+        if let Some(c) = xml_char(first - 128 + 128 * (second - 128 + 128 * third)) {
+            input.go_to_bit(behind - 40);
+            return Some(c);
+        }
+    }
+    input.go_to_bit(bit);
+    None
+}
+
 /// A character by its code point, an Unsigned Integer.
 ///
 /// # Errors
@@ -24,6 +60,9 @@ fn code(input: &mut BitIn<'_>) -> Result<char, Fault>
     ensures bytes { input.new.bytes ≡ input.old.bytes }
     ensures phase { input.new.place % 8 ≡ input.old.place % 8 }
 {
+    if let Some(c) = short_code(input) {
+        return Ok(c);
+    }
     let bit = input.at();
     let code = input.unsigned()?;
     match xml_char(code) {
@@ -130,72 +169,75 @@ fn add_run(input: &mut BitIn<'_>, text: &mut Txt, most: u64) -> Result<u64, Allo
     Ok(most - left)
 }
 
-/// So many characters by their code points. After an `Err` the place is anything.
-fn codes(alloc: Global, input: &mut BitIn<'_>, count: u128) -> Result<Txt, Stop>
-    ensures read { Stops (λ t. t) result input.new (times code_at count input.old) }
+/// Adds so many characters by their code points to an empty text. After an `Err` the place is anything.
+fn codes(input: &mut BitIn<'_>, text: &mut Txt, count: u128) -> Result<(), Stop>
+    requires empty { text.old ≡ [] }
+    ensures read { Stops (λ _. text.new) result input.new (times code_at count input.old) }
     ensures bytes { input.new.bytes ≡ input.old.bytes }
     ensures phase { input.new.place % 8 ≡ input.old.place % 8 }
 {
-    let mut text = Txt::new(alloc);
     let room = room_for(input, count, 8);
     text.reserve(room)?;
     let mut left = count;
     if u128::from(room as u64) == count {
-        left -= u128::from(add_run(input, &mut text, room as u64)?);
+        left -= u128::from(add_run(input, text, room as u64)?);
     }
     if left > 0 {
-        add_others(input, &mut text, left)?;
+        add_others(input, text, left)?;
     }
-    Ok(text)
+    Ok(())
 }
 
-/// So many characters by their places in the set. After an `Err` the place is anything.
+/// Adds so many characters by their places in the set to an empty text. After an `Err` the place is
+/// anything.
 fn characters(
-    alloc: Global,
     input: &mut BitIn<'_>,
+    text: &mut Txt,
     count: u128,
     set: &Set<'_>,
     align: Align,
-) -> Result<Txt, Stop>
+) -> Result<(), Stop>
     requires aligned { IsAligned align input.old }
-    ensures read { Stops (λ t. t) result input.new (times (in_set_at set.now align) count input.old) }
+    requires empty { text.old ≡ [] }
+    ensures read { Stops (λ _. text.new) result input.new (times (in_set_at set.now align) count input.old) }
     ensures bytes { input.new.bytes ≡ input.old.bytes }
     ensures aligned { IsAligned align input.new }
 {
-    let mut text = Txt::new(alloc);
     text.reserve(room_for(input, count, set.width()))?;
     for _ in 0..count {
         let c = in_set(input, set, align)?;
         text.push(c)?;
     }
-    Ok(text)
+    Ok(())
 }
 
-/// Charges the characters, and reads them. After an `Err` the place is anything.
+/// Charges the characters, and adds them to an empty text. After an `Err` the place is anything.
 #[tactic(auto, unfolding(crate::specs::Literals::chars_at))]
 fn charged_chars(
     alloc: Global,
     input: &mut BitIn<'_>,
+    text: &mut Txt,
     count: u128,
     set: Option<&Alphabet>,
     align: Align,
     meter: &mut Meter,
-) -> Result<Txt, Stop>
+) -> Result<(), Stop>
     requires aligned { IsAligned align input.old }
-    ensures read { Charges (λ t. t) result input.new meter.new (chars_at (option_copied set.entry) align count (record { spot = input.old; meter = meter.old })) }
+    requires empty { text.old ≡ [] }
+    ensures read { Charges (λ _. text.new) result input.new meter.new (chars_at (option_copied set.entry) align count (record { spot = input.old; meter = meter.old })) }
     ensures meter { meter.new ≡ after_text meter.old count }
     ensures bytes { input.new.bytes ≡ input.old.bytes }
     ensures aligned { IsAligned align input.new }
 {
     charge_text(meter, count, input.at())?;
     let Some(alphabet) = set else {
-        return codes(alloc, input, count);
+        return codes(input, text, count);
     };
     if count == 0 {
-        return Ok(Txt::new(alloc));
+        return Ok(());
     }
     let set = Set::of(alloc, alphabet)?;
-    characters(alloc, input, count, &set, align)
+    characters(input, text, count, &set, align)
 }
 
 /// Reads the characters of a string whose length is `count`, with a set of characters or without
@@ -228,8 +270,9 @@ pub fn read_chars(
 {
     let start = input.at();
     let before = *meter;
-    match charged_chars(alloc, input, count, set, align, meter) {
-        Ok(text) => Ok(text),
+    let mut text = Txt::new(alloc);
+    match charged_chars(alloc, input, &mut text, count, set, align, meter) {
+        Ok(()) => Ok(text),
         Err(stop) => {
             input.go_to_bit(start);
             if let Stop::Memory = stop {

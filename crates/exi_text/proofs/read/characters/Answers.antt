@@ -7,7 +7,7 @@ use Rattle.exi_text.proofs.read.characters.Goals as goal
 
 pub loop-init : goal.loop-init
 loop-init c = record {
-  so_far = rw (c.reserve.ensures, c.new-text.ensures) (times_starts (in_set_at c.args.set.now c.args.align) c.args.count c.args.input.now);
+  so_far = rw (c.reserve.ensures, c.requires.empty) (times_starts (in_set_at c.args.set.now c.args.align) c.args.count c.args.input.now);
   aligned = c.requires.aligned;
   bytes = refl;
 }
