@@ -85,6 +85,16 @@ fn first_stand(bytes: &[u8], count: usize) -> bool
     true
 }
 
+/// Spaces behind what is laid, so that what the room held there does not matter.
+#[inline(always)]
+fn blank_behind(room: &mut [u8], at: usize)
+    requires { at + WIDE ≤ length room.old }
+    ensures kept { take at room.new ≡ take at room.old }
+    ensures len { length room.new ≡ length room.old }
+{
+    lay_bytes(room, at, &[b' '; WIDE]);
+}
+
 /// A text, where it is plain and there is room for it and for more.
 #[inline(always)]
 fn lay_text(room: &mut [u8], at: usize, text: &Txt) -> Option<usize>
@@ -99,6 +109,7 @@ fn lay_text(room: &mut [u8], at: usize, text: &Txt) -> Option<usize>
         return None;
     }
     let end = lay_run(room, at, bytes);
+    blank_behind(room, end);
     if first_stand(&room[at..], bytes.len()) {
         Some(end)
     } else {

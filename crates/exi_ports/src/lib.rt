@@ -30,14 +30,17 @@
 
 mod file_shelf;
 mod gate;
+mod lay;
 mod mem_shelf;
 mod mem_sink;
 mod out_sink;
 mod shelf;
 mod sink;
+mod waiting;
 
 pub use file_shelf::FileShelf;
 pub use gate::{Gate, NoGate};
+pub use lay::Lay;
 pub use mem_shelf::MemShelf;
 pub use mem_sink::MemSink;
 pub use out_sink::OutSink;

@@ -1,17 +1,16 @@
-ghost use Rattle.std.specs.Prelude.{◌≡◌, ◌≤◌, ◌<◌, ◌-◌, ◌++◌, ◌↔◌, None, IsErrOf, IsOk, IfOk, OnOk, IsTrue, [], length, take, vec_capacity};
+ghost use Rattle.std.specs.Prelude.{◌≡◌, ◌≤◌, ◌<◌, ◌-◌, ◌++◌, ◌↔◌, None, IsErrOf, IsOk, IfOk, OnOk, IsTrue, [], length, take};
 ghost use Rattle.std.specs.Io.KnownBytes.{Appends, Keeps, append_known};
 ghost use Rattle.exi_names.specs.Events.{Rose, Grows};
 ghost use Rattle.exi_ports.specs.Ports.{GrowsInPart};
 ghost use Rattle.exi_ports.specs.Edge.{untold, TakesPiece, IsRest, faults_after_put};
 
+use crate::lay::Lay;
 use crate::sink::{Sink, SinkStop};
+use crate::waiting::{BUFFER, Waiting};
 use std::alloc::{AllocError, Global};
 use std::io;
 use std::io::Write;
 use std::marker::Model;
-
-/// How many bytes may wait before they are written.
-const BUFFER: usize = 65_536;
 
 /// Standard output, written in large parts.
 ///
@@ -24,20 +23,16 @@ const BUFFER: usize = 65_536;
 #[derive(Drop)]
 pub struct OutSink<'a, R: Print> {
     rt: &'a R,
-    waiting: Vec<u8>,
+    waiting: Waiting,
     faults: u64,
 }
 
 impl<'a, R: Print> Model for OutSink<'a, R> {
-    ghost use Rattle.std.specs.Prelude.{◌≤◌, vec_capacity};
-    ghost use Rattle.exi_ports.specs.declared.out_sink.TheConstants.{BUFFER};
     ghost use Rattle.exi_ports.specs.Edge.{OutState};
 
     ghost Value = { OutState };
 
-    ghost view = { λ s. record { waiting = s.waiting.items; faults = s.faults } };
-
-    ghost invariant = { λ s. BUFFER ≤ vec_capacity s.waiting };
+    ghost view = { λ s. record { waiting = s.waiting; faults = s.faults } };
 }
 
 impl<'a, R: Print> OutSink<'a, R> {
@@ -51,7 +46,7 @@ impl<'a, R: Print> OutSink<'a, R> {
     {
         Ok(OutSink {
             rt,
-            waiting: Vec::with_capacity(alloc, BUFFER)?,
+            waiting: Waiting::new(alloc)?,
             faults: 0,
         })
     }
@@ -122,22 +117,34 @@ impl<'a, R: Print> Sink for OutSink<'a, R> {
         let taken = gather(&mut io::writer(self.rt), &mut self.waiting, piece);
         self.counted(taken)
     }
+
+    /// Lets the piece wait, where there is room.
+    #[inline(always)]
+    fn lay<P: Lay>(&mut self, piece: &P) -> bool
+        ensures taken { IsTrue result → Grows untold (P.bytes piece.now) untold }
+        ensures same { ¬ (IsTrue result) → untold ≡ untold }
+        ensures unmoved { self.new.faults ≡ self.old.faults }
+
+        // This sink tells what waits.
+        ensures behind { IsTrue result → self.new.waiting ≡ self.old.waiting ++ P.bytes piece.now }
+        ensures none { ¬ (IsTrue result) → self.new ≡ self.old }
+    {
+        self.waiting.lay(piece)
+    }
 }
 
 /// Takes a piece: it waits where there is room, and is written behind what waits where it is too large to wait.
 ///
 /// What was taken are the bytes that the writer holds and then those that wait. False means that a write failed.
 #[inline(always)]
-fn gather<W: Write>(to: &mut W, waiting: &mut Vec<u8>, piece: &[u8]) -> bool
-    requires { BUFFER ≤ vec_capacity waiting.old }
-    ensures piece { TakesPiece (append_known (W.contents to.old) waiting.old.items) (append_known (W.contents to.new) waiting.new.items) piece.now result }
-    ensures behind { IsTrue result → length piece.now ≤ BUFFER - length waiting.old.items → waiting.new.items ≡ waiting.old.items ++ piece.now }
-    ensures alone { IsTrue result → BUFFER - length waiting.old.items < length piece.now → length piece.now ≤ BUFFER → waiting.new.items ≡ piece.now }
-    ensures straight { IsTrue result → BUFFER < length piece.now → waiting.new.items ≡ [] }
-    ensures rest { ¬ (IsTrue result) → IsRest waiting.new.items waiting.old.items }
-    ensures room { BUFFER ≤ vec_capacity waiting.new }
+fn gather<W: Write>(to: &mut W, waiting: &mut Waiting, piece: &[u8]) -> bool
+    ensures piece { TakesPiece (append_known (W.contents to.old) waiting.old) (append_known (W.contents to.new) waiting.new) piece.now result }
+    ensures behind { IsTrue result → length piece.now ≤ BUFFER - length waiting.old → waiting.new ≡ waiting.old ++ piece.now }
+    ensures alone { IsTrue result → BUFFER - length waiting.old < length piece.now → length piece.now ≤ BUFFER → waiting.new ≡ piece.now }
+    ensures straight { IsTrue result → BUFFER < length piece.now → waiting.new ≡ [] }
+    ensures rest { ¬ (IsTrue result) → IsRest waiting.new waiting.old }
 {
-    if piece.len() > BUFFER.saturating_sub(waiting.len()) {
+    if piece.len() > BUFFER - waiting.len() {
         if !write_out(to, waiting) {
             return false;
         }
@@ -145,26 +152,25 @@ fn gather<W: Write>(to: &mut W, waiting: &mut Vec<u8>, piece: &[u8]) -> bool
             return write_run(to, piece) == piece.len();
         }
     }
-    waiting.extend_from_slice(piece).unwrap();
+    waiting.push(piece);
     true
 }
 
 /// Writes what waits; what could not be written waits on. True means that nothing waits any more.
 #[cold]
 #[inline(never)]
-fn write_out<W: Write>(to: &mut W, waiting: &mut Vec<u8>) -> bool
-    ensures kept { Keeps (append_known (W.contents to.old) waiting.old.items) (append_known (W.contents to.new) waiting.new.items) }
-    ensures empty { IsTrue result → waiting.new.items ≡ [] }
-    ensures rest { IsRest waiting.new.items waiting.old.items }
-    ensures capacity { vec_capacity waiting.new ≡ vec_capacity waiting.old }
+fn write_out<W: Write>(to: &mut W, waiting: &mut Waiting) -> bool
+    ensures kept { Keeps (append_known (W.contents to.old) waiting.old) (append_known (W.contents to.new) waiting.new) }
+    ensures empty { IsTrue result → waiting.new ≡ [] }
+    ensures rest { IsRest waiting.new waiting.old }
 {
-    let count = write_run(to, waiting);
+    let count = write_run(to, waiting.bytes());
     if count == waiting.len() {
         waiting.clear();
         return true;
     }
-    waiting.drain(..count);
-    waiting.is_empty()
+    waiting.drop_front(count);
+    waiting.len() == 0
 }
 
 /// Writes bytes in order until none is left or a write fails or takes nothing, and answers how many were written.

@@ -1,7 +1,8 @@
-ghost use Rattle.std.specs.Prelude.{◌≡◌, ◌≤◌, List, ℕ, Option, OnOk, IsErrOf};
+ghost use Rattle.std.specs.Prelude.{◌≡◌, ◌≤◌, List, ℕ, Option, OnOk, IsErrOf, IsTrue};
 ghost use Rattle.exi_names.specs.Events.{Rose, Grows};
 ghost use Rattle.exi_ports.specs.Ports.{GrowsInPart};
 
+use crate::lay::Lay;
 use thiserror::Error;
 
 /// Why a put stopped.
@@ -39,4 +40,11 @@ pub trait Sink {
         ensures later { faults self.old ≤ faults self.new }
         ensures failed { IsErrOf result SinkStop.Failed → Rose (faults self.old) (faults self.new) }
         ensures unmoved { IsErrOf result SinkStop.Memory → faults self.new ≡ faults self.old };
+
+    /// Takes one piece after all that was taken before, as [`Sink::put`] does, but lays it at once where it waits. False
+    /// where the sink has no such place, or no room in it: nothing was taken, and the piece is still to be put.
+    fn lay<P: Lay>(&mut self, piece: &P) -> bool
+        ensures taken { IsTrue result → Grows (taken self.old) (P.bytes piece.now) (taken self.new) }
+        ensures same { ¬ (IsTrue result) → taken self.new ≡ taken self.old }
+        ensures unmoved { faults self.new ≡ faults self.old };
 }

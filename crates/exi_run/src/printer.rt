@@ -7,7 +7,7 @@ ghost use Rattle.exi_run.specs.declared.form.Form.TheVariants as form;
 
 use exi_evtext::{lay_event, push_event};
 use exi_names::{EventOut, EventRef, PushStop};
-use exi_ports::{Sink, SinkStop};
+use exi_ports::{Lay, Sink, SinkStop};
 
 /// Prints each event as a line, in one put. It stops where the sink fails.
 #[derive(Drop)]
@@ -61,19 +61,33 @@ impl<'a, O: Sink> EventOut for TextPrinter<'a, O> {
     ghost more = { λ a b c es fs. prints_more form.Text (O.taken a.out.now) (O.taken b.out.now) (O.taken c.out.now) (O.faults a.out.now) (O.faults b.out.now) (O.faults c.out.now) es fs };
 }
 
-/// How long a line may be that is laid without asking for memory.
-const ROOM: usize = 192;
+/// The line of an event, laid where it waits.
+#[derive(Drop)]
+struct Line<'a> {
+    event: &'a EventRef<'a>,
+}
+
+impl<'a> Lay for Line<'a> {
+    ghost use Rattle.exi_evtext.specs.Lines.{line_of};
+    ghost use Rattle.exi_names.specs.Shown.{shows};
+
+    ghost bytes = { λ l. line_of (shows l.event.now) };
+
+    #[inline(always)]
+    fn lay(&self, room: &mut [u8]) -> Option<usize> {
+        lay_event(room, self.event)
+    }
+}
 
 /// The line of an event, in one put.
 #[inline(always)]
 fn put_event<O: Sink>(line: &mut String, out: &mut O, event: &EventRef<'_>) -> Result<(), SinkStop>
     ensures { PutsLine form.Text (shows event.now) result (O.taken out.old) (O.faults out.old) (O.taken out.new) (O.faults out.new) }
 {
-    let mut room = [b' '; ROOM];
-    match lay_event(&mut room[..], event) {
-        Some(end) => out.put(&room[..end]),
-        None => put_long(line, out, event),
+    if out.lay(&Line { event }) {
+        return Ok(());
     }
+    put_long(line, out, event)
 }
 
 /// The same by way of a text that grows: any event's.
