@@ -69,7 +69,8 @@ impl Space {
     }
 
     /// The URI that a place tells, with its text, or `BadPlace` at the place's first bit.
-    fn told<T: Tables>(tables: &T, place: u32, bit: u64) -> Result<(Space, &Txt), Fault>
+    #[inline(always)]
+    pub fn told<T: Tables>(tables: &T, place: u32, bit: u64) -> Result<(Space, &Txt), Fault>
         ensures told { MatchResult result (λ x. live_at (uris (T.held tables.now)) place ≡ Some x.1.now) (λ f. (live_at (uris (T.held tables.now)) place ≡ None) × (f ≡ record { kind = kind.BadPlace; bit = bit })) }
         ensures missed { IfOk result (λ x. x.0.missed ≡ None) }
         ensures text { IfOk result (λ x. space_text (T.held tables.now) x.0 ≡ x.1.now) }
@@ -223,6 +224,25 @@ pub fn read_local<T: Tables>(
     let text = told(space.local_at(tables, place), bit)?;
     charge_text(meter, text, input.at())?;
     Ok(Spelled::Placed(place))
+}
+
+/// The local name of a URI that a place tells: its least place, and its text. `BadPlace` at the place's first bit
+/// where there is none.
+#[inline(always)]
+pub fn told_local<T: Tables>(
+    tables: &T,
+    uri: u32,
+    place: u32,
+    bit: u64,
+) -> Result<(u32, &Txt), Fault>
+    requires uri { uri < length (uris (T.held tables.now)) }
+    ensures told { MatchResult result (λ x. live_at (locals (T.held tables.now) uri) place ≡ Some x.1.now) (λ f. (live_at (locals (T.held tables.now) uri) place ≡ None) × (f ≡ record { kind = kind.BadPlace; bit = bit })) }
+    ensures text { IfOk result (λ x. text_in (locals (T.held tables.now) uri) x.0 ≡ x.1.now) }
+    ensures least { IfOk result (λ x. x.0 ≡ place_in (locals (T.held tables.now) uri) x.1.now) }
+    ensures within { IfOk result (λ x. x.0 < length (locals (T.held tables.now) uri)) }
+{
+    let text = told(tables.local_at(uri, place), bit)?;
+    Ok((tables.least_local(uri, place), text))
 }
 
 /// Adds a local name of a URI where it was spelled out, and gives its least place.

@@ -1,14 +1,14 @@
-ghost use Rattle.std.specs.Prelude.{◌≡◌, ◌^◌};
+ghost use Rattle.std.specs.Prelude.{◌≡◌, ◌^◌, Ok, IfNone, IfSome};
 ghost use Rattle.std.specs.Option.{option_copied};
 ghost use Rattle.exi_bits.specs.Bits.{IsAligned};
 ghost use Rattle.exi_tables.specs.Growth.{NoneLonger};
-ghost use Rattle.exi_tables.specs.Partitions.{IsName, Partitions};
-ghost use Rattle.exi_typed.specs.ReadStates.{GoesOrStops, read_state};
+ghost use Rattle.exi_tables.specs.Partitions.{IsName, Partitions, values};
+ghost use Rattle.exi_typed.specs.ReadStates.{Goes, GoesOrStops, read_state};
 ghost use Rattle.exi_typed.specs.Places.{string_text, with_string};
-ghost use Rattle.exi_typed.specs.Strings.{literal_at, no_growth, value_at};
+ghost use Rattle.exi_typed.specs.Strings.{hit_at, listed, literal_at, no_growth, own_values, value_at};
 
 use crate::charge::{charge_text, told};
-use exi_bits::{Align, BitIn, Kind, Stop};
+use exi_bits::{Align, BitIn, Fault, Kind, Stop};
 use exi_meter::Meter;
 use exi_names::{Alphabet, NameId, Txt};
 use exi_tables::Tables;
@@ -62,6 +62,160 @@ pub fn read_literal(
     read_chars(alloc, input, count, None, align, meter)
 }
 
+/// The text that a place among the values of a name tells. `None` where there is a fault; nothing is then taken
+/// or charged.
+#[inline(never)]
+#[tactic(auto, unfolding(crate::specs::Strings::hit_at, crate::specs::Strings::charged_at, exi_items::specs::Charges::text_charge))]
+fn own_text<'a, T: Tables>(
+    input: &mut BitIn<'_>,
+    align: Align,
+    name: NameId,
+    tables: &'a T,
+    meter: &mut Meter,
+) -> Option<&'a Txt>
+    requires name { IsName (T.held tables.now) name }
+    requires aligned { IsAligned align input.old }
+    ensures read { IfSome result (λ t. hit_at align (own_values (T.held tables.now) name) (read_state input.old meter.old (T.held tables.now)) ≡ Ok (t.now, read_state input.new meter.new (T.held tables.now))) }
+    ensures place { IfNone result (input.new ≡ input.old) }
+    ensures meter { IfNone result (meter.new ≡ meter.old) }
+    ensures bytes { input.new.bytes ≡ input.old.bytes }
+    ensures aligned { IsAligned align input.new }
+{
+    let bit = input.at();
+    let count = tables.name_values(name);
+    let Ok(place) = input.below(u64::from(count), align, Kind::BadPlace) else {
+        return None;
+    };
+    let Some(text) = tables.name_value_at(name, place as u32) else {
+        input.go_to_bit(bit);
+        return None;
+    };
+    if meter.text(u128::from(text.count())) {
+        return Some(text);
+    }
+    input.go_to_bit(bit);
+    None
+}
+
+/// Reads a place among the values of a name, and gives its text or the fault.
+#[cold]
+#[inline(never)]
+#[tactic(auto, unfolding(crate::specs::Strings::hit_at, crate::specs::Strings::charged_at))]
+fn own_or_fault<'a, T: Tables>(
+    input: &mut BitIn<'_>,
+    align: Align,
+    name: NameId,
+    tables: &'a T,
+    meter: &mut Meter,
+) -> Result<&'a Txt, Fault>
+    requires name { IsName (T.held tables.now) name }
+    requires aligned { IsAligned align input.old }
+    ensures read { Goes (λ t. (t.now, read_state input.new meter.new (T.held tables.now))) meter.new result (hit_at align (own_values (T.held tables.now) name) (read_state input.old meter.old (T.held tables.now))) }
+    ensures bytes { input.new.bytes ≡ input.old.bytes }
+    ensures aligned { IsAligned align input.new }
+{
+    let bit = input.at();
+    let count = tables.name_values(name);
+    let place = input.below(u64::from(count), align, Kind::BadPlace)?;
+    let text = told(tables.name_value_at(name, place as u32), bit)?;
+    charge_text(meter, text, input.at())?;
+    Ok(text)
+}
+
+/// Reads a place among the values of a name, and gives its text.
+#[inline(always)]
+fn read_own<'a, T: Tables>(
+    input: &mut BitIn<'_>,
+    align: Align,
+    name: NameId,
+    tables: &'a T,
+    meter: &mut Meter,
+) -> Result<&'a Txt, Fault>
+    requires name { IsName (T.held tables.now) name }
+    requires aligned { IsAligned align input.old }
+    ensures read { Goes (λ t. (t.now, read_state input.new meter.new (T.held tables.now))) meter.new result (hit_at align (own_values (T.held tables.now) name) (read_state input.old meter.old (T.held tables.now))) }
+    ensures bytes { input.new.bytes ≡ input.old.bytes }
+    ensures aligned { IsAligned align input.new }
+{
+    match own_text(input, align, name, tables, meter) {
+        Some(text) => Ok(text),
+        None => own_or_fault(input, align, name, tables, meter),
+    }
+}
+
+/// The text that a place among all values tells. `None` where there is a fault; nothing is then taken
+/// or charged.
+#[inline(never)]
+#[tactic(auto, unfolding(crate::specs::Strings::hit_at, crate::specs::Strings::charged_at, exi_items::specs::Charges::text_charge))]
+fn any_text<'a, T: Tables>(
+    input: &mut BitIn<'_>,
+    align: Align,
+    tables: &'a T,
+    meter: &mut Meter,
+) -> Option<&'a Txt>
+    requires aligned { IsAligned align input.old }
+    ensures read { IfSome result (λ t. hit_at align (listed (values (T.held tables.now))) (read_state input.old meter.old (T.held tables.now)) ≡ Ok (t.now, read_state input.new meter.new (T.held tables.now))) }
+    ensures place { IfNone result (input.new ≡ input.old) }
+    ensures meter { IfNone result (meter.new ≡ meter.old) }
+    ensures bytes { input.new.bytes ≡ input.old.bytes }
+    ensures aligned { IsAligned align input.new }
+{
+    let bit = input.at();
+    let Ok(place) = input.below(u64::from(tables.values()), align, Kind::BadPlace) else {
+        return None;
+    };
+    let Some(text) = tables.value_at(place as u32) else {
+        input.go_to_bit(bit);
+        return None;
+    };
+    if meter.text(u128::from(text.count())) {
+        return Some(text);
+    }
+    input.go_to_bit(bit);
+    None
+}
+
+/// Reads a place among all values, and gives its text or the fault.
+#[cold]
+#[inline(never)]
+#[tactic(auto, unfolding(crate::specs::Strings::hit_at, crate::specs::Strings::charged_at))]
+fn any_or_fault<'a, T: Tables>(
+    input: &mut BitIn<'_>,
+    align: Align,
+    tables: &'a T,
+    meter: &mut Meter,
+) -> Result<&'a Txt, Fault>
+    requires aligned { IsAligned align input.old }
+    ensures read { Goes (λ t. (t.now, read_state input.new meter.new (T.held tables.now))) meter.new result (hit_at align (listed (values (T.held tables.now))) (read_state input.old meter.old (T.held tables.now))) }
+    ensures bytes { input.new.bytes ≡ input.old.bytes }
+    ensures aligned { IsAligned align input.new }
+{
+    let bit = input.at();
+    let place = input.below(u64::from(tables.values()), align, Kind::BadPlace)?;
+    let text = told(tables.value_at(place as u32), bit)?;
+    charge_text(meter, text, input.at())?;
+    Ok(text)
+}
+
+/// Reads a place among all values, and gives its text.
+#[inline(always)]
+fn read_any<'a, T: Tables>(
+    input: &mut BitIn<'_>,
+    align: Align,
+    tables: &'a T,
+    meter: &mut Meter,
+) -> Result<&'a Txt, Fault>
+    requires aligned { IsAligned align input.old }
+    ensures read { Goes (λ t. (t.now, read_state input.new meter.new (T.held tables.now))) meter.new result (hit_at align (listed (values (T.held tables.now))) (read_state input.old meter.old (T.held tables.now))) }
+    ensures bytes { input.new.bytes ≡ input.old.bytes }
+    ensures aligned { IsAligned align input.new }
+{
+    match any_text(input, align, tables, meter) {
+        Some(text) => Ok(text),
+        None => any_or_fault(input, align, tables, meter),
+    }
+}
+
 /// Reads a string value of a name (EXI 1.0, sections 7.1.10 and 7.3.3), with a set of characters or without.
 /// The tables are not changed: a value that is [`StringRead::Missed`] is the caller's to add, once it was
 /// handed on.
@@ -74,7 +228,8 @@ pub fn read_literal(
 /// - `BadPlace` at the place of a value that is not there, or is live no longer.
 /// - `TextLimit` where the text would pass the limit: at its first character, or behind its place.
 /// - `Memory` where memory is refused.
-#[tactic(auto, unfolding(crate::specs::Strings::value_at, crate::specs::Strings::missed_at, crate::specs::Strings::hit_at, crate::specs::Strings::charged_at))]
+#[inline(always)]
+#[tactic(auto, unfolding(crate::specs::Strings::value_at, crate::specs::Strings::missed_at))]
 pub fn read_string<'a, T: Tables>(
     alloc: Global,
     input: &mut BitIn<'_>,
@@ -95,16 +250,10 @@ pub fn read_string<'a, T: Tables>(
         let text = read_chars(alloc, input, way - 2, set, align, meter)?;
         return Ok(StringRead::Missed(text));
     }
-    let bit = input.at();
-    let text = if way == 0 {
-        let count = tables.name_values(name);
-        let place = input.below(u64::from(count), align, Kind::BadPlace)?;
-        tables.name_value_at(name, place as u32)
-    } else {
-        let place = input.below(u64::from(tables.values()), align, Kind::BadPlace)?;
-        tables.value_at(place as u32)
-    };
-    let text = told(text, bit)?;
-    charge_text(meter, text, input.at())?;
+    if way == 0 {
+        let text = read_own(input, align, name, tables, meter)?;
+        return Ok(StringRead::Stands(text));
+    }
+    let text = read_any(input, align, tables, meter)?;
     Ok(StringRead::Stands(text))
 }
