@@ -3,7 +3,7 @@ use Rattle.std.proofs.Common.{◌≡◌, ◌≤◌, ◌+◌, ◌-◌, ◌*◌, �
 use Rattle.std.specs.Prelude.{slice_range}
 use Rattle.std.specs.List.{flat_map}
 use Rattle.std.proofs.lemmas.Bool.{cases_Bool}
-use Rattle.std.proofs.lemmas.List.{length-append, length-take-le, take-take, take_at, take-append-drop, drop-take, drop_at}
+use Rattle.std.proofs.lemmas.List.{length-append, length-take-le, take-take, take_at, take-append-drop, take_rest, drop-take, drop_at}
 use Rattle.std.proofs.lemmas.Grind.{flat_map-append}
 use Rattle.exi_evtext.specs.Lines.{escaped}
 
@@ -66,6 +66,18 @@ plain_on i n s plain more =
     ∙ ap (λ (x : List ℕ). x ++ flat_map escaped (take n (drop i s))) plain
     ∙ ap (λ (x : List ℕ). take i s ++ x) next
     ∙ sym split
+
+-- a front and an end that reaches back to it, or into it
+pub plain_whole : (n i : ℕ) (s : List ℕ) → n ≤ i → flat_map escaped (take i s) ≡ take i s → flat_map escaped (take (length s - n) (drop n s)) ≡ take (length s - n) (drop n s) → flat_map escaped s ≡ s
+plain_whole n i s le front end =
+    let rest : take (length s - n) (drop n s) ≡ drop n s = take_rest s n in
+    let more : flat_map escaped (drop n s) ≡ drop n s = ap (flat_map escaped) (sym rest) ∙ end ∙ rest in
+    let whole = take-append-drop n s in
+    ap (flat_map escaped) (sym whole)
+    ∙ flat_map-append escaped (take n s) (drop n s)
+    ∙ ap (λ (x : List ℕ). x ++ flat_map escaped (drop n s)) (plain_few n i s le front)
+    ∙ ap (λ (x : List ℕ). take n s ++ x) more
+    ∙ whole
 
 -- ---- what was laid
 -- what was laid stands there

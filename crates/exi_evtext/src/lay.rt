@@ -5,7 +5,7 @@ ghost use Rattle.std.specs.List.{flat_map};
 ghost use Rattle.exi_names.specs.Shown.{named, shows};
 ghost use Rattle.exi_evtext.specs.Lines.{escaped, line_of, name_words, quoted};
 
-use crate::quote::all_stand;
+use crate::quote::few_stand;
 use exi_names::{EventRef, NameRef, Txt, ValRef};
 
 /// How many bytes are looked at at once.
@@ -77,7 +77,7 @@ fn first_stand(bytes: &[u8], count: usize) -> bool
 {
     let mut done = 0;
     while done < count {
-        if !all_stand(&bytes[done..done + WIDE]) {
+        if !few_stand(&bytes[done..done + WIDE]) {
             return false;
         }
         done += WIDE;

@@ -1,6 +1,6 @@
 //! Texts and names between quotes.
 
-ghost use Rattle.std.specs.Prelude.{◌≡◌, ◌<◌, ◌++◌, [], ◌∷◌, IsTrue, OnOk, OnErr, OnSome, MatchOption, string_bytes};
+ghost use Rattle.std.specs.Prelude.{◌≡◌, ◌<◌, ◌≤◌, ◌++◌, [], ◌∷◌, IsTrue, OnOk, OnErr, OnSome, MatchOption, length, string_bytes};
 ghost use Rattle.std.specs.List.{flat_map};
 ghost use Rattle.exi_names.specs.Shown.{named};
 ghost use Rattle.exi_evtext.specs.Kept.{Keeps};
@@ -44,27 +44,39 @@ fn each_stands(bytes: &[u8]) -> bool
     true
 }
 
-/// The same, looked at many at once: no byte ends the search.
+/// The same of a few bytes. Those that stand are counted, for which a processor tests all of them by one word of its own.
 #[inline(always)]
-pub fn all_stand(bytes: &[u8]) -> bool
+pub fn few_stand(bytes: &[u8]) -> bool
+    requires few { length bytes.now ≤ 16 }
     ensures { IsTrue result → flat_map escaped bytes.now ≡ bytes.now }
 {
-    let mut all = true;
+    let mut standing = 0u8;
     for byte in bytes {
-        all = all & stands(*byte);
+        standing += u8::from(stands(*byte));
     }
-    all
+    usize::from(standing) == bytes.len()
 }
 
-/// Whether all bytes surely stand for themselves between quotes.
+/// How many bytes are few.
+const FEW: usize = 16;
+
+/// Whether all bytes surely stand for themselves between quotes. The last few are looked at together, some of them once more.
 fn is_plain(bytes: &[u8]) -> bool
     ensures { IsTrue result → flat_map escaped bytes.now ≡ bytes.now }
 {
-    if bytes.len() < 8 {
-        each_stands(bytes)
-    } else {
-        all_stand(bytes)
+    let count = bytes.len();
+    if count < FEW {
+        return each_stands(bytes);
     }
+    let last = count - FEW;
+    let mut done = 0;
+    while done < last {
+        if !few_stand(&bytes[done..done + FEW]) {
+            return false;
+        }
+        done += FEW;
+    }
+    few_stand(&bytes[last..])
 }
 
 /// The text's bytes as they stand between quotes.

@@ -1,7 +1,0 @@
-use Rattle.std.proofs.Common.{◌≡◌, take, true}
-use Rattle.std.specs.List.{flat_map}
-use Rattle.exi_evtext.specs.Lines.{escaped}
-use Rattle.exi_evtext.proofs.quote.all_stand.Given as goal
-
-abbrev pub invariant-loop-byte : goal.invariant-loop-byte
-invariant-loop-byte l = l.all ≡ true → flat_map escaped (take l.byte-index l.bytes) ≡ take l.byte-index l.bytes
