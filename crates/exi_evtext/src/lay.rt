@@ -58,14 +58,15 @@ fn lay_run(room: &mut [u8], at: usize, bytes: &[u8]) -> usize
     ensures laid { take result room.new ≡ take at room.old ++ bytes.now }
     ensures len { length room.new ≡ length room.old }
 {
-    let count = bytes.len();
-    if count >= 8 && count <= 16 {
-        return lay_ends(room, at, bytes, 8);
+    match bytes.len() {
+        8..=16 => lay_ends(room, at, bytes, 8),
+        17..=32 => lay_ends(room, at, bytes, 16),
+        4..=7 => lay_ends(room, at, bytes, 4),
+        2..=3 => lay_ends(room, at, bytes, 2),
+        1 => lay_ends(room, at, bytes, 1),
+        0 => at,
+        _ => lay_bytes(room, at, bytes),
     }
-    if count >= 4 && count < 8 {
-        return lay_ends(room, at, bytes, 4);
-    }
-    lay_bytes(room, at, bytes)
 }
 
 /// Whether the first bytes surely stand for themselves between quotes. Some behind them are looked at too, so that
