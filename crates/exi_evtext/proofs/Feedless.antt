@@ -120,6 +120,14 @@ lines_parts : (e : Happening) (es : List Happening) → lines_of (e ∷ es) ≡ 
 unfolding line_of
 lines_parts e es = append_assoc (words e) (10 ∷ []) (lines_of es)
 
+-- the line of an event in front of others
+pub line_front : (e : Happening) (rest : List ℕ) → IsEvent e → (first_line (line_of e ++ rest) ≡ words e) × (other_lines (line_of e ++ rest) ≡ Some rest)
+unfolding line_of
+line_front e rest h =
+    let none = words_none e h in
+    let parts = append_assoc (words e) (10 ∷ []) rest in
+    (ap (before (is_mark 10)) parts ∙ before_mark (is_mark 10) (words e) 10 rest none refl, ap (behind (is_mark 10)) parts ∙ behind_mark (is_mark 10) (words e) 10 rest none refl)
+
 pub printed_says : (es : List Happening) → AreEvents es → SaysAll (lines_of es) es
 printed_says [] h = refl
 printed_says (e ∷ es) h =

@@ -17,3 +17,5 @@ pub mod Values
 pub mod LineWise
 pub mod Cursors
 pub mod Lays
+pub mod Lanes
+pub mod Straight

@@ -57,7 +57,7 @@ Read = Result (List Happening) ℕ
 abbrev pub from : ℕ → List ℕ → Read
 from n text = events_of n (slice_split (is_mark 10) text)
 
-from_line : (n : ℕ) (text rest : List ℕ) → behind (is_mark 10) text ≡ Some rest → from n text ≡ event_then n (event_in (before (is_mark 10) text)) (from (suc n) rest)
+pub from_line : (n : ℕ) (text rest : List ℕ) → behind (is_mark 10) text ≡ Some rest → from n text ≡ event_then n (event_in (before (is_mark 10) text)) (from (suc n) rest)
 from_line n text rest e =
     let p = pieces (is_mark 10) rest in
     let line = before (is_mark 10) text in
@@ -101,7 +101,7 @@ stopped : (e : LineStop) (o : Option Happening) → e ≡ stop.Form → StopsAs 
 stopped stop.Form o is h = h
 stopped stop.Memory o is h = absurd cc
 
-left_is : (text : List ℕ) (n : ℕ) → events_left (record { bytes = text; line = n }) ≡ from n text
+pub left_is : (text : List ℕ) (n : ℕ) → events_left (record { bytes = text; line = n }) ≡ from n text
 unfolding events_left
 left_is text n = refl
 

@@ -3,5 +3,7 @@ pub mod Kept
 pub mod Reading
 pub mod Left
 pub mod Parsing
+pub mod Plain
+pub mod Rooms
 pub mod Spelling
 pub mod Laws

@@ -152,3 +152,11 @@ GivesNext (Ok (Some e)) old new = events_left old ≡ with_event (happens e) (ev
 GivesNext (Ok None) old new = (events_left old ≡ Ok []) × (new ≡ old)
 GivesNext (Err (text_stop.Syntax line)) old new = (events_left old ≡ Err line) × (new ≡ old)
 GivesNext (Err text_stop.Memory) old new = new ≡ old
+
+-- what was left says the event that a room holds, and then what is left now; or it says no event more; or its first line says
+-- none, or memory was refused, and the same is left
+abbrev pub Fills : Result Bool TextStop → Happening → LinesLeft → LinesLeft → Type 0
+Fills (Ok true) e old new = events_left old ≡ with_event e (events_left new)
+Fills (Ok false) e old new = (events_left old ≡ Ok []) × (new ≡ old)
+Fills (Err (text_stop.Syntax line)) e old new = (events_left old ≡ Err line) × (new ≡ old)
+Fills (Err text_stop.Memory) e old new = new ≡ old

@@ -32,7 +32,7 @@ impl<'a> Model for Cursor<'a> {
 /// What stands behind this mark, where the bytes begin with it.
 #[inline(always)]
 #[tactic(auto, unfolding(exi_calendar::specs::Reading::past))]
-fn behind_mark(mark: u8, bytes: &[u8]) -> Option<&[u8]>
+pub fn behind_mark(mark: u8, bytes: &[u8]) -> Option<&[u8]>
     ensures { option_copied result ≡ past (mark ∷ []) bytes.now }
 {
     match bytes.split_first() {

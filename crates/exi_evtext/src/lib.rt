@@ -30,6 +30,7 @@
 #![tactic(auto)]
 
 mod cursor;
+mod frequent;
 pub mod laws;
 mod lay;
 mod lines;
@@ -38,6 +39,8 @@ mod print;
 mod quote;
 mod read_event;
 mod read_value;
+mod room;
+mod run;
 mod scalar;
 mod stop;
 mod value;
@@ -46,3 +49,4 @@ pub use lay::lay_event;
 pub use lines::EventLines;
 pub use parse::parse_events;
 pub use print::{print_event, push_event};
+pub use room::EventRoom;

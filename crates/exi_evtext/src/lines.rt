@@ -1,13 +1,15 @@
 //! The events of a text, one after another.
 
-ghost use Rattle.std.specs.Prelude.{◌≡◌, ◌<◌, length, IfOk, IfSome};
-ghost use Rattle.exi_evtext.specs.Parsing.{GivesNext, events_in, events_left};
+ghost use Rattle.std.specs.Prelude.{◌≡◌, ◌<◌, length, IfOk, IfSome, IsTrue};
+ghost use Rattle.exi_evtext.specs.Parsing.{Fills, GivesNext, events_in, events_left};
 
 use crate::cursor::Cursor;
+use crate::frequent::read_frequent;
+use crate::room::EventRoom;
 use crate::stop::LineStop;
 use exi_digits::split_at_mark;
 use exi_names::{Event, TextStop};
-use std::alloc::Global;
+use std::alloc::{AllocError, Global};
 use std::marker::Model;
 
 /// The events that a text says, one at a time. A contract sees what is left of the text, and which line is next.
@@ -68,6 +70,43 @@ impl<'a> EventLines<'a> {
             }
             Err(LineStop::Form) => Err(TextStop::Syntax(self.line)),
             Err(LineStop::Memory) => Err(TextStop::Memory),
+        }
+    }
+
+    /// Reads the event of the next line into a room; the answer is whether a line was left. The texts of the event that the
+    /// room held give their memory to those of the next.
+    ///
+    /// # Errors
+    ///
+    /// As [`EventLines::next`]. What the room then holds is not told.
+    #[inline(always)]
+    pub fn next_in(&mut self, room: &mut EventRoom) -> Result<bool, TextStop>
+        ensures next { Fills result room.new self.old self.new }
+        ensures shorter { IfOk result (λ more. IsTrue more → length self.new.bytes < length self.old.bytes) }
+    {
+        match read_frequent(self.left, room) {
+            Ok(Some(behind)) => {
+                self.left = behind;
+                self.line += 1;
+                Ok(true)
+            }
+            Ok(None) => self.any_in(room),
+            Err(AllocError) => Err(TextStop::Memory),
+        }
+    }
+
+    /// The same, of any line.
+    #[inline(never)]
+    fn any_in(&mut self, room: &mut EventRoom) -> Result<bool, TextStop>
+        ensures next { Fills result room.new self.old self.new }
+        ensures shorter { IfOk result (λ more. IsTrue more → length self.new.bytes < length self.old.bytes) }
+    {
+        match self.next()? {
+            Some(event) => {
+                room.hold(event);
+                Ok(true)
+            }
+            None => Ok(false),
         }
     }
 }

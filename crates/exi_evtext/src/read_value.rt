@@ -13,7 +13,7 @@ use exi_names::{Val, ValList};
 
 /// What stands behind the word of a text and the quote that opens it, where the bytes begin with them.
 #[inline(always)]
-fn inside_text(bytes: &[u8]) -> Option<&[u8]>
+pub fn inside_text(bytes: &[u8]) -> Option<&[u8]>
     ensures { IfSome result (λ inside. bytes.now ≡ codes "text \"" ++ inside.now) }
 {
     if bytes.len() >= 6

@@ -1,0 +1,40 @@
+-- Texts that are plain: each of their bytes is ASCII and stands for itself between quotes.
+use Rattle.std.specs.Prelude.{◌≡◌, ◌+◌, ◌≤◌, ◌<◌, ◌==◌, ◌&&◌, ◌||◌, not, nat_le, nat_lt, ℕ, Bool, true, List, ◌++◌, None, slice_index, encode_utf8_all, if◌then◌else◌}
+use Rattle.std.specs.Str.{IsAscii}
+use Rattle.std.specs.List.{flat_map}
+use Rattle.std.specs.Int.{w64, trailing_zeros}
+use Rattle.exi_names.specs.declared.names.QName.{QName}
+use Rattle.exi_names.specs.Events.{Happening}
+use Rattle.exi_evtext.specs.Lines.{escaped, line_of}
+use Rattle.exi_evtext.specs.Spelling.{IsEvent, IsText}
+
+-- ASCII from the space on, but for a quote, a backslash and the last, which no text needs
+abbrev pub is_plain : ℕ → Bool
+is_plain b = nat_le 32 b && nat_lt b 127 && not (b == 34) && not (b == 92)
+
+-- the bytes from one place up to another pass the test
+abbrev pub AllPass : (ℕ → Bool) → List ℕ → ℕ → ℕ → Type 0
+AllPass test bytes from to = (k : ℕ) → from ≤ k → k < to → test (slice_index bytes k) ≡ true
+
+-- the first of so many bytes from a place on pass the test
+abbrev pub PassesIn : (ℕ → Bool) → List ℕ → ℕ → ℕ → ℕ → Type 0
+PassesIn test bytes at count run = (run ≤ count) × AllPass test bytes at (at + run)
+
+-- the place of the lowest bit that is set, or how many bits are looked at
+abbrev pub first_set : ℕ → ℕ → ℕ
+first_set mask count = if mask == 0 then count else trailing_zeros w64 mask
+
+-- its bytes are its characters, which a line spells as they are
+pub record IsPlain (text : List ℕ) : Type 0 where
+  pub ascii : IsAscii text
+  pub valid : IsText text
+  pub stands : flat_map escaped (encode_utf8_all text) ≡ text
+
+-- a name without a prefix
+abbrev pub plain_name : List ℕ → List ℕ → QName
+plain_name uri local = record { uri = uri; local = local; prefix = None }
+
+-- the bytes begin with the line of an event
+pub record IsLine (bytes : List ℕ) (e : Happening) (behind : List ℕ) : Type 0 where
+  pub said : IsEvent e
+  pub parts : bytes ≡ line_of e ++ behind

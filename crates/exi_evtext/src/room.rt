@@ -1,0 +1,196 @@
+//! A room for the event of a line, whose texts' memory is used again.
+
+ghost use Rattle.std.specs.Prelude.{◌≡◌, IfOk, IsTrue, OnOk};
+ghost use Rattle.std.specs.Str.{IsAscii};
+ghost use Rattle.exi_names.specs.Events as happening;
+ghost use Rattle.exi_names.specs.Events.{happens};
+ghost use Rattle.exi_names.specs.Seen as shape;
+ghost use Rattle.exi_evtext.specs.Plain.{plain_name};
+
+use exi_names::{Event, QName, Txt, Val};
+use std::alloc::{AllocError, Global};
+use std::marker::Model;
+use std::mem::replace;
+
+/// Which event of a room is held.
+#[derive(Clone, Copy, Debug)]
+enum Held {
+    Start,
+    Attribute,
+    Characters,
+    End,
+    Other,
+}
+
+/// A room that holds one event after another. A contract sees the one that is held. The most frequent events have a
+/// place each, so that a text is laid in the memory of the one before it.
+#[derive(Drop)]
+pub struct EventRoom {
+    alloc: Global,
+    held: Held,
+    start: Event,
+    attribute: Event,
+    characters: Event,
+    end: Event,
+    other: Event,
+}
+
+impl Model for EventRoom {
+    ghost use Rattle.exi_names.specs.Events.{Happening, happens};
+    ghost use Rattle.exi_evtext.specs.Rooms.{chosen};
+
+    ghost Value = { Happening };
+
+    ghost use Rattle.exi_names.proofs.Codes.{happening_code};
+
+    ghost coded = { happening_code };
+
+    ghost view = { λ r. happens (chosen r.held r.start r.attribute r.characters r.end r.other) };
+}
+
+/// No characters, for a name or a value.
+fn no_name(alloc: Global) -> QName {
+    QName {
+        uri: Txt::new(alloc),
+        local: Txt::new(alloc),
+        prefix: None,
+    }
+}
+
+/// Puts ASCII characters in the place of a text, in its memory.
+#[inline(always)]
+fn refill(alloc: Global, text: &mut Txt, bytes: &[u8]) -> Result<(), AllocError>
+    requires { IsAscii bytes.now }
+    ensures { OnOk result (text.new ≡ bytes.now) }
+{
+    let mut memory = replace(text, Txt::new(alloc)).into_string();
+    memory.clear();
+    let mut filled = Txt::from_string(memory);
+    filled.push_ascii(bytes)?;
+    *text = filled;
+    Ok(())
+}
+
+/// Puts a name without a prefix in the place of one.
+#[inline(always)]
+fn rename(alloc: Global, name: &mut QName, uri: &[u8], local: &[u8]) -> Result<bool, AllocError>
+    requires uri { IsAscii uri.now }
+    requires local { IsAscii local.now }
+    ensures { IfOk result (λ done. IsTrue done → name.new ≡ plain_name uri.now local.now) }
+{
+    if name.prefix.is_some() {
+        return Ok(false);
+    }
+    refill(alloc, &mut name.uri, uri)?;
+    refill(alloc, &mut name.local, local)?;
+    Ok(true)
+}
+
+/// Puts a text in the place of one.
+#[inline(always)]
+fn revalue(alloc: Global, value: &mut Val, text: &[u8]) -> Result<bool, AllocError>
+    requires { IsAscii text.now }
+    ensures { IfOk result (λ done. IsTrue done → shape.seen value.new ≡ shape.text text.now) }
+{
+    let Val::Text(held) = value else {
+        return Ok(false);
+    };
+    refill(alloc, held, text)?;
+    Ok(true)
+}
+
+impl EventRoom {
+    /// A room that holds the end of an element.
+    pub fn new(alloc: Global) -> EventRoom {
+        EventRoom {
+            alloc,
+            held: Held::End,
+            start: Event::Se(no_name(alloc)),
+            attribute: Event::At(no_name(alloc), Val::Text(Txt::new(alloc))),
+            characters: Event::Ch(Val::Text(Txt::new(alloc))),
+            end: Event::Ee,
+            other: Event::Ee,
+        }
+    }
+
+    /// The event that is held.
+    #[inline(always)]
+    pub fn event(&self) -> &Event
+        ensures { happens result.now ≡ self.now }
+    {
+        match self.held {
+            Held::Start => &self.start,
+            Held::Attribute => &self.attribute,
+            Held::Characters => &self.characters,
+            Held::End => &self.end,
+            Held::Other => &self.other,
+        }
+    }
+
+    /// Holds this event.
+    pub fn hold(&mut self, event: Event)
+        ensures { self.new ≡ happens event }
+    {
+        let _before = replace(&mut self.other, event);
+        self.held = Held::Other;
+    }
+
+    /// Holds the end of an element, where it can.
+    #[inline(always)]
+    pub fn hold_end(&mut self) -> bool
+        ensures { IsTrue result → self.new ≡ happening.ee }
+    {
+        self.held = Held::End;
+        matches!(self.end, Event::Ee)
+    }
+
+    /// Holds the start of an element, where it can.
+    #[inline(always)]
+    pub fn hold_start(&mut self, uri: &[u8], local: &[u8]) -> Result<bool, AllocError>
+        requires uri { IsAscii uri.now }
+        requires local { IsAscii local.now }
+        ensures { IfOk result (λ done. IsTrue done → self.new ≡ happening.se (plain_name uri.now local.now)) }
+    {
+        self.held = Held::Start;
+        let Event::Se(name) = &mut self.start else {
+            return Ok(false);
+        };
+        rename(self.alloc, name, uri, local)
+    }
+
+    /// Holds an attribute, where it can.
+    #[inline(always)]
+    pub fn hold_attribute(
+        &mut self,
+        uri: &[u8],
+        local: &[u8],
+        text: &[u8],
+    ) -> Result<bool, AllocError>
+        requires uri { IsAscii uri.now }
+        requires local { IsAscii local.now }
+        requires text { IsAscii text.now }
+        ensures { IfOk result (λ done. IsTrue done → self.new ≡ happening.at (plain_name uri.now local.now) (shape.text text.now)) }
+    {
+        self.held = Held::Attribute;
+        let Event::At(name, value) = &mut self.attribute else {
+            return Ok(false);
+        };
+        if !rename(self.alloc, name, uri, local)? {
+            return Ok(false);
+        }
+        revalue(self.alloc, value, text)
+    }
+
+    /// Holds characters, where it can.
+    #[inline(always)]
+    pub fn hold_characters(&mut self, text: &[u8]) -> Result<bool, AllocError>
+        requires { IsAscii text.now }
+        ensures { IfOk result (λ done. IsTrue done → self.new ≡ happening.ch (shape.text text.now)) }
+    {
+        self.held = Held::Characters;
+        let Event::Ch(value) = &mut self.characters else {
+            return Ok(false);
+        };
+        revalue(self.alloc, value, text)
+    }
+}
