@@ -1,6 +1,6 @@
 -- Plain texts, and the lines that are frequent.
-use Rattle.std.proofs.Common.{◌≡◌, ◌<◌, ◌≤◌, ◌+◌, ℕ, suc, Bool, true, false, eqb, leb, ltb, not, ◌&&◌, List, [], ◌∷◌, ◌++◌, get_or, length, take, drop, Option, Some, None, refl, sym, ap, ◌∙◌, subst, inl, inr, append_assoc, arith}
-use Rattle.std.specs.Prelude.{codes, encode_utf8_all, IfSome, IsTrue}
+use Rattle.std.proofs.Common.{◌≡◌, ◌<◌, ◌≤◌, ℕ, suc, Bool, true, false, eqb, leb, ltb, not, ◌&&◌, List, [], ◌∷◌, ◌++◌, length, take, Option, Some, None, refl, sym, ap, ◌∙◌, subst, inl, append_assoc, arith}
+use Rattle.std.specs.Prelude.{codes, IfSome, IsTrue}
 use Rattle.std.specs.Borrow.{Bor}
 use Rattle.std.specs.List.{flat_map}
 use Rattle.std.specs.Str.{IsAscii, all_scalars}
@@ -17,7 +17,6 @@ use Rattle.exi_evtext.specs.Left.{LinesLeft}
 use Rattle.exi_evtext.specs.Parsing.{event_then, events_left, with_event}
 use Rattle.exi_evtext.specs.Plain.{AllPass, IsLine, IsPlain, is_plain, plain_name}
 use Rattle.exi_evtext.specs.Reading.{event_in}
-use Rattle.exi_evtext.specs.Spelling.{IsEvent, first_line, other_lines}
 use Rattle.exi_evtext.proofs.Feedless.{line_front}
 use Rattle.exi_evtext.proofs.LineWise.{from, from_line, left_is}
 use Rattle.exi_evtext.proofs.Spelled.{says_read}

@@ -1,11 +1,12 @@
 -- Texts that are plain: each of their bytes is ASCII and stands for itself between quotes.
-use Rattle.std.specs.Prelude.{◌≡◌, ◌+◌, ◌≤◌, ◌<◌, ◌==◌, ◌&&◌, ◌||◌, not, nat_le, nat_lt, ℕ, Bool, true, List, ◌++◌, None, slice_index, encode_utf8_all, if◌then◌else◌}
+use Rattle.std.specs.Prelude.{◌≡◌, ◌+◌, ◌≤◌, ◌<◌, ◌==◌, ◌&&◌, not, nat_le, nat_lt, ℕ, Bool, true, false, List, length, ◌++◌, None, slice_index, encode_utf8_all, if◌then◌else◌}
 use Rattle.std.specs.Str.{IsAscii}
 use Rattle.std.specs.List.{flat_map}
 use Rattle.std.specs.Int.{w64, trailing_zeros}
 use Rattle.exi_names.specs.declared.names.QName.{QName}
 use Rattle.exi_names.specs.Events.{Happening}
 use Rattle.exi_evtext.specs.Lines.{escaped, line_of}
+use Rattle.exi_evtext.specs.Parsing.{stops_run}
 use Rattle.exi_evtext.specs.Spelling.{IsEvent, IsText}
 
 -- ASCII from the space on, but for a quote, a backslash and the last, which no text needs
@@ -19,6 +20,23 @@ AllPass test bytes from to = (k : ℕ) → from ≤ k → k < to → test (slice
 -- the first of so many bytes from a place on pass the test
 abbrev pub PassesIn : (ℕ → Bool) → List ℕ → ℕ → ℕ → ℕ → Type 0
 PassesIn test bytes at count run = (run ≤ count) × AllPass test bytes at (at + run)
+
+-- and the next one of them fails it
+abbrev pub IsRunIn : (ℕ → Bool) → List ℕ → ℕ → ℕ → ℕ → Type 0
+IsRunIn test bytes at count run = PassesIn test bytes at count run × (run < count → test (slice_index bytes (at + run)) ≡ false)
+
+-- so many bytes in front pass the test, and the next one fails it
+pub record IsWidth (test : ℕ → Bool) (bytes : List ℕ) (width : ℕ) : Type 0 where
+  pub within : width ≤ length bytes
+  pub pass : AllPass test bytes 0 width
+  pub stops : width < length bytes → test (slice_index bytes width) ≡ false
+
+-- no line feed, and what stands for itself between quotes
+abbrev pub is_inside_line : ℕ → Bool
+is_inside_line b = not (b == 10)
+
+abbrev pub is_inside_run : ℕ → Bool
+is_inside_run b = not (stops_run b)
 
 -- the place of the lowest bit that is set, or how many bits are looked at
 abbrev pub first_set : ℕ → ℕ → ℕ

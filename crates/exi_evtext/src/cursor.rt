@@ -4,8 +4,9 @@ ghost use Rattle.std.specs.Prelude.{◌≡◌, ◌∷◌, [], ◌<◌, ◌≤◌
 ghost use Rattle.std.specs.Str.{IsAscii};
 ghost use Rattle.exi_calendar.specs.Reading.{Reads, past};
 ghost use Rattle.exi_evtext.specs.Reading.{also_at, content_at, name_at, opened_at, plain_at, prefix_at, text_at, unescaped, word_at};
-ghost use Rattle.exi_evtext.specs.Parsing.{Decodes, Ends, Gives, Moves, Runs, Steps, escape_at, front, mark_at, run_width, stops_run};
+ghost use Rattle.exi_evtext.specs.Parsing.{Decodes, Ends, Gives, Moves, Runs, Steps, escape_at, front, mark_at, stops_run};
 
+use crate::run::run_width;
 use crate::stop::LineStop;
 use exi_digits::split_at_mark;
 use exi_names::{QName, Txt};
@@ -47,26 +48,6 @@ fn behind_quote(bytes: &[u8]) -> Option<&[u8]>
     ensures { option_copied result ≡ past (32 ∷ 34 ∷ []) bytes.now }
 {
     behind_mark(b'"', behind_mark(b' ', bytes)?)
-}
-
-/// Whether a byte doesn't stand for itself between quotes.
-fn stops_run(byte: u8) -> bool
-    ensures { result ≡ stops_run byte }
-{
-    matches!(byte, b'"' | b'\\' | b'\n' | b'\r' | b'\t')
-}
-
-/// How many bytes in front stand for themselves.
-fn run_width(bytes: &[u8]) -> usize
-    ensures width { result ≡ run_width bytes.now }
-    ensures within { result ≤ length bytes.now }
-{
-    for (place, byte) in bytes.iter().enumerate() {
-        if stops_run(*byte) {
-            return place;
-        }
-    }
-    bytes.len()
 }
 
 /// Whether a byte surely is ASCII that stands for itself between quotes.

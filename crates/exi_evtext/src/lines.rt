@@ -6,8 +6,8 @@ ghost use Rattle.exi_evtext.specs.Parsing.{Fills, GivesNext, events_in, events_l
 use crate::cursor::Cursor;
 use crate::frequent::read_frequent;
 use crate::room::EventRoom;
+use crate::run::split_line;
 use crate::stop::LineStop;
-use exi_digits::split_at_mark;
 use exi_names::{Event, TextStop};
 use std::alloc::{AllocError, Global};
 use std::marker::Model;
@@ -58,7 +58,7 @@ impl<'a> EventLines<'a> {
         if self.left.is_empty() {
             return Ok(None);
         }
-        let (text, behind) = split_at_mark(self.left, b'\n');
+        let (text, behind) = split_line(self.left);
         let Some(behind) = behind else {
             return Err(TextStop::Syntax(self.line));
         };
