@@ -1,12 +1,15 @@
 -- Texts between quotes, of which the bytes that stand for themselves are written in runs.
-use Rattle.std.proofs.Common.{◌≡◌, ◌<◌, ◌≤◌, ◌+◌, ◌-◌, ℕ, List, [], ◌∷◌, ◌++◌, length, take, drop, get_or, refl, sym, ap, ◌∙◌, arith, append_assoc}
+use Rattle.std.proofs.Common.{◌≡◌, ◌<◌, ◌≤◌, ◌+◌, ◌-◌, ℕ, List, [], ◌∷◌, ◌++◌, length, take, drop, get_or, refl, true, false, eqb, inl, inr, sym, ap, ◌∙◌, arith, append_assoc}
 use Rattle.std.specs.Prelude.{slice_range}
 use Rattle.std.specs.List.{flat_map}
-use Rattle.std.proofs.lemmas.List.{append-nil, take_more, drop_more, length-drop, get_or-drop, take_all}
+use Rattle.std.proofs.lemmas.Bool.{cases_Bool}
+use Rattle.std.proofs.lemmas.List.{drop-drop, append-nil, take_more, drop_more, length-drop, get_or-drop, take_all}
 use Rattle.std.proofs.lemmas.List.Folds.{drop_split}
 use Rattle.std.proofs.lemmas.Grind.{flat_map-append}
 use Rattle.std.proofs.Math.Nat.{sub_self}
 use Rattle.exi_evtext.specs.Lines.{escaped}
+use Rattle.exi_evtext.specs.Parsing.{run_width, stops_run}
+use Rattle.exi_evtext.proofs.Lays.{take_add}
 
 -- one place more
 range_more : (s : List ℕ) (start place : ℕ) → start ≤ place → place < length s → slice_range s start (place + 1) ≡ slice_range s start place ++ get_or s place 0 ∷ []
@@ -60,3 +63,54 @@ pub plain_none : (s : List ℕ) (i : ℕ) → flat_map escaped (slice_range s i 
 plain_none s i =
     let none : slice_range s i i ≡ [] = ap (λ (n : ℕ). take n (drop i s)) (sub_self i) in
     rw none refl
+
+-- ---- runs that are skipped
+-- two ranges, one behind the other
+range_join : (s : List ℕ) (start mid end : ℕ) → start ≤ mid → mid ≤ end → slice_range s start end ≡ slice_range s start mid ++ slice_range s mid end
+range_join s start mid end le more =
+    let i = mid - start in
+    let n = end - mid in
+    let whole : end - start ≡ i + n = omega arith in
+    let place : start + i ≡ mid = omega arith in
+    ap (λ (k : ℕ). take k (drop start s)) whole
+    ∙ take_add i n (drop start s)
+    ∙ ap (λ (x : List ℕ). take i (drop start s) ++ take n x) (drop-drop i start s ∙ ap (λ (k : ℕ). drop k s) place)
+
+pub plain_join : (s : List ℕ) (start mid end : ℕ) → start ≤ mid → mid ≤ end → flat_map escaped (slice_range s start mid) ≡ slice_range s start mid → flat_map escaped (slice_range s mid end) ≡ slice_range s mid end
+    → flat_map escaped (slice_range s start end) ≡ slice_range s start end
+plain_join s start mid end le more one two =
+    let a = slice_range s start mid in
+    let b = slice_range s mid end in
+    let split = range_join s start mid end le more in
+    ap (flat_map escaped) split ∙ flat_map-append escaped a b ∙ ap (λ (x : List ℕ). x ++ flat_map escaped b) one ∙ ap (λ (x : List ℕ). a ++ x) two ∙ sym split
+
+-- a byte that stops no run stands for itself
+stands_alone : (b : ℕ) → stops_run b ≡ false → escaped b ≡ b ∷ []
+stands_alone b h =
+    elim (cases_Bool (eqb b 34)) [
+      | inl q ↦ let k : stops_run b ≡ true = rw q refl in absurd (cc)
+      | inr q ↦
+          elim (cases_Bool (eqb b 92)) [
+            | inl s ↦ let k : stops_run b ≡ true = rw (q, s) refl in absurd (cc)
+            | inr s ↦
+                elim (cases_Bool (eqb b 10)) [
+                  | inl t ↦ let k : stops_run b ≡ true = rw (q, s, t) refl in absurd (cc)
+                  | inr t ↦
+                      elim (cases_Bool (eqb b 13)) [
+                        | inl u ↦ let k : stops_run b ≡ true = rw (q, s, t, u) refl in absurd (cc)
+                        | inr u ↦
+                            elim (cases_Bool (eqb b 9)) [
+                              | inl v ↦ let k : stops_run b ≡ true = rw (q, s, t, u, v) refl in absurd (cc)
+                              | inr v ↦ rw (q, s, t, u, v) refl
+                            ]
+                      ]
+                ]
+          ]
+    ]
+
+pub run_stands : (t : List ℕ) → flat_map escaped (take (run_width t) t) ≡ take (run_width t) t
+run_stands [] = refl
+run_stands (b ∷ t) = elim (cases_Bool (stops_run b)) [
+  | inl h ↦ rw h refl
+  | inr h ↦ rw h (ap (λ (x : List ℕ). x ++ flat_map escaped (take (run_width t) t)) (stands_alone b h) ∙ ap (λ (x : List ℕ). b ∷ x) (run_stands t))
+]

@@ -49,7 +49,7 @@ plain_few n m s le h =
     let p = plain_front (take n (take m s)) (drop n (take m s)) (ap (flat_map escaped) whole ∙ h ∙ sym whole) in
     ap (flat_map escaped) (sym front) ∙ p ∙ front
 
-take_add : (i n : ℕ) (s : List ℕ) → take (i + n) s ≡ take i s ++ take n (drop i s)
+pub take_add : (i n : ℕ) (s : List ℕ) → take (i + n) s ≡ take i s ++ take n (drop i s)
 take_add i n s =
     sym (take-append-drop i (take (i + n) s))
     ∙ ap (λ (x : List ℕ). x ++ drop i (take (i + n) s)) (take-take i (i + n) s (omega arith))

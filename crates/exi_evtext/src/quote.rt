@@ -1,11 +1,12 @@
 //! Texts and names between quotes.
 
-ghost use Rattle.std.specs.Prelude.{◌≡◌, ◌<◌, ◌≤◌, ◌++◌, [], ◌∷◌, IsTrue, OnOk, OnErr, OnSome, MatchOption, length, string_bytes};
+ghost use Rattle.std.specs.Prelude.{◌≡◌, ◌<◌, ◌≤◌, ◌++◌, [], ◌∷◌, IsTrue, OnOk, OnErr, OnSome, MatchOption, length, slice_range, string_bytes};
 ghost use Rattle.std.specs.List.{flat_map};
 ghost use Rattle.exi_names.specs.Shown.{named};
 ghost use Rattle.exi_evtext.specs.Kept.{Keeps};
 ghost use Rattle.exi_evtext.specs.Lines.{also, escaped, name_words, quoted};
 
+use crate::run::run_width;
 use exi_names::{NameRef, Txt};
 use std::alloc::AllocError;
 
@@ -90,6 +91,16 @@ fn push_escaped(out: &mut String, text: &str) -> Result<(), AllocError>
     push_runs(out, text)
 }
 
+/// The end of the bytes from a place on that stand for themselves.
+fn run_end(bytes: &[u8], from: usize) -> usize
+    requires { from ≤ length bytes.now }
+    ensures behind { from ≤ result }
+    ensures within { result ≤ length bytes.now }
+    ensures plain { flat_map escaped (slice_range bytes.now from result) ≡ slice_range bytes.now from result }
+{
+    from + run_width(&bytes[from..])
+}
+
 /// The text's bytes as they stand between quotes: those that stand for themselves in runs.
 fn push_runs(out: &mut String, text: &str) -> Result<(), AllocError>
     ensures ok { OnOk result (string_bytes out.new ≡ string_bytes out.old ++ flat_map escaped text.now) }
@@ -97,12 +108,14 @@ fn push_runs(out: &mut String, text: &str) -> Result<(), AllocError>
 {
     let bytes = text.as_bytes();
     let mut start = 0;
-    for (place, byte) in bytes.iter().enumerate() {
-        if let Some(escape) = escape(*byte) {
+    let mut place = run_end(bytes, 0);
+    while place < bytes.len() {
+        if let Some(escape) = escape(bytes[place]) {
             out.push_str(&text[start..place])?;
             out.push_str(escape)?;
             start = place + 1;
         }
+        place = run_end(bytes, place + 1);
     }
     out.push_str(&text[start..])
 }
