@@ -8,7 +8,7 @@ use Rattle.exi_bits.specs.declared.align.Align.TheVariants as align
 use Rattle.exi_bits.proofs.BitLaws.{length-bits}
 use Rattle.exi_bits.proofs.InBytes.{octets_of-bits}
 use Rattle.exi_evtext.specs.Left.{LinesLeft}
-use Rattle.exi_evtext.specs.Parsing.{GivesNext, events_in, events_left, with_event}
+use Rattle.exi_evtext.specs.Parsing.{Fills, events_in, events_left, with_event}
 use Rattle.exi_gram.specs.declared.options.Options.{Options}
 use Rattle.exi_gram.specs.Switches.{align_of, byte_aligned}
 use Rattle.exi_header.specs.Headers.{front_bits, header_bits}
@@ -101,9 +101,9 @@ under_last left all bytes old now u none =
     let g = subst (λ (o : Result (List Happening) ℕ). Goes o all old now) none u.goes in
     (g.0, g.1, record { behind = g.2.behind })
 
-pub under_stop : (stop : TextStop) (lines next : LinesLeft) (all : Result (List Happening) ℕ) (bytes : ℕ) (old now : Listing) → IsUnder (events_left lines) all bytes old now → GivesNext (Err stop) lines next → TakesAll (Err (halt_at stop)) all old now
-under_stop (text_stop.Syntax line) lines next all bytes old now u given = (line, refl, subst (λ (o : Result (List Happening) ℕ). Goes o all old now) given.0 u.goes)
-under_stop text_stop.Memory lines next all bytes old now u given = tt
+pub under_stop : (stop : TextStop) (e : Happening) (lines next : LinesLeft) (all : Result (List Happening) ℕ) (bytes : ℕ) (old now : Listing) → IsUnder (events_left lines) all bytes old now → Fills (Err stop) e lines next → TakesAll (Err (halt_at stop)) all old now
+under_stop (text_stop.Syntax line) e lines next all bytes old now u given = (line, refl, subst (λ (o : Result (List Happening) ℕ). Goes o all old now) given.0 u.goes)
+under_stop text_stop.Memory e lines next all bytes old now u given = tt
 
 -- ---- what is written of a text
 pub stopped_err : (h : Halt) (w : Wish) (known : Option Outline) (text : List ℕ) (left : Result (List Happening) ℕ) (old new : Listing) → left ≡ events_in text → TakesAll (Err h) left old new → Composes w known text (Err h)

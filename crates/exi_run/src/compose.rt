@@ -22,7 +22,7 @@ use crate::status::Status;
 use crate::stream::schema_in;
 use crate::unwritten::Unwritten;
 use exi_bits::BitOut;
-use exi_evtext::EventLines;
+use exi_evtext::{EventLines, EventRoom};
 use exi_gram::{Book, Options, Schema, SchemaWord};
 use exi_header::write_header;
 use exi_meter::Limits;
@@ -87,6 +87,7 @@ fn head_of(alloc: Global, writing: &Writing<'_>) -> Result<BitOut, AllocError>
 /// Writes the events of the lines that are left. Behind one that is refused the lines are read on: a line that says no event comes
 /// before all that is said of events. The steps that it counts are not looked at.
 fn write_lines<L: Ledger>(
+    alloc: Global,
     lines: &mut EventLines<'_>,
     list: &mut ListWriter<'_, HashTables>,
     blank: Blank,
@@ -98,8 +99,9 @@ fn write_lines<L: Ledger>(
     ensures { TakesAll result (events_left lines.old) list.old list.new }
 {
     let mut steps = Steps::<L>::of(blank);
-    while let Some(event) = lines.next()? {
-        list.push(&event, &mut steps);
+    let mut room = EventRoom::new(alloc);
+    while lines.next_in(&mut room)? {
+        list.push(room.event(), &mut steps);
     }
     Ok(())
 }
@@ -138,7 +140,7 @@ fn compose(
     let limits = Limits::of_stream();
     let mut list = ListWriter::<HashTables>::new(alloc, &book, limits, head)?;
     let mut lines = EventLines::new(alloc, text);
-    write_lines::<Brand>(&mut lines, &mut list, Blank::new(1))?;
+    write_lines::<Brand>(alloc, &mut lines, &mut list, Blank::new(1))?;
     finished(list)
 }
 
