@@ -102,7 +102,7 @@ impl Elements {
         ensures { self.new ≡ moved_elements to self.old }
     {
         if let Some(element) = self.items.last_mut() {
-            element.state = element.state.moved(to);
+            element.state.move_to(to);
         }
     }
 }
@@ -123,18 +123,14 @@ impl State {
         }
     }
 
-    /// The state of the same grammar with this place.
+    /// Goes to the state of the same grammar with this place: only what changes is written.
     #[inline(always)]
-    pub fn moved(self, to: u32) -> State
-        ensures { result ≡ moved_state to self }
+    pub fn move_to(&mut self, to: u32)
+        ensures { self.new ≡ moved_state to self.old }
     {
         match self {
-            State::BuiltIn(room) => State::BuiltIn(moved_room(room, to)),
-            State::Informed { grammar, empty, .. } => State::Informed {
-                grammar,
-                state: to,
-                empty,
-            },
+            State::BuiltIn(room) => *room = moved_room(*room, to),
+            State::Informed { state, .. } => *state = to,
         }
     }
 }

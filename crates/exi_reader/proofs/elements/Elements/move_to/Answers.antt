@@ -5,6 +5,6 @@ use Rattle.exi_reader.proofs.elements.Elements.move_to.Goals.{in-Some, in_defaul
 
 pub returns : goal.returns
 returns c = elim c.match-last_mut.branch [
-  | in-Some w ↦ rw (w.self-inside-is, ← c.self.view_is) (moved_some c.self.inside.items.items c.self.inside.items.len w.in-Some.element.now w.moved-element.result c.args.to c.self.inside.items.ok.0 (w.in-Some.ensures.variant.0 refl) w.in-Some.ensures.value w.moved-element.ensures)
+  | in-Some w ↦ rw (w.self-inside-is, ← c.self.view_is) (moved_some c.self.inside.items.items c.self.inside.items.len w.in-Some.element.now w.move_to.new.self c.args.to c.self.inside.items.ok.0 (w.in-Some.ensures.variant.0 refl) w.in-Some.ensures.value w.move_to.ensures)
   | in_default w ↦ rw (w.self-inside-is, ← c.self.view_is) (moved_none c.self.inside.items.items c.self.inside.items.len c.args.to c.self.inside.items.ok.0 w.in_default.ensures.variant.1)
 ]
