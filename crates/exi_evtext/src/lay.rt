@@ -5,6 +5,7 @@ ghost use Rattle.std.specs.List.{flat_map};
 ghost use Rattle.exi_names.specs.Shown.{named, shows};
 ghost use Rattle.exi_evtext.specs.Lines.{escaped, line_of, name_words, quoted};
 
+use crate::lay_value::lay_typed;
 use crate::quote::few_stand;
 use exi_names::{EventRef, NameRef, Txt, ValRef};
 
@@ -13,7 +14,7 @@ const WIDE: usize = 16;
 
 /// A byte at a place of a room; the answer is the place behind it.
 #[inline(always)]
-fn lay_byte(room: &mut [u8], at: usize, byte: u8) -> usize
+pub fn lay_byte(room: &mut [u8], at: usize, byte: u8) -> usize
     requires { at < length room.old }
     ensures behind { result ≡ at + 1 }
     ensures laid { take result room.new ≡ take at room.old ++ byte ∷ [] }
@@ -52,7 +53,7 @@ fn lay_ends(room: &mut [u8], at: usize, bytes: &[u8], width: usize) -> usize
 
 /// Bytes at a place of a room, few at a time more quickly.
 #[inline(always)]
-fn lay_run(room: &mut [u8], at: usize, bytes: &[u8]) -> usize
+pub fn lay_run(room: &mut [u8], at: usize, bytes: &[u8]) -> usize
     requires { at + length bytes.now ≤ length room.old }
     ensures behind { result ≡ at + length bytes.now }
     ensures laid { take result room.new ≡ take at room.old ++ bytes.now }
@@ -120,7 +121,7 @@ fn lay_text(room: &mut [u8], at: usize, text: &Txt) -> Option<usize>
 
 /// Three bytes at a place of a room.
 #[inline(always)]
-fn lay_three(room: &mut [u8], at: usize, first: u8, second: u8, third: u8) -> usize
+pub fn lay_three(room: &mut [u8], at: usize, first: u8, second: u8, third: u8) -> usize
     requires { at + 3 ≤ length room.old }
     ensures behind { result ≡ at + 3 }
     ensures laid { take result room.new ≡ take at room.old ++ first ∷ second ∷ third ∷ [] }
@@ -133,7 +134,7 @@ fn lay_three(room: &mut [u8], at: usize, first: u8, second: u8, third: u8) -> us
 
 /// The quote that closes the last text, and the line feed.
 #[inline(always)]
-fn lay_end(room: &mut [u8], at: usize) -> usize
+pub fn lay_end(room: &mut [u8], at: usize) -> usize
     requires { at + 2 ≤ length room.old }
     ensures behind { result ≡ at + 2 }
     ensures laid { take result room.new ≡ take at room.old ++ 34 ∷ 10 ∷ [] }
@@ -234,6 +235,7 @@ pub fn lay_event(room: &mut [u8], event: &EventRef<'_>) -> Option<usize>
         EventRef::Ee => Some(lay_three(room, 0, b'E', b'E', b'\n')),
         EventRef::At(name, ValRef::Text(text)) => lay_attribute(room, name, text),
         EventRef::Ch(ValRef::Text(text)) => lay_characters(room, text),
+        EventRef::Ch(ValRef::Any(value)) => lay_typed(room, value),
         _ => None,
     }
 }
