@@ -1,14 +1,15 @@
-//! Characters that are an integer or octets, laid in a room of bytes.
+//! Characters that are an integer, octets or a date, laid in a room of bytes.
 
 ghost use Rattle.std.specs.Prelude.{◌≡◌, ◌≤◌, ◌<◌, ◌+◌, ◌*◌, ◌++◌, ◌∷◌, [], IfSome, codes, decimal, length, take, true};
 ghost use Rattle.exi_lexical.specs.Binaries.{hex_text};
 ghost use Rattle.exi_lexical.specs.Binaries.{hex_sign as sign};
-ghost use Rattle.exi_names.specs.Seen.{binary, integer, seen};
+ghost use Rattle.exi_names.specs.Seen.{binary, integer, moment, seen};
 ghost use Rattle.exi_numerals.specs.Integers.{sign_text};
 ghost use Rattle.exi_evtext.specs.Lines.{value_words};
 
 use crate::lay::{lay_byte, lay_end, lay_run, lay_three};
-use exi_names::{Val, Whole};
+use crate::lay_moment::lay_moment;
+use exi_names::{Moment, Val, Whole};
 use itoa::Buffer;
 
 /// More bytes than an integer of 64 bits takes, with its word, its quotes and the line's end.
@@ -107,7 +108,25 @@ fn lay_hex(room: &mut [u8], at: usize, octets: &[u8]) -> Option<usize>
     Some(lay_end(room, at))
 }
 
-/// The line of characters that are no text, where these are an integer or octets.
+/// A date with a time as a value, with the line's end.
+#[inline(always)]
+fn lay_date(room: &mut [u8], at: usize, date: &Moment) -> Option<usize>
+    requires { at ≤ length room.old }
+    ensures len { length room.new ≡ length room.old }
+    ensures more { IfSome result (λ end. end ≤ length room.new) }
+    ensures laid { IfSome result (λ end. take end room.new ≡ take at room.old ++ (value_words (moment date.now) ++ 10 ∷ [])) }
+{
+    if room.len() - at < 2 * ROOMY {
+        return None;
+    }
+    let at = lay_three(room, at, b'm', b'o', b'm');
+    let at = lay_byte(room, at, b' ');
+    let at = lay_byte(room, at, b'"');
+    let at = lay_moment(room, at, date)?;
+    Some(lay_end(room, at))
+}
+
+/// The line of characters that are no text, where these are an integer, octets or a date with a time.
 #[inline(never)]
 pub fn lay_typed(room: &mut [u8], value: &Val) -> Option<usize>
     requires { 3 ≤ length room.old }
@@ -119,6 +138,7 @@ pub fn lay_typed(room: &mut [u8], value: &Val) -> Option<usize>
     match value {
         Val::Int(whole) => lay_integer(room, at, *whole),
         Val::Bin { hex: true, octets } => lay_hex(room, at, octets.as_slice()),
+        Val::Mom(date) => lay_date(room, at, date),
         _ => None,
     }
 }

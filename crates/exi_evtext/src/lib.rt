@@ -33,6 +33,7 @@ mod cursor;
 mod frequent;
 pub mod laws;
 mod lay;
+mod lay_moment;
 mod lay_value;
 mod lines;
 mod parse;
