@@ -14,3 +14,4 @@ pub mod Searching
 pub mod Books
 pub mod Starts
 pub mod Strings
+pub mod CommonTexts

@@ -2,6 +2,7 @@ ghost use Rattle.std.specs.Prelude.{◌≡◌};
 ghost use Rattle.std.specs.Option.{option_copied};
 ghost use Rattle.exi_names.specs.Shown.{named};
 ghost use Rattle.exi_reader.specs.Handing.{valuing_in};
+ghost use Rattle.exi_reader.specs.Rules.{by_name};
 ghost use Rattle.exi_choice.specs.Fitting.{declared_in, declaring, is_nil_at, is_type_at};
 
 use exi_gram::Schema;
@@ -39,8 +40,27 @@ fn is_nil_at(id: Option<NameId>) -> bool
     }
 }
 
+/// The same by the attribute's name alone, in a grammar of a schema.
+#[inline(never)]
+fn declaration_by_name<'a>(
+    schema: &'a Schema,
+    id: Option<NameId>,
+    name: NameRef<'_>,
+) -> Declared<'a>
+    ensures { declaring result ≡ declared_in schema.now by_name id (named name.entry) }
+{
+    if is_type_at(id) {
+        Declared::Type
+    } else if is_nil_at(id) {
+        Declared::Nil
+    } else {
+        Declared::Datatype(attribute_datatype(schema, name))
+    }
+}
+
 /// How the value of an attribute is represented, by what its production says of it and by its name (EXI 1.0, sections
 /// 8.4.3 and 8.5.4.4), whose least places are told where it stands in the string tables.
+#[inline(always)]
 pub fn declaration_of<'a>(
     schema: &'a Schema,
     valuing: Valuing,
@@ -59,14 +79,6 @@ pub fn declaration_of<'a>(
                 Declared::Datatype(None)
             }
         }
-        Valuing::ByName => {
-            if is_type_at(id) {
-                Declared::Type
-            } else if is_nil_at(id) {
-                Declared::Nil
-            } else {
-                Declared::Datatype(attribute_datatype(schema, name))
-            }
-        }
+        Valuing::ByName => declaration_by_name(schema, id, name),
     }
 }

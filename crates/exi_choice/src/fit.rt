@@ -1,10 +1,11 @@
-ghost use Rattle.std.specs.Prelude.{◌≡◌, ◌<◌, ◌^◌, IfOk, IfSome, IsTrue, Some, None, true, false, map, if◌then◌else◌};
+ghost use Rattle.std.specs.Prelude.{◌≡◌, ◌≢◌, ◌<◌, ◌≤◌, ◌^◌, ℕ, IfOk, IfSome, IsTrue, Some, None, true, false, map, length, get_or, if◌then◌else◌};
 ghost use Rattle.exi_names.specs.Datatypes.{represented};
 ghost use Rattle.exi_names.specs.Forms.{AreOctets, HasNoMinusZero, is_float, is_integer, is_small, is_wide};
 ghost use Rattle.exi_names.specs.Moments.{is_year};
 ghost use Rattle.exi_names.specs.Seen.{seen, values_of};
 ghost use Rattle.exi_writing.specs.Contents.{are_items, has_string, is_item, text_of};
 ghost use Rattle.exi_writing.specs.Pieces.{can_all_be_valued, can_be_spelled, can_be_valued};
+ghost use Rattle.exi_text.specs.Literals.{all_xml};
 ghost use Rattle.exi_names.specs.Datatypes.{boolean, text};
 ghost use Rattle.exi_reader.specs.Handing.{rule_in};
 ghost use Rattle.exi_choice.specs.Fitting.{IsPlainOf, declaring, fit_as, fit_for, fit_in, fitted, having, is_name, spelled_value, value_in};
@@ -82,11 +83,34 @@ fn text_of(alloc: Global, value: &Val) -> Result<Option<Txt>, AllocError>
     Ok(Some(text))
 }
 
+/// Whether none of these octets is that of a control, and none the first of a character from U+F000 to U+FFFF, of which two
+/// are no XML characters. None of them ends the search, so that many are looked at at once.
+fn are_common(octets: &[u8]) -> bool
+    ensures { IsTrue result → (i : ℕ) → i < length octets.now → (0x20 ≤ get_or octets.now i 0) × (get_or octets.now i 0 ≢ 0xEF) }
+{
+    let mut all = true;
+    for octet in octets {
+        all = all & (*octet >= 0x20) & (*octet != 0xEF);
+    }
+    all
+}
+
+/// Whether each character of a text is surely an XML character, as its octets tell.
+#[inline(always)]
+fn is_surely_writable(text: &Txt) -> bool
+    ensures { IsTrue result → all_xml text.now ≡ true }
+{
+    are_common(text.as_str().as_bytes())
+}
+
 /// Whether a text has a spelling: each of its characters is an XML character.
 fn can_be_spelled(text: &Txt) -> bool
     ensures { result ≡ can_be_spelled text.now }
 {
     let _ = text.count();
+    if is_surely_writable(text) {
+        return true;
+    }
     is_writable(text)
 }
 
@@ -235,6 +259,7 @@ fn is_own(datatype: &Datatype, value: &Val) -> bool
 /// # Errors
 ///
 /// `AllocError` where memory is refused.
+#[inline(never)]
 fn fit_datatype(alloc: Global, datatype: &Datatype, value: &Val) -> Result<Option<Fit>, AllocError>
     ensures { IfOk result (λ f. fitted (seen value.now) f ≡ fit_for (represented datatype.now) (seen value.now)) }
 {
@@ -254,17 +279,15 @@ fn fit_datatype(alloc: Global, datatype: &Datatype, value: &Val) -> Result<Optio
     Ok(Some(Fit::Other(Box::new(alloc, found)?)))
 }
 
-/// What is written of a value as a string.
+/// What is written of a value as a string: its canonical text.
 ///
 /// # Errors
 ///
 /// `AllocError` where memory is refused.
-fn fit_string(alloc: Global, value: &Val) -> Result<Option<Fit>, AllocError>
+#[inline(never)]
+fn fit_text(alloc: Global, value: &Val) -> Result<Option<Fit>, AllocError>
     ensures { IfOk result (λ f. fitted (seen value.now) f ≡ fit_for text (seen value.now)) }
 {
-    if let Val::Text(_) = value {
-        return Ok(own_fit(value));
-    }
     let Some(text) = text_of(alloc, value)? else {
         return Ok(None);
     };
@@ -274,7 +297,23 @@ fn fit_string(alloc: Global, value: &Val) -> Result<Option<Fit>, AllocError>
     Ok(Some(Fit::Other(Box::new(alloc, Val::Text(text))?)))
 }
 
+/// What is written of a value as a string. A text is its own.
+///
+/// # Errors
+///
+/// `AllocError` where memory is refused.
+#[inline(always)]
+fn fit_string(alloc: Global, value: &Val) -> Result<Option<Fit>, AllocError>
+    ensures { IfOk result (λ f. fitted (seen value.now) f ≡ fit_for text (seen value.now)) }
+{
+    if let Val::Text(_) = value {
+        return Ok(own_fit(value));
+    }
+    fit_text(alloc, value)
+}
+
 /// What is written of a value of `xsi:nil`.
+#[inline(never)]
 fn fit_nil(alloc: Global, value: &Val) -> Result<Option<Fit>, AllocError>
     ensures { IfOk result (λ f. fitted (seen value.now) f ≡ fit_for (boolean false) (seen value.now)) }
 {
@@ -300,6 +339,7 @@ fn fit_name(value: &Val) -> Option<Fit>
 }
 
 /// What is written of a value that is represented so.
+#[inline(always)]
 fn fit_declared(
     alloc: Global,
     declared: Declared<'_>,
@@ -341,11 +381,23 @@ pub fn fit_on(
     }
 }
 
+/// Whether a value has a spelling under its datatype, as most have: a text is looked at with no other call.
+#[inline(always)]
+fn can_be_written(value: &Val) -> bool
+    ensures { result ≡ can_be_valued (seen value.now) }
+{
+    match value {
+        Val::Text(text) => can_be_spelled(text),
+        _ => can_be_valued(value),
+    }
+}
+
 /// The value itself, where it has a spelling.
+#[inline(always)]
 fn own_fit(value: &Val) -> Option<Fit>
     ensures { fitted (seen value.now) result ≡ spelled_value (Some (seen value.now)) }
 {
-    if can_be_valued(value) {
+    if can_be_written(value) {
         Some(Fit::Own)
     } else {
         None

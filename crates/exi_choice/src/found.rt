@@ -54,6 +54,7 @@ fn fit_at(
 /// # Errors
 ///
 /// `AllocError` where memory is refused.
+#[inline(always)]
 fn first_of_all(
     alloc: Global,
     schema: &Schema,
@@ -87,6 +88,7 @@ fn first_of_all(
 /// # Errors
 ///
 /// `AllocError` where memory is refused.
+#[inline(never)]
 fn first_of_candidates(
     alloc: Global,
     book: &Book,
@@ -119,6 +121,7 @@ const FEW: usize = 8;
 /// # Errors
 ///
 /// `AllocError` where memory is refused.
+#[inline(always)]
 fn first_in(
     alloc: Global,
     book: &Book,
@@ -142,6 +145,7 @@ fn first_in(
 /// # Errors
 ///
 /// `AllocError` where memory is refused.
+#[inline(always)]
 pub fn find_in_book<'a>(
     alloc: Global,
     book: &'a Book,

@@ -1,14 +1,7 @@
-use Rattle.std.proofs.Common.{Some, sym, ap, ◌∙◌}
-use Rattle.exi_names.specs.Seen.{Value, seen}
-use Rattle.exi_names.specs.declared.val.Val.{Val}
-use Rattle.exi_choice.proofs.Strings.{has_spelling, no_spelling, text_own, text_seen}
+use Rattle.std.proofs.Common.{ap, ◌∙◌}
+use Rattle.exi_names.specs.Seen.{seen}
+use Rattle.exi_choice.proofs.Strings.{text_own, text_seen}
 use Rattle.exi_choice.proofs.fit.fit_string.Goals as goal
 
 pub returns-in-Text : goal.returns-in-Text
 returns-in-Text c = c.own_fit.ensures ∙ text_own (seen c.args.value.now) c.in-Text.field-0 (ap seen c.in-Text.is ∙ text_seen c.in-Text.field-0)
-
-pub returns-then-not-can_be_spelled : goal.returns-then-not-can_be_spelled
-returns-then-not-can_be_spelled c = no_spelling (seen c.args.value.now) c.in-Some.text (sym c.in-Some.is ∙ c.in_ok-text.ensures) (sym c.can_be_spelled.ensures ∙ c.if-not-can_be_spelled.true)
-
-pub returns : goal.returns
-returns c = ap (λ (v : Val). Some (seen v)) c.in_ok-new.ensures.ok ∙ ap (λ (v : Value). Some v) (text_seen c.in-Some.text) ∙ has_spelling (seen c.args.value.now) c.in-Some.text (sym c.in-Some.is ∙ c.in_ok-text.ensures) (sym c.can_be_spelled.ensures ∙ c.if-not-can_be_spelled.false)
