@@ -111,6 +111,24 @@ built_in_here wanted p q e room o r same first is there h =
     subst (λ (z : Page). Finds z.setting z.config.learned wanted (rules_of z.setting z.config) r) same
     (subst (λ (z : Productions Rule). Finds p.setting p.config.learned wanted z r) (sym (rules_at p e (state.BuiltIn room) (sym first ∙ is) there)) h)
 
+-- where it is known of which rules
+pub room_here : (wanted : Seeking) (p q : Page) (room : Room) (r : Option Found) → p ≡ q → rules_of q.setting q.config ≡ built_in q.setting q.config.learned room → Finds p.setting p.config.learned wanted (built_in p.setting p.config.learned room) r
+    → Finds q.setting q.config.learned wanted (rules_of q.setting q.config) r
+room_here wanted p q room r same rules h =
+    subst (λ (z : Productions Rule). Finds q.setting q.config.learned wanted z r) (sym rules)
+    (subst (λ (z : Page). Finds z.setting z.config.learned wanted (built_in z.setting z.config.learned room) r) same h)
+
+pub room_rules : (p q : Page) (e : Element) (room : Room) (o : Option Element) → p ≡ q → o ≡ first_element p.config.elements → o ≡ Some e → e.state ≡ state.BuiltIn room
+    → rules_of q.setting q.config ≡ built_in q.setting q.config.learned room
+room_rules p q e room o same first is there =
+    subst (λ (z : Page). rules_of z.setting z.config ≡ built_in z.setting z.config.learned room) same (rules_at p e (state.BuiltIn room) (sym first ∙ is) there)
+
+pub room_there : (p q : Page) (e : Element) (room : Room) (o : Option Element) → p ≡ q → o ≡ first_element p.config.elements → o ≡ Some e → e.state ≡ state.BuiltIn room
+    → AreThere q.setting q.config.learned q.config.elements → IsRoom q.config.learned room
+room_there p q e room o same first is there h =
+    let k : first_element q.config.elements ≡ Some e = ap (λ (z : Page). first_element z.config.elements) (sym same) ∙ (sym first ∙ is) in
+    subst (λ (z : State). IsThereIn q.setting q.config.learned z) there (there_first q.setting q.config.learned q.config.elements e k h)
+
 pub informed_rules : (p q : Page) (e : Element) (grammar number : ℕ) (empty : Bool) (o : Option Element) → p ≡ q → o ≡ first_element p.config.elements → o ≡ Some e → e.state ≡ state.Informed grammar number empty
     → rules_of q.setting q.config ≡ in_book q.setting grammar number
 informed_rules p q e grammar number empty o same first is there =

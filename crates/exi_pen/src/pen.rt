@@ -1,10 +1,11 @@
-ghost use Rattle.std.specs.Prelude.{◌≡◌, IfOk, OnOk, true};
+ghost use Rattle.std.specs.Prelude.{◌≡◌, IfOk, IfSome, OnOk, true};
+ghost use Rattle.exi_builtin.specs.Learning.{IsRoom};
 ghost use Rattle.exi_gram.specs.Books.{IsStateOf};
 ghost use Rattle.exi_gram.specs.Codes.{code_bits};
 ghost use Rattle.exi_gram.specs.Laws.{codes};
 ghost use Rattle.exi_gram.specs.Switches.{align_of};
-ghost use Rattle.exi_reader.specs.Configurations.{alone_rules, in_book, outer_rules, rules_of};
-ghost use Rattle.exi_reader.specs.Handing.{IsThere, alone_of};
+ghost use Rattle.exi_reader.specs.Configurations.{alone_rules, built_in, in_book, outer_rules, rules_of};
+ghost use Rattle.exi_reader.specs.Handing.{AreThere, IsThere, alone_of};
 ghost use Rattle.std.specs.Option.{is_some};
 ghost use Rattle.exi_pen.specs.Pages.{Begins, BeginsKind, IsReady, attribute_wanted, characters_wanted, no_element_for, with_bits};
 ghost use Rattle.exi_choice.specs.Choices.{Finds, IsWay, wanting, way_parts};
@@ -67,6 +68,7 @@ fn is_no_element(wanted: Content, alone: Alone) -> bool
 }
 
 /// Charges what comes before an event's content.
+#[inline(always)]
 fn pay_charges(toll: &mut Toll, charges: Charges)
     ensures { toll.new ≡ charge_level charges.entered (charge_event charges.counted toll.old) }
 {
@@ -211,7 +213,7 @@ impl<'a, T: Tables + Drop> Pen<'a, T> {
     }
 
     /// Begins an event in a state of the book.
-    #[inline(never)]
+    #[inline(always)]
     fn begin_in_book(
         &mut self,
         grammar: u32,
@@ -226,6 +228,41 @@ impl<'a, T: Tables + Drop> Pen<'a, T> {
         ensures meter { self.new.config.meter ≡ self.old.config.meter }
     {
         let found = find_in_book(self.alloc, self.book, grammar, state, wanted)?;
+        self.begin_by(wanted, found, toll)
+    }
+
+    /// The built-in state in which the innermost element is, where there is one.
+    #[inline(always)]
+    fn room(&self) -> Option<Room>
+        requires there { AreThere self.now.setting self.now.config.learned self.now.config.elements }
+        ensures room { IfSome result (λ room. IsRoom self.now.config.learned room) }
+        ensures rules { IfSome result (λ room. rules_of self.now.setting self.now.config ≡ built_in self.now.setting self.now.config.learned room) }
+    {
+        match self.elements.innermost() {
+            Some(element) => match element.state {
+                State::BuiltIn(room) => Some(room),
+                State::Informed { .. } => None,
+            },
+            None => None,
+        }
+    }
+
+    /// Begins an event in a built-in state.
+    #[inline(always)]
+    fn begin_in_room(
+        &mut self,
+        room: Room,
+        wanted: Wanted<'_>,
+        toll: &mut Toll,
+    ) -> Result<Begun<'a>, PutStop>
+        requires ready { IsReady self.old }
+        requires room { IsRoom self.old.config.learned room }
+        requires rules { rules_of self.old.setting self.old.config ≡ built_in self.old.setting self.old.config.learned room }
+        ensures begins { Begins (wanting wanted.entry) result self.old self.new toll.old toll.new }
+        ensures meter { self.new.config.meter ≡ self.old.config.meter }
+    {
+        let (alloc, book) = (self.alloc, self.book);
+        let found = find_built_in(alloc, book, &self.overlay, room, wanted)?;
         self.begin_by(wanted, found, toll)
     }
 
@@ -266,8 +303,47 @@ impl<'a, T: Tables + Drop> Pen<'a, T> {
         Ok(self.begin(wanted, toll)?.rule)
     }
 
-    /// The same, for an attribute, of whose name a code can tell so much.
-    pub fn begin_attribute(
+    /// The same, where it is likely in a state of the book.
+    #[inline(never)]
+    fn begin_kind_by(&mut self, on: Content, toll: &mut Toll) -> Result<Rule<'a>, PutStop>
+        requires ready { IsReady self.old }
+        ensures begins { BeginsKind on result self.old self.new toll.old toll.new }
+        ensures meter { self.new.config.meter ≡ self.old.config.meter }
+    {
+        if let Some(element) = self.elements.innermost() {
+            if let State::Informed { grammar, state, .. } = element.state {
+                let wanted = Wanted {
+                    on,
+                    valued: Valued::Nothing,
+                };
+                return Ok(self.begin_in_book(grammar, state, wanted, toll)?.rule);
+            }
+        }
+        self.begin_kind(on, toll)
+    }
+
+    /// The same, for an event that is frequent in elements: a built-in state goes its own way, on which what is found stays in
+    /// pieces.
+    #[inline(always)]
+    pub fn begin_often(&mut self, on: Content, toll: &mut Toll) -> Result<Rule<'a>, PutStop>
+        requires ready { IsReady self.old }
+        ensures begins { BeginsKind on result self.old self.new toll.old toll.new }
+        ensures meter { self.new.config.meter ≡ self.old.config.meter }
+    {
+        if let Some(room) = self.room() {
+            let wanted = Wanted {
+                on,
+                valued: Valued::Nothing,
+            };
+            return Ok(self.begin_in_room(room, wanted, toll)?.rule);
+        }
+        self.begin_kind_by(on, toll)
+    }
+
+    /// The same, for an attribute, wherever it stands.
+    #[cold]
+    #[inline(never)]
+    fn begin_any_attribute(
         &mut self,
         told: Telling,
         name: NameRef<'_>,
@@ -287,8 +363,62 @@ impl<'a, T: Tables + Drop> Pen<'a, T> {
         self.begin(Wanted { on, valued }, toll)
     }
 
-    /// The same, for characters.
-    pub fn begin_characters(&mut self, value: &Val, toll: &mut Toll) -> Result<Begun<'a>, PutStop>
+    /// The same, where it is likely in a state of the book.
+    #[inline(never)]
+    fn begin_attribute_by(
+        &mut self,
+        told: Telling,
+        name: NameRef<'_>,
+        value: &Val,
+        toll: &mut Toll,
+    ) -> Result<Begun<'a>, PutStop>
+        requires ready { IsReady self.old }
+        ensures begins { Begins (attribute_wanted told (named name.entry) (seen value.now)) result self.old self.new toll.old toll.new }
+        ensures meter { self.new.config.meter ≡ self.old.config.meter }
+    {
+        if let Some(element) = self.elements.innermost() {
+            if let State::Informed { grammar, state, .. } = element.state {
+                let valued = Valued::Attribute {
+                    id: place_told(told),
+                    name,
+                    value,
+                };
+                let on = Content::Attribute(told, Valuing::Untyped);
+                return self.begin_in_book(grammar, state, Wanted { on, valued }, toll);
+            }
+        }
+        self.begin_any_attribute(told, name, value, toll)
+    }
+
+    /// The same, for an attribute, of whose name a code can tell so much.
+    #[inline(always)]
+    pub fn begin_attribute(
+        &mut self,
+        told: Telling,
+        name: NameRef<'_>,
+        value: &Val,
+        toll: &mut Toll,
+    ) -> Result<Begun<'a>, PutStop>
+        requires ready { IsReady self.old }
+        ensures begins { Begins (attribute_wanted told (named name.entry) (seen value.now)) result self.old self.new toll.old toll.new }
+        ensures meter { self.new.config.meter ≡ self.old.config.meter }
+    {
+        if let Some(room) = self.room() {
+            let valued = Valued::Attribute {
+                id: place_told(told),
+                name,
+                value,
+            };
+            let on = Content::Attribute(told, Valuing::Untyped);
+            return self.begin_in_room(room, Wanted { on, valued }, toll);
+        }
+        self.begin_attribute_by(told, name, value, toll)
+    }
+
+    /// The same, for characters, wherever they stand.
+    #[cold]
+    #[inline(never)]
+    fn begin_any_characters(&mut self, value: &Val, toll: &mut Toll) -> Result<Begun<'a>, PutStop>
         requires ready { IsReady self.old }
         ensures begins { Begins (characters_wanted (seen value.now)) result self.old self.new toll.old toll.new }
         ensures meter { self.new.config.meter ≡ self.old.config.meter }
@@ -298,5 +428,41 @@ impl<'a, T: Tables + Drop> Pen<'a, T> {
             valued: Valued::Characters(value),
         };
         self.begin(wanted, toll)
+    }
+
+    /// The same, where they are likely in a state of the book.
+    #[inline(never)]
+    fn begin_characters_by(&mut self, value: &Val, toll: &mut Toll) -> Result<Begun<'a>, PutStop>
+        requires ready { IsReady self.old }
+        ensures begins { Begins (characters_wanted (seen value.now)) result self.old self.new toll.old toll.new }
+        ensures meter { self.new.config.meter ≡ self.old.config.meter }
+    {
+        if let Some(element) = self.elements.innermost() {
+            if let State::Informed { grammar, state, .. } = element.state {
+                let wanted = Wanted {
+                    on: Content::Characters,
+                    valued: Valued::Characters(value),
+                };
+                return self.begin_in_book(grammar, state, wanted, toll);
+            }
+        }
+        self.begin_any_characters(value, toll)
+    }
+
+    /// The same, for characters.
+    #[inline(always)]
+    pub fn begin_characters(&mut self, value: &Val, toll: &mut Toll) -> Result<Begun<'a>, PutStop>
+        requires ready { IsReady self.old }
+        ensures begins { Begins (characters_wanted (seen value.now)) result self.old self.new toll.old toll.new }
+        ensures meter { self.new.config.meter ≡ self.old.config.meter }
+    {
+        if let Some(room) = self.room() {
+            let wanted = Wanted {
+                on: Content::Characters,
+                valued: Valued::Characters(value),
+            };
+            return self.begin_in_room(room, wanted, toll);
+        }
+        self.begin_characters_by(value, toll)
     }
 }

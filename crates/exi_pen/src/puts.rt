@@ -1,4 +1,4 @@
-ghost use Rattle.std.specs.Prelude.{◌≡◌, ◌-◌, ◌^◌, ◌&&◌, None, Some, true, IfOk, if◌then◌else◌};
+ghost use Rattle.std.specs.Prelude.{◌≡◌, ◌-◌, ◌^◌, ◌&&◌, None, Some, true, IfOk, IfSome, if◌then◌else◌};
 ghost use Rattle.exi_bits.specs.declared.fault.Kind.TheVariants as kind;
 ghost use Rattle.exi_gram.specs.Switches.{align_of, prefixes, strict};
 ghost use Rattle.exi_names.specs.Datatypes as datatype;
@@ -54,6 +54,33 @@ fn kept_name<'b>(options: &Options, name: NameRef<'b>) -> NameRef<'b>
     }
 }
 
+/// The least place of a URI, where it stands at this place too.
+fn uri_there<T: Tables>(tables: &T, place: u32, text: &Txt) -> Option<u32>
+    ensures { IfSome result (λ uri. least_place (uris (T.held tables.now)) text.now ≡ Some uri) }
+{
+    let Some(held) = tables.uri_at(place) else {
+        return None;
+    };
+    if held.same(text) {
+        return Some(tables.least_uri(place));
+    }
+    None
+}
+
+/// What a code can tell of a name whose URI may well stand at this place: it is then not looked up.
+#[inline(always)]
+fn told_near<T: Tables>(tables: &T, place: u32, name: NameRef<'_>) -> Telling
+    ensures { result ≡ told_of (T.held tables.now) (named name.entry) }
+{
+    let Some(uri) = uri_there(tables, place, name.uri) else {
+        return told_of(tables, name);
+    };
+    match tables.local_of(uri, name.local) {
+        Some(local) => Telling::Known(NameId { uri, local }),
+        None => Telling::Under(uri),
+    }
+}
+
 impl<'a, T: Tables + Drop> Pen<'a, T> {
     /// The name without its prefix, where prefixes are not kept.
     pub fn kept<'b>(&self, name: NameRef<'b>) -> NameRef<'b>
@@ -62,11 +89,17 @@ impl<'a, T: Tables + Drop> Pen<'a, T> {
         kept_name(self.book.options(), name)
     }
 
-    /// What a code can tell of a name.
+    /// What a code can tell of a name. Most stand under the URI of the innermost element, or under none.
+    #[inline(always)]
     pub fn told_of(&self, name: NameRef<'_>) -> Telling
         ensures { result ≡ told_of self.now.config.tables (named name.entry) }
     {
-        told_of(&self.tables, name)
+        let near = if name.uri.count() == 0 {
+            0
+        } else {
+            self.inside().uri
+        };
+        told_near(&self.tables, near, name)
     }
 
     /// How the value of an attribute of this name is represented under a production, where a code can tell so much of the
@@ -96,6 +129,7 @@ impl<'a, T: Tables + Drop> Pen<'a, T> {
     }
 
     /// Writes a name that has bits of its own, or what is left of one that the code tells.
+    #[inline(always)]
     pub fn put_told(
         &mut self,
         toll: &mut Toll,
@@ -117,6 +151,7 @@ impl<'a, T: Tables + Drop> Pen<'a, T> {
     }
 
     /// Writes a name that has bits of its own.
+    #[inline(never)]
     fn put_name(&mut self, toll: &mut Toll, name: NameRef<'_>) -> Result<NameId, PutStop>
         requires few { NoneLonger (2 ^ 31) self.old.config.tables }
         ensures put { PutsIn result (told_name self.old.setting spelled (named name.entry) self.old.config.tables) self.old self.new toll.old toll.new }
@@ -134,6 +169,7 @@ impl<'a, T: Tables + Drop> Pen<'a, T> {
     }
 
     /// Writes what is left of a name of which the code tells the URI.
+    #[inline(never)]
     fn put_under(&mut self, toll: &mut Toll, uri: u32, name: NameRef<'_>) -> Result<NameId, PutStop>
         requires few { NoneLonger (2 ^ 31) self.old.config.tables }
         requires told { least_place (uris self.old.config.tables) (named name).uri ≡ Some uri }
@@ -229,6 +265,7 @@ impl<'a, T: Tables + Drop> Pen<'a, T> {
     }
 
     /// Writes a value of a datatype, or a string, under a name.
+    #[inline(always)]
     pub fn put_by(
         &mut self,
         toll: &mut Toll,
@@ -249,6 +286,7 @@ impl<'a, T: Tables + Drop> Pen<'a, T> {
     }
 
     /// Writes a value of a datatype under a name.
+    #[inline(never)]
     fn put_typed(
         &mut self,
         toll: &mut Toll,
