@@ -188,6 +188,7 @@ impl<'a, T: Tables + Drop> Pen<'a, T> {
     }
 
     /// Writes what is left of a name that the code tells.
+    #[inline(always)]
     fn put_known(
         &mut self,
         toll: &mut Toll,

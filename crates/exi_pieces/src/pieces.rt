@@ -95,6 +95,7 @@ pub fn put_name<T: Tables>(
 
 /// Writes what is left of a name that the code tells by its places, which have to be its least: its prefix. False where it
 /// has no spelling.
+#[inline(always)]
 pub fn put_known<T: Tables>(
     options: &Options,
     out: &mut BitOut,
