@@ -59,7 +59,7 @@ impl<'a, T: Tables + Drop> Pen<'a, T> {
         }
         let mut toll = self.toll();
         let place = self.told_of(name);
-        let rule = self.begin_often(Content::Element(place), &mut toll)?;
+        let rule = self.begin_element(place, &mut toll)?;
         let told = telling(rule);
         let id = self.put_told(&mut toll, told, name)?;
         self.open_on(toll, rule, id, name)
@@ -71,7 +71,7 @@ impl<'a, T: Tables + Drop> Pen<'a, T> {
         ensures writes { Writes result self.old self.new (by_chosen self.old.setting self.old.config event.ee) }
     {
         let mut toll = self.toll();
-        self.begin_often(Content::EndElement, &mut toll)?;
+        self.begin_end(&mut toll)?;
         self.close_on(toll)
     }
 

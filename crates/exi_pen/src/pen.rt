@@ -6,6 +6,7 @@ ghost use Rattle.exi_gram.specs.Laws.{codes};
 ghost use Rattle.exi_gram.specs.Switches.{align_of};
 ghost use Rattle.exi_reader.specs.Configurations.{alone_rules, built_in, in_book, outer_rules, rules_of};
 ghost use Rattle.exi_reader.specs.Handing.{AreThere, IsThere, alone_of};
+ghost use Rattle.exi_reader.specs.declared.rule.Content.TheVariants as content;
 ghost use Rattle.std.specs.Option.{is_some};
 ghost use Rattle.exi_pen.specs.Pages.{Begins, BeginsKind, IsReady, attribute_wanted, characters_wanted, no_element_for, with_bits};
 ghost use Rattle.exi_choice.specs.Choices.{Finds, IsWay, wanting, way_parts};
@@ -304,7 +305,7 @@ impl<'a, T: Tables + Drop> Pen<'a, T> {
     }
 
     /// The same, where it is likely in a state of the book.
-    #[inline(never)]
+    #[inline(always)]
     fn begin_kind_by(&mut self, on: Content, toll: &mut Toll) -> Result<Rule<'a>, PutStop>
         requires ready { IsReady self.old }
         ensures begins { BeginsKind on result self.old self.new toll.old toll.new }
@@ -322,22 +323,59 @@ impl<'a, T: Tables + Drop> Pen<'a, T> {
         self.begin_kind(on, toll)
     }
 
-    /// The same, for an event that is frequent in elements: a built-in state goes its own way, on which what is found stays in
-    /// pieces.
-    #[inline(always)]
-    pub fn begin_often(&mut self, on: Content, toll: &mut Toll) -> Result<Rule<'a>, PutStop>
+    /// The same, where it is likely in a state of the book, for SE.
+    #[inline(never)]
+    fn begin_element_by(&mut self, told: Telling, toll: &mut Toll) -> Result<Rule<'a>, PutStop>
         requires ready { IsReady self.old }
-        ensures begins { BeginsKind on result self.old self.new toll.old toll.new }
+        ensures begins { BeginsKind (content.Element told) result self.old self.new toll.old toll.new }
+        ensures meter { self.new.config.meter ≡ self.old.config.meter }
+    {
+        self.begin_kind_by(Content::Element(told), toll)
+    }
+
+    /// The same, where it is likely in a state of the book, for EE.
+    #[inline(never)]
+    fn begin_end_by(&mut self, toll: &mut Toll) -> Result<Rule<'a>, PutStop>
+        requires ready { IsReady self.old }
+        ensures begins { BeginsKind content.EndElement result self.old self.new toll.old toll.new }
+        ensures meter { self.new.config.meter ≡ self.old.config.meter }
+    {
+        self.begin_kind_by(Content::EndElement, toll)
+    }
+
+    /// The same, for SE, of whose name a code can tell so much: a built-in state goes its own way, on which what is found stays
+    /// in pieces.
+    #[inline(always)]
+    pub fn begin_element(&mut self, told: Telling, toll: &mut Toll) -> Result<Rule<'a>, PutStop>
+        requires ready { IsReady self.old }
+        ensures begins { BeginsKind (content.Element told) result self.old self.new toll.old toll.new }
         ensures meter { self.new.config.meter ≡ self.old.config.meter }
     {
         if let Some(room) = self.room() {
             let wanted = Wanted {
-                on,
+                on: Content::Element(told),
                 valued: Valued::Nothing,
             };
             return Ok(self.begin_in_room(room, wanted, toll)?.rule);
         }
-        self.begin_kind_by(on, toll)
+        self.begin_element_by(told, toll)
+    }
+
+    /// The same, for EE.
+    #[inline(always)]
+    pub fn begin_end(&mut self, toll: &mut Toll) -> Result<Rule<'a>, PutStop>
+        requires ready { IsReady self.old }
+        ensures begins { BeginsKind content.EndElement result self.old self.new toll.old toll.new }
+        ensures meter { self.new.config.meter ≡ self.old.config.meter }
+    {
+        if let Some(room) = self.room() {
+            let wanted = Wanted {
+                on: Content::EndElement,
+                valued: Valued::Nothing,
+            };
+            return Ok(self.begin_in_room(room, wanted, toll)?.rule);
+        }
+        self.begin_end_by(toll)
     }
 
     /// The same, for an attribute, wherever it stands.

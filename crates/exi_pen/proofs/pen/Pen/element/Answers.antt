@@ -19,15 +19,15 @@ returns-then-is_other g c = record {
 }
 
 pub put_told-requires-clause-few : goal.put_told-requires-clause-few
-put_told-requires-clause-few g c = few_begun (of_kind (content.Element c.told_of-place.result)) c.args.self.now c.begin_often.new.self c.toll-toll.result c.begin_often.new.toll c.in_ok-rule.rule c.requires.ready c.in_ok-rule.ensures.begins
+put_told-requires-clause-few g c = few_begun (of_kind (content.Element c.told_of-place.result)) c.args.self.now c.begin_element.new.self c.toll-toll.result c.begin_element.new.toll c.in_ok-rule.rule c.requires.ready c.in_ok-rule.ensures.begins
 
 pub put_told-requires-clause-told : goal.put_told-requires-clause-told
-put_told-requires-clause-told g c = element_told c.args.self.now c.begin_often.new.self c.toll-toll.result c.begin_often.new.toll c.in_ok-rule.rule c.told_of-place.result c.telling-told.result (named c.kept-name.result) c.in_ok-rule.ensures.begins c.told_of-place.ensures c.telling-told.ensures
+put_told-requires-clause-told g c = element_told c.args.self.now c.begin_element.new.self c.toll-toll.result c.begin_element.new.toll c.in_ok-rule.rule c.told_of-place.result c.telling-told.result (named c.kept-name.result) c.in_ok-rule.ensures.begins c.told_of-place.ensures c.telling-told.ensures
 
 pub open_on-requires : goal.open_on-requires
 open_on-requires g c = record {
-  room = grow_put c.in_ok-id.id (told_name c.begin_often.new.self.setting (telling_of c.telling-told.result) (named c.kept-name.result) c.begin_often.new.self.config.tables) c.begin_often.new.self c.put_told.new.self c.begin_often.new.toll c.put_told.new.toll
-      (grow_begun (of_kind (content.Element c.told_of-place.result)) c.args.self.now c.begin_often.new.self c.toll-toll.result c.begin_often.new.toll c.in_ok-rule.rule c.requires.ready c.in_ok-rule.ensures.begins) c.in_ok-id.ensures.put;
+  room = grow_put c.in_ok-id.id (told_name c.begin_element.new.self.setting (telling_of c.telling-told.result) (named c.kept-name.result) c.begin_element.new.self.config.tables) c.begin_element.new.self c.put_told.new.self c.begin_element.new.toll c.put_told.new.toll
+      (grow_begun (of_kind (content.Element c.told_of-place.result)) c.args.self.now c.begin_element.new.self c.toll-toll.result c.begin_element.new.toll c.in_ok-rule.rule c.requires.ready c.in_ok-rule.ensures.begins) c.in_ok-id.ensures.put;
 }
 
 pub returns-in_err-id : goal.returns-in_err-id
@@ -35,7 +35,7 @@ returns-in_err-id g c =
     let p = err_from_is_err_and c.from_residual-in_err-id.result c.from_residual-in_err-id.ensures.1 in
     record {
       writes = rw (p.1, p.2) (kept_element (Err c.in_err-id.field-0.0) c.args.self.now c.put_told.new.self (named c.kept-name.result) _ c.kept-name.ensures
-          (element_stop c.in_err-id.field-0.0 c.args.self.now c.begin_often.new.self c.put_told.new.self c.toll-toll.result c.begin_often.new.toll c.put_told.new.toll c.in_ok-rule.rule c.told_of-place.result c.telling-told.result (named c.kept-name.result) c.requires.ready c.toll-toll.ensures c.in_ok-rule.ensures.begins c.told_of-place.ensures c.telling-told.ensures c.in_err-id.ensures.put));
+          (element_stop c.in_err-id.field-0.0 c.args.self.now c.begin_element.new.self c.put_told.new.self c.toll-toll.result c.begin_element.new.toll c.put_told.new.toll c.in_ok-rule.rule c.told_of-place.result c.telling-told.result (named c.kept-name.result) c.requires.ready c.toll-toll.ensures c.in_ok-rule.ensures.begins c.told_of-place.ensures c.telling-told.ensures c.in_err-id.ensures.put));
     }
 
 pub returns : goal.returns
@@ -43,13 +43,13 @@ returns g c =
     let free = c.is_other.ensures ∙ ap (λ (b : Bool). cond b (Some kind.ScRoot) None) c.if-is_other.false in
     record {
       writes = kept_element c.open_on.result c.args.self.now c.open_on.new.self (named c.kept-name.result) _ c.kept-name.ensures
-          (element_ends c.open_on.result c.args.self.now c.begin_often.new.self c.put_told.new.self c.open_on.new.self c.toll-toll.result c.begin_often.new.toll c.put_told.new.toll c.in_ok-rule.rule c.told_of-place.result c.telling-told.result (named c.kept-name.result) c.in_ok-id.id c.requires.ready c.toll-toll.ensures c.in_ok-rule.ensures.begins c.told_of-place.ensures c.telling-told.ensures c.in_ok-id.ensures.put c.in_ok-id.ensures.id free c.open_on.ensures);
+          (element_ends c.open_on.result c.args.self.now c.begin_element.new.self c.put_told.new.self c.open_on.new.self c.toll-toll.result c.begin_element.new.toll c.put_told.new.toll c.in_ok-rule.rule c.told_of-place.result c.telling-told.result (named c.kept-name.result) c.in_ok-id.id c.requires.ready c.toll-toll.ensures c.in_ok-rule.ensures.begins c.told_of-place.ensures c.telling-told.ensures c.in_ok-id.ensures.put c.in_ok-id.ensures.id free c.open_on.ensures);
     }
 
 pub returns-in_err-rule : goal.returns-in_err-rule
 returns-in_err-rule g c =
     let p = err_from_is_err_and c.from_residual.result c.from_residual.ensures.1 in
     record {
-      writes = rw (p.1, p.2) (kept_element (Err c.in_err-rule.field-0.0) c.args.self.now c.begin_often.new.self (named c.kept-name.result) _ c.kept-name.ensures
-          (begin_stop c.in_err-rule.field-0.0 (of_kind (content.Element c.told_of-place.result)) c.args.self.now c.begin_often.new.self (event.se (named c.kept-name.result)) c.in_err-rule.ensures.begins (element_wanted c.args.self.now c.told_of-place.result (named c.kept-name.result) c.told_of-place.ensures) c.in_err-rule.ensures.meter));
+      writes = rw (p.1, p.2) (kept_element (Err c.in_err-rule.field-0.0) c.args.self.now c.begin_element.new.self (named c.kept-name.result) _ c.kept-name.ensures
+          (begin_stop c.in_err-rule.field-0.0 (of_kind (content.Element c.told_of-place.result)) c.args.self.now c.begin_element.new.self (event.se (named c.kept-name.result)) c.in_err-rule.ensures.begins (element_wanted c.args.self.now c.told_of-place.result (named c.kept-name.result) c.told_of-place.ensures) c.in_err-rule.ensures.meter));
     }
