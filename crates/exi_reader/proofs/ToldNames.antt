@@ -11,7 +11,7 @@ use Rattle.exi_items.specs.Charges.{text_charge}
 use Rattle.exi_bits.specs.declared.align.Align.{Align}
 use Rattle.exi_gram.specs.Switches.{align_of, prefixes}
 use Rattle.exi_meter.specs.Metering.{Metering, text_fits, with_text}
-use Rattle.exi_tables.specs.Growth.{KeepsAll, NoneLonger}
+use Rattle.exi_tables.specs.Growth.{NoneLonger}
 use Rattle.exi_tables.specs.Partitions.{Partitions, live_at, uris}
 use Rattle.exi_typed.specs.Continues.{ReadsOn}
 use Rattle.exi_typed.specs.Places.{text_in}

@@ -13,7 +13,7 @@ ghost use Rattle.exi_tables.specs.Growth.{KeepsAll, NoneLonger};
 ghost use Rattle.exi_tables.specs.Partitions.{IsName, live_at, uris};
 ghost use Rattle.exi_typed.specs.ReadStates.{Goes, GoesOrStops, Leaves, read_state};
 ghost use Rattle.exi_typed.specs.Places.{IsNameAt, name_in, text_in};
-ghost use Rattle.exi_typed.specs.Strings.{placed_at};
+ghost use Rattle.exi_typed.specs.Strings.{known_at, placed_at};
 ghost use Rattle.exi_values.specs.Stops.{IsRoomy};
 ghost use Rattle.exi_values.specs.Valued.{valued_at};
 ghost use Rattle.exi_reader.specs.Changes.{
@@ -43,7 +43,7 @@ use crate::elements::Elements;
 use crate::frames::{Element, Outer, State};
 use crate::rule::{Telling, Valuing};
 use bitflags::Flags;
-use exi_bits::{BitIn, Fault, Kind, Stop};
+use exi_bits::{Align, BitIn, Fault, Kind, Stop};
 use exi_builtin::{Learned, Overlay, Room};
 use exi_gram::{Book, OptionFlags, Options};
 use exi_meter::Meter;
@@ -378,6 +378,31 @@ fn name_under<T: Tables>(
     read_name_under(alloc, input, keep, options.align(), uri, tables, meter)
 }
 
+/// Reads a name that the code told, as [`read_known`] does. It stands apart, so that the loop over events stays small.
+///
+/// # Errors
+///
+/// Those of [`read_known`]. The place may then be any.
+#[inline(never)]
+fn known_name<T: Tables>(
+    input: &mut BitIn<'_>,
+    keep: bool,
+    align: Align,
+    name: NameId,
+    tables: &T,
+    meter: &mut Meter,
+) -> Result<NameAt, Fault>
+    requires name { IsName (T.held tables.now) name }
+    requires aligned { IsAligned align input.old }
+    ensures read { Goes (λ n. (name_in (T.held tables.now) n, read_state input.new meter.new (T.held tables.now))) meter.new result (known_at keep align name (read_state input.old meter.old (T.held tables.now))) }
+    ensures places { IfOk result (λ n. IsNameAt (T.held tables.now) n) }
+    ensures id { IfOk result (λ n. n.id ≡ name) }
+    ensures bytes { input.new.bytes ≡ input.old.bytes }
+    ensures aligned { IsAligned align input.new }
+{
+    read_known(input, keep, align, name, tables, meter)
+}
+
 /// Reads a name that has bits of its own, whole or behind its URI, or that the code told.
 ///
 /// # Errors
@@ -411,7 +436,7 @@ pub fn told_name<T: Tables>(
     match telling {
         Telling::Spelled => read_name(alloc, input, keep, align, tables, meter),
         Telling::Under(uri) => name_under(alloc, book, input, uri, tables, meter),
-        Telling::Known(id) => Ok(read_known(input, keep, align, id, tables, meter)?),
+        Telling::Known(id) => Ok(known_name(input, keep, align, id, tables, meter)?),
     }
 }
 

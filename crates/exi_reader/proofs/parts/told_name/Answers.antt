@@ -4,8 +4,8 @@ use Rattle.exi_reader.specs.Rules.{spelled, under}
 use Rattle.exi_reader.proofs.ToldNames.{few_behind}
 use Rattle.exi_reader.proofs.parts.told_name.Goals as goal
 
-pub read_known-requires-clause-name : goal.read_known-requires-clause-name
-read_known-requires-clause-name g c = c.requires.known.known c.in-Known.id c.in-Known.is
+pub known_name-requires-clause-name : goal.known_name-requires-clause-name
+known_name-requires-clause-name g c = c.requires.known.known c.in-Known.id c.in-Known.is
 
 pub returns-in-Spelled-clause-few : goal.returns-in-Spelled-clause-few
 returns-in-Spelled-clause-few g c =
