@@ -82,7 +82,7 @@ impl<'a, T: Tables + Drop> Stepper<'a, T> {
     /// The production whose code comes next, outside of all elements.
     #[cold]
     #[inline(never)]
-    fn outer_rule_apart(&mut self) -> Result<Rule<'a>, Fault>
+    fn outer_rule(&mut self) -> Result<Rule<'a>, Fault>
         requires there { IsThere self.old.setting self.old.config.outer }
         ensures picks { Picks result self.old self.new (outer_rules self.old.setting self.old.config.learned self.old.config.outer) }
     {
@@ -95,18 +95,6 @@ impl<'a, T: Tables + Drop> Stepper<'a, T> {
                 kind: Kind::NoCode,
                 bit: self.input.at(),
             }),
-        }
-    }
-
-    /// The same, copied out of the memory that the call answers in: the way inside elements needs none.
-    #[inline(always)]
-    fn outer_rule(&mut self) -> Result<Rule<'a>, Fault>
-        requires there { IsThere self.old.setting self.old.config.outer }
-        ensures picks { Picks result self.old self.new (outer_rules self.old.setting self.old.config.learned self.old.config.outer) }
-    {
-        match self.outer_rule_apart() {
-            Ok(rule) => Ok(rule.copied()),
-            Err(fault) => Err(fault),
         }
     }
 

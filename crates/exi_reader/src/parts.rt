@@ -585,58 +585,6 @@ pub fn nil_read<T: Tables>(
     typed_value(alloc, book, input, &boolean, name, tables, meter)
 }
 
-/// Hands on the start of an element. The event's room is made here, as in the calls below: what comes before makes none.
-#[inline(always)]
-pub fn see_start<E: EventOut>(name: NameRef<'_>, out: &mut E) -> Result<(), PushStop>
-    ensures ok { OnOk result (E.took out.old (event.se (named name.entry) ∷ []) out.new) }
-    ensures broke { IsErrOf result PushStop.Stopped → E.broke out.old (event.se (named name.entry)) out.new }
-    ensures memory { IsErrOf result PushStop.Memory → E.took out.old [] out.new }
-    ensures same { E.same out.old out.new }
-    ensures later { E.stops out.old ≤ E.stops out.new }
-    ensures stopped { IsErrOf result PushStop.Stopped → Rose (E.stops out.old) (E.stops out.new) }
-{
-    out.see(&EventRef::Se(name))
-}
-
-/// Hands on the end of an element.
-#[inline(always)]
-pub fn see_end<E: EventOut>(out: &mut E) -> Result<(), PushStop>
-    ensures ok { OnOk result (E.took out.old (event.ee ∷ []) out.new) }
-    ensures broke { IsErrOf result PushStop.Stopped → E.broke out.old event.ee out.new }
-    ensures memory { IsErrOf result PushStop.Memory → E.took out.old [] out.new }
-    ensures same { E.same out.old out.new }
-    ensures later { E.stops out.old ≤ E.stops out.new }
-    ensures stopped { IsErrOf result PushStop.Stopped → Rose (E.stops out.old) (E.stops out.new) }
-{
-    out.see(&EventRef::Ee)
-}
-
-/// Hands on characters that are a string.
-#[inline(always)]
-pub fn see_text<E: EventOut>(text: &Txt, out: &mut E) -> Result<(), PushStop>
-    ensures ok { OnOk result (E.took out.old (event.ch (value.text text.now) ∷ []) out.new) }
-    ensures broke { IsErrOf result PushStop.Stopped → E.broke out.old (event.ch (value.text text.now)) out.new }
-    ensures memory { IsErrOf result PushStop.Memory → E.took out.old [] out.new }
-    ensures same { E.same out.old out.new }
-    ensures later { E.stops out.old ≤ E.stops out.new }
-    ensures stopped { IsErrOf result PushStop.Stopped → Rose (E.stops out.old) (E.stops out.new) }
-{
-    out.see(&EventRef::Ch(ValRef::Text(text)))
-}
-
-/// Hands on an attribute that is a string.
-#[inline(always)]
-pub fn see_string<E: EventOut>(name: NameRef<'_>, text: &Txt, out: &mut E) -> Result<(), PushStop>
-    ensures ok { OnOk result (E.took out.old (event.at (named name.entry) (value.text text.now) ∷ []) out.new) }
-    ensures broke { IsErrOf result PushStop.Stopped → E.broke out.old (event.at (named name.entry) (value.text text.now)) out.new }
-    ensures memory { IsErrOf result PushStop.Memory → E.took out.old [] out.new }
-    ensures same { E.same out.old out.new }
-    ensures later { E.stops out.old ≤ E.stops out.new }
-    ensures stopped { IsErrOf result PushStop.Stopped → Rose (E.stops out.old) (E.stops out.new) }
-{
-    out.see(&EventRef::At(name, ValRef::Text(text)))
-}
-
 /// Hands on an attribute.
 pub fn see_value<E: EventOut>(name: NameRef<'_>, value: &Val, out: &mut E) -> Result<(), PushStop>
     ensures ok { OnOk result (E.took out.old (event.at (named name.entry) (seen value.now) ∷ []) out.new) }

@@ -1,16 +1,15 @@
-ghost use Rattle.std.specs.Prelude.{◌≡◌, ◌≤◌, None, IsErrOf};
+ghost use Rattle.std.specs.Prelude.{◌≡◌, ◌≤◌, IsErrOf};
 ghost use Rattle.exi_names.specs.Events.{Rose};
-ghost use Rattle.exi_reader.specs.Handing.{HandsAny, HasLevels, HasNames, HasRoom, IsSteady, OnFault, alone_of, making, rule_in, terminal_in};
-ghost use Rattle.exi_reader.specs.OneEvent.{followed, moved_limit, one};
+ghost use Rattle.exi_reader.specs.Handing.{HandsAny, HasLevels, HasNames, HasRoom, IsSteady, OnFault, alone_of, making, rule_in};
+ghost use Rattle.exi_reader.specs.OneEvent.{moved_limit, one};
 ghost use Rattle.exi_reader.specs.Plans.{plan_on};
 ghost use Rattle.exi_reader.specs.Stacks.{HaveForm};
-ghost use Rattle.exi_reader.specs.declared.halt.Halt.TheVariants as halt;
 
 use crate::alone::Alone;
 use crate::charges::Charges;
 use crate::halt::Halt;
 use crate::parts::alone_in;
-use crate::rule::{Content, Rule, Valuing};
+use crate::rule::{Content, Rule};
 use crate::stepper::Stepper;
 use exi_bits::{Fault, Kind};
 use exi_names::EventOut;
@@ -29,14 +28,6 @@ fn at_event(bit: u64, fault: Fault) -> Fault
         },
         _ => fault,
     }
-}
-
-/// The same, as what ends a turn: only a fault makes room for it.
-#[inline(always)]
-fn halt_at_event(bit: u64, fault: Fault) -> Halt
-    ensures { result ≡ halt.Fault (moved_limit bit fault) }
-{
-    Halt::Fault(at_event(bit, fault))
 }
 
 impl<'a, T: Tables + Drop> Stepper<'a, T> {
@@ -84,188 +75,6 @@ impl<'a, T: Tables + Drop> Stepper<'a, T> {
         }
     }
 
-    /// What stands behind an event's code, with what is asked and charged before. Answers the byte of a fragment that
-    /// begins.
-    #[inline(always)]
-    fn follow<E: EventOut>(
-        &mut self,
-        bit: u64,
-        alone: Alone,
-        rule: Rule<'_>,
-        out: &mut E,
-    ) -> Result<Option<u64>, Halt>
-        requires room { HasRoom self.old.config }
-        requires levels { HasLevels self.old.config }
-        requires names { HasNames self.old.config (rule_in rule).on }
-        requires forms { HaveForm self.old.config.elements }
-        ensures hands { HandsAny E.took E.broke result self.new
-            (followed self.old.bytes bit (plan_on self.old.setting (alone_of alone) self.old.config (rule_in rule.entry) (rule_in rule.entry).on) self.old.config) out.old out.new }
-        ensures setting { self.new.setting ≡ self.old.setting }
-        ensures bytes { self.new.bytes ≡ self.old.bytes }
-        ensures root { OnFault result (self.new.config.root ≡ self.old.config.root) }
-        ensures same { E.same out.old out.new }
-        ensures later { E.stops out.old ≤ E.stops out.new }
-        ensures stopped { IsErrOf result Halt.Stopped → Rose (E.stops out.old) (E.stops out.new) }
-    {
-        let charges = Charges::of(rule.on, alone, self.after_start);
-        if let Err(fault) = charges.pay(&mut self.meter, bit) {
-            return Err(Halt::Fault(fault));
-        }
-        match self.content(bit, alone, rule, out) {
-            Ok(fragment) => Ok(fragment),
-            Err(Halt::Fault(fault)) => Err(halt_at_event(bit, fault)),
-            Err(Halt::Memory) => Err(Halt::Memory),
-            Err(Halt::Stopped) => Err(Halt::Stopped),
-        }
-    }
-
-    /// [`follow`](Stepper::follow), apart from the ways of frequent events.
-    #[cold]
-    #[inline(never)]
-    fn follow_apart<E: EventOut>(
-        &mut self,
-        bit: u64,
-        alone: Alone,
-        rule: Rule<'_>,
-        out: &mut E,
-    ) -> Result<Option<u64>, Halt>
-        requires room { HasRoom self.old.config }
-        requires levels { HasLevels self.old.config }
-        requires names { HasNames self.old.config (rule_in rule).on }
-        requires forms { HaveForm self.old.config.elements }
-        ensures hands { HandsAny E.took E.broke result self.new
-            (followed self.old.bytes bit (plan_on self.old.setting (alone_of alone) self.old.config (rule_in rule.entry) (rule_in rule.entry).on) self.old.config) out.old out.new }
-        ensures setting { self.new.setting ≡ self.old.setting }
-        ensures bytes { self.new.bytes ≡ self.old.bytes }
-        ensures root { OnFault result (self.new.config.root ≡ self.old.config.root) }
-        ensures same { E.same out.old out.new }
-        ensures later { E.stops out.old ≤ E.stops out.new }
-        ensures stopped { IsErrOf result Halt.Stopped → Rose (E.stops out.old) (E.stops out.new) }
-    {
-        self.follow(bit, alone, rule, out)
-    }
-
-    /// [`follow`](Stepper::follow), for an event of a kind that is seldom. The rule is copied, so that those of other
-    /// kinds need no memory.
-    #[inline(always)]
-    fn follow_seldom<E: EventOut>(
-        &mut self,
-        bit: u64,
-        alone: Alone,
-        rule: Rule<'_>,
-        out: &mut E,
-    ) -> Result<Option<u64>, Halt>
-        requires room { HasRoom self.old.config }
-        requires levels { HasLevels self.old.config }
-        requires names { HasNames self.old.config (rule_in rule).on }
-        requires forms { HaveForm self.old.config.elements }
-        ensures hands { HandsAny E.took E.broke result self.new
-            (followed self.old.bytes bit (plan_on self.old.setting (alone_of alone) self.old.config (rule_in rule.entry) (rule_in rule.entry).on) self.old.config) out.old out.new }
-        ensures setting { self.new.setting ≡ self.old.setting }
-        ensures bytes { self.new.bytes ≡ self.old.bytes }
-        ensures root { OnFault result (self.new.config.root ≡ self.old.config.root) }
-        ensures same { E.same out.old out.new }
-        ensures later { E.stops out.old ≤ E.stops out.new }
-        ensures stopped { IsErrOf result Halt.Stopped → Rose (E.stops out.old) (E.stops out.new) }
-    {
-        match self.follow_apart(bit, alone, rule.copied(), out) {
-            Ok(fragment) => Ok(fragment),
-            Err(halt) => Err(halt),
-        }
-    }
-
-    /// [`follow`](Stepper::follow), for an event of a kind that is seldom and neither opens a grammar nor has a datatype.
-    #[inline(always)]
-    fn follow_plain<E: EventOut>(
-        &mut self,
-        bit: u64,
-        alone: Alone,
-        on: Content,
-        to: u32,
-        out: &mut E,
-    ) -> Result<Option<u64>, Halt>
-        requires room { HasRoom self.old.config }
-        requires levels { HasLevels self.old.config }
-        requires names { HasNames self.old.config (terminal_in on None) }
-        requires forms { HaveForm self.old.config.elements }
-        ensures hands { HandsAny E.took E.broke result self.new
-            (followed self.old.bytes bit (plan_on self.old.setting (alone_of alone) self.old.config (record { on = terminal_in on None; to = to; inner = None }) (terminal_in on None)) self.old.config) out.old out.new }
-        ensures setting { self.new.setting ≡ self.old.setting }
-        ensures bytes { self.new.bytes ≡ self.old.bytes }
-        ensures root { OnFault result (self.new.config.root ≡ self.old.config.root) }
-        ensures same { E.same out.old out.new }
-        ensures later { E.stops out.old ≤ E.stops out.new }
-        ensures stopped { IsErrOf result Halt.Stopped → Rose (E.stops out.old) (E.stops out.new) }
-    {
-        let rule = Rule {
-            on,
-            to,
-            inner: None,
-            datatype: None,
-        };
-        self.follow_seldom(bit, alone, rule, out)
-    }
-
-    /// [`follow`](Stepper::follow), on a way of its own for each kind of event that is frequent: what hangs on the kind
-    /// is then known there.
-    #[inline(always)]
-    fn follow_by_kind<E: EventOut>(
-        &mut self,
-        bit: u64,
-        alone: Alone,
-        rule: Rule<'_>,
-        out: &mut E,
-    ) -> Result<Option<u64>, Halt>
-        requires room { HasRoom self.old.config }
-        requires levels { HasLevels self.old.config }
-        requires names { HasNames self.old.config (rule_in rule).on }
-        requires forms { HaveForm self.old.config.elements }
-        ensures hands { HandsAny E.took E.broke result self.new
-            (followed self.old.bytes bit (plan_on self.old.setting (alone_of alone) self.old.config (rule_in rule.entry) (rule_in rule.entry).on) self.old.config) out.old out.new }
-        ensures setting { self.new.setting ≡ self.old.setting }
-        ensures bytes { self.new.bytes ≡ self.old.bytes }
-        ensures root { OnFault result (self.new.config.root ≡ self.old.config.root) }
-        ensures same { E.same out.old out.new }
-        ensures later { E.stops out.old ≤ E.stops out.new }
-        ensures stopped { IsErrOf result Halt.Stopped → Rose (E.stops out.old) (E.stops out.new) }
-    {
-        match alone {
-            Alone::Nowhere => {}
-            Alone::AtStart | Alone::AtFirst | Alone::AtEnd => {
-                return self.follow_seldom(bit, alone, rule, out);
-            }
-        }
-        match rule.on {
-            Content::Element(_) => self.follow(bit, alone, rule, out),
-            Content::Attribute(_, Valuing::Untyped) => self.follow(bit, alone, rule, out),
-            Content::Attribute(_, Valuing::Typed | Valuing::ByName) => {
-                self.follow(bit, alone, rule, out)
-            }
-            Content::Characters => self.follow(bit, alone, rule, out),
-            Content::EndElement => self.follow(bit, alone, rule, out),
-            Content::StartDocument => {
-                self.follow_plain(bit, alone, Content::StartDocument, rule.to, out)
-            }
-            Content::EndDocument => {
-                self.follow_plain(bit, alone, Content::EndDocument, rule.to, out)
-            }
-            Content::Declaration => {
-                self.follow_plain(bit, alone, Content::Declaration, rule.to, out)
-            }
-            Content::SelfContained => {
-                self.follow_plain(bit, alone, Content::SelfContained, rule.to, out)
-            }
-            Content::Comment => { self.follow_plain(bit, alone, Content::Comment, rule.to, out) }
-            Content::Instruction => {
-                self.follow_plain(bit, alone, Content::Instruction, rule.to, out)
-            }
-            Content::DocumentType => {
-                self.follow_plain(bit, alone, Content::DocumentType, rule.to, out)
-            }
-            Content::Entity => { self.follow_plain(bit, alone, Content::Entity, rule.to, out) }
-        }
-    }
-
     /// One event.
     #[inline(always)]
     pub fn step<E: EventOut>(&mut self, out: &mut E) -> Result<Option<u64>, Halt>
@@ -279,11 +88,20 @@ impl<'a, T: Tables + Drop> Stepper<'a, T> {
         ensures stopped { IsErrOf result Halt.Stopped → Rose (E.stops out.old) (E.stops out.new) }
     {
         let bit = self.input.at();
-        let alone = alone_in(&self.elements, self.outer);
         let rule = match self.rule() {
             Ok(rule) => rule,
             Err(fault) => return Err(Halt::Fault(fault)),
         };
-        self.follow_by_kind(bit, alone, rule, out)
+        let alone = alone_in(&self.elements, self.outer);
+        let charges = Charges::of(rule.on, alone, self.after_start);
+        if let Err(fault) = charges.pay(&mut self.meter, bit) {
+            return Err(Halt::Fault(fault));
+        }
+        match self.content(bit, alone, rule, out) {
+            Ok(fragment) => Ok(fragment),
+            Err(Halt::Fault(fault)) => Err(Halt::Fault(at_event(bit, fault))),
+            Err(Halt::Memory) => Err(Halt::Memory),
+            Err(Halt::Stopped) => Err(Halt::Stopped),
+        }
     }
 }
