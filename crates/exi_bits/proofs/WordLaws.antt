@@ -2,7 +2,7 @@
 use Rattle.std.proofs.Common.{◌≡◌, ℕ, zero, suc, ◌+◌, ◌*◌, ◌-◌, ◌/◌, ◌%◌, ◌^◌, ◌<◌, ◌≤◌, Bool, List, [], ◌∷◌, ◌++◌, length, get_or, take, drop, refl, sym, ap, ◌∙◌, subst, append_assoc, inl, inr, add-zero, arith, bit_and}
 use Rattle.std.proofs.lemmas.List.{length-append, length-take, length-drop, take-append-drop, take_at, drop_at, take-take, drop-take, drop-drop, drop_more, get_or-drop, get_or-take}
 use Rattle.std.proofs.lemmas.Nat.{pow-add, shr_high, mod_low, and_mask, be_bytes_8}
-use Rattle.std.specs.Int.{w64, from_be_bytes, to_be_bytes}
+use Rattle.std.specs.Int.{w64, from_be_bytes, from_le_bytes, to_be_bytes}
 use Rattle.exi_bits.specs.Bits.{bits, number_bits, value_of, le_value, octets_of}
 use Rattle.exi_bits.proofs.BitLaws.{length-bits, length-number_bits, bits-append, bits-take, bits-drop, gathered_more, middle_of, number_bits-value_of, value_of-append, value_of_below, value_of-number_bits, one_byte, le_value_below, part_fits}
 
@@ -52,6 +52,12 @@ module _ (bs : List ℕ) (i : ℕ) where
       + get_or bs (i + 4) 0 * 4294967296 + get_or bs (i + 5) 0 * 1099511627776 + get_or bs (i + 6) 0 * 281474976710656 + get_or bs (i + 7) 0 * 72057594037927936 ≡ le_value (take 8 (drop i bs))
   unfolding le_value
   back_word_is le = rw (from_first bs i le, here) (omega arith)
+
+  pub word_of_octets : i + 8 ≤ length bs → ((k : ℕ) → get_or bs k 0 < 256) → from_be_bytes w64 (take 8 (drop i bs)) ≡ value_of (bits (take 8 (drop i bs)))
+  word_of_octets le fits = sym (ap (from_be_bytes w64) (sym (from_first bs i le))) ∙ omega (arith, word_is le fits, here)
+
+  pub back_word_of_octets : i + 8 ≤ length bs → from_le_bytes w64 (take 8 (drop i bs)) ≡ le_value (take 8 (drop i bs))
+  back_word_of_octets le = sym (ap (from_le_bytes w64) (sym (from_first bs i le))) ∙ omega (arith, back_word_is le, here)
 
 -- ---- a word at a bit
 shifted : (o w b : ℕ) → o < 8 → w < 2 ^ 64 → b < 256 → (w * 256 + b) / 2 ^ (8 - o) % 2 ^ 64 ≡ w * 2 ^ o % 2 ^ 64 + b / 2 ^ (8 - o)
