@@ -103,6 +103,14 @@ behind_first first s = groups_at 18 s >>= λ more. narrow (first - 128 + 128 * m
 unfoldable pub unsigned_at : Spot → Result (ℕ × Spot) Fault
 unsigned_at s = at_spot s (narrow_groups_at s)
 
+-- an Unsigned Integer of one octet and what is after it; nothing where the bits end before or the octet goes on
+unfoldable pub one_octet_at : Spot → Option (ℕ × Spot)
+one_octet_at s = short (number_at 8 align.Bits s)
+  where
+    short : Option (ℕ × Spot) → Option (ℕ × Spot)
+    short None = None
+    short (Some octet) = if nat_lt octet.0 128 then Some octet else None
+
 -- What was answered and where reading goes on is what reading gives. Nothing moves at a fault.
 abbrev pub Reads : {X Y : Type 0} → (X → Y) → Result X Fault → Spot → Spot → Result (Y × Spot) Fault → Type 0
 Reads view (Ok x) old new read = read ≡ Ok (view x, new)

@@ -1,7 +1,7 @@
-ghost use Rattle.std.specs.Prelude.{◌≡◌, ◌+◌, ◌*◌, ◌-◌, ◌%◌, ◌^◌, ◌<◌, ◌≤◌, length, IfSome, IfOk, OnErr, MatchOption};
+ghost use Rattle.std.specs.Prelude.{◌≡◌, ◌+◌, ◌*◌, ◌-◌, ◌%◌, ◌^◌, ◌<◌, ◌≤◌, length, Ok, IfSome, IfOk, OnErr, MatchOption};
 ghost use Rattle.exi_bits.specs.Bits.{Spot, left, moved, at_bit, at_next_byte, taken, IsAligned, Takes, number_at};
 ghost use Rattle.exi_bits.specs.Repeat.{octets_at};
-ghost use Rattle.exi_bits.specs.Unsigned.{behind_first, unsigned_at, field_at, below_at, Reads, ReadsSome, Stops};
+ghost use Rattle.exi_bits.specs.Unsigned.{behind_first, one_octet_at, unsigned_at, field_at, below_at, Reads, ReadsSome, Stops};
 ghost use Rattle.exi_bits.specs.declared.align.Align.TheVariants as align;
 
 use crate::align::Align;
@@ -132,6 +132,30 @@ impl<'a> BitIn<'a> {
         let value = narrow_at(self.bytes, self.place, 8);
         self.place += 8;
         Some(value)
+    }
+
+    /// Takes an Unsigned Integer of one octet (EXI 1.0, section 7.1.6) at any bit: the most frequent spelling of a
+    /// number below 128.
+    ///
+    /// `None` exactly where fewer than eight bits remain or the octet has the top bit.
+    #[tactic(auto, unfolding(crate::specs::Unsigned::one_octet_at))]
+    #[inline(always)]
+    pub fn one_octet(&mut self) -> Option<u64>
+        ensures read { Takes result self.old self.new (one_octet_at self.old) }
+        ensures unsigned { IfSome result (λ v. unsigned_at self.old ≡ Ok (v, self.new)) }
+        ensures below { IfSome result (λ v. v < 128) }
+        ensures bytes { self.new.bytes ≡ self.old.bytes }
+        ensures phase { self.new.place % 8 ≡ self.old.place % 8 }
+    {
+        let bit = self.at();
+        let Some(first) = self.octet() else {
+            return None;
+        };
+        if first < 128 {
+            return Some(first);
+        }
+        self.go_to_bit(bit);
+        None
     }
 
     /// Takes the octets of an Unsigned Integer behind a first one that goes on. The place is anything
