@@ -63,7 +63,7 @@ impl<'a> BitIn<'a> {
     /// its width. A number of no bits is 0. Under `Bytes` the place has to be a whole byte.
     ///
     /// `None` exactly where fewer bits remain.
-    #[inline]
+    #[inline(always)]
     #[tactic(auto, unfolding(crate::specs::Bits::number_at))]
     pub fn take(&mut self, width: u32, align: Align) -> Option<u64>
         requires narrow { width ≤ 64 }
@@ -120,7 +120,7 @@ impl<'a> BitIn<'a> {
 
     /// Takes eight bits, which lie in one byte or in two.
     #[tactic(auto, unfolding(crate::specs::Bits::number_at))]
-    #[inline]
+    #[inline(always)]
     fn octet(&mut self) -> Option<u64>
         ensures read { Takes result self.old self.new (number_at 8 align.Bits self.old) }
         ensures below { IfSome result (λ v. v < 256) }
