@@ -1,5 +1,6 @@
 -- Characters that are one octet each: read one by one, and a word at a time.
 use Rattle.std.proofs.Common.{◌≡◌, ℕ, zero, suc, ◌+◌, ◌*◌, ◌-◌, ◌^◌, ◌<◌, ◌≤◌, inl, inr, Bool, true, false, not, cond, ltb, ◌||◌, List, [], ◌∷◌, ◌++◌, length, get_or, take, drop, Option, Some, None, Result, Ok, Err, add-zero, refl, sym, ap, ◌∙◌, append_assoc, subst, arith}
+use Rattle.std.specs.Bool.{OnTrue}
 use Rattle.std.specs.Int.{w64, to_be_bytes}
 use Rattle.std.specs.List.{position, position_or_len}
 use Rattle.std.specs.Str.{IsAscii, chars}
@@ -15,7 +16,7 @@ use Rattle.exi_bits.specs.Repeat.{Reader, times, with_front}
 use Rattle.exi_bits.specs.Unsigned.{◌>>=◌, groups, groups_at, shortest, narrow_groups_at, unsigned_at}
 use Rattle.exi_bits.proofs.BitLaws.{one_byte}
 use Rattle.exi_bits.proofs.OctetLaws.{octets_add, word_octets}
-use Rattle.exi_bits.proofs.Repeats.{times_done}
+use Rattle.exi_bits.proofs.Repeats.{times_done, times_goes_on}
 use Rattle.exi_bits.proofs.Spelled.{guard_some, length-rest}
 use Rattle.exi_items.proofs.Items.{bind_ok, given, ok_is}
 use Rattle.exi_names.specs.Characters.{between, is_xml_char}
@@ -139,19 +140,26 @@ unfolding some_place
 none_is true n e = absurd cc
 none_is false n e = refl
 
-plain_before : (os : List ℕ) (i : ℕ) → i < position_or_len (λ octet. not (is_plain octet)) os → is_plain (get_or os i 0) ≡ true
-plain_before os i lt = not_false (is_plain (get_or os i 0)) (fails_before_first (λ octet. not (is_plain octet)) os i 0 lt)
+-- an octet from 20 to 7F is plain
+abbrev sure : ℕ → Bool
+sure c = between 0x20 0x7F c
 
-pub found_plain : (os : List ℕ) (n : ℕ) → Some n ≡ position (λ octet. not (is_plain octet)) os → (n ≤ length os) × ((i : ℕ) → i < n → is_plain (get_or os i 0) ≡ true)
+sure_plain : (c : ℕ) → sure c ≡ true → is_plain c ≡ true
+sure_plain c h = rw h (or_right (between 0x9 0xA c || between 0xD 0xD c))
+
+plain_before : (os : List ℕ) (i : ℕ) → i < position_or_len (λ octet. not (sure octet)) os → is_plain (get_or os i 0) ≡ true
+plain_before os i lt = sure_plain (get_or os i 0) (not_false (sure (get_or os i 0)) (fails_before_first (λ octet. not (sure octet)) os i 0 lt))
+
+pub found_plain : (os : List ℕ) (n : ℕ) → Some n ≡ position (λ octet. not (between 0x20 0x7F octet)) os → (n ≤ length os) × ((i : ℕ) → i < n → is_plain (get_or os i 0) ≡ true)
 unfolding some_place
 found_plain os n e =
-    let k : n ≡ position_or_len (λ octet. not (is_plain octet)) os = found_is _ _ n e in
-    (omega (arith, k, prefix_len-le-length (λ x. not (not (is_plain x))) os), λ i lt. plain_before os i (omega (arith, k, lt)))
+    let k : n ≡ position_or_len (λ octet. not (sure octet)) os = found_is _ _ n e in
+    (omega (arith, k, prefix_len-le-length (λ x. not (not (sure x))) os), λ i lt. plain_before os i (omega (arith, k, lt)))
 
-pub none_plain : (os : List ℕ) → None ≡ position (λ octet. not (is_plain octet)) os → (i : ℕ) → i < length os → is_plain (get_or os i 0) ≡ true
+pub none_plain : (os : List ℕ) → None ≡ position (λ octet. not (between 0x20 0x7F octet)) os → (i : ℕ) → i < length os → is_plain (get_or os i 0) ≡ true
 unfolding some_place
 none_plain os e i lt =
-    let k = ltb-false (position_or_len (λ octet. not (is_plain octet)) os) (length os) (none_is (ltb (position_or_len (λ octet. not (is_plain octet)) os) (length os)) (position_or_len (λ octet. not (is_plain octet)) os) e) in
+    let k = ltb-false (position_or_len (λ octet. not (sure octet)) os) (length os) (none_is (ltb (position_or_len (λ octet. not (sure octet)) os) (length os)) (position_or_len (λ octet. not (sure octet)) os) e) in
     plain_before os i (omega (arith, k, lt))
 
 pub none_added : (os : List ℕ) (s : Spot) → os ≡ os ++ octets_of 0 (rest s)
@@ -236,18 +244,36 @@ module _ {X : Type 0} (read : Reader X) (front : List X) (most left : ℕ) where
   pub left_again : (n : ℕ) (s : Spot) (total : Result (List X × Spot) Fault) → left ≤ most → n ≡ 0 → with_front front (times read (left - n) s) ≡ total → with_front front (times read (most - (most - left)) s) ≡ total
   left_again n s total le none so_far = let e : most - (most - left) ≡ left - n = omega arith in ap (λ (k : ℕ). with_front front (times read k s)) e ∙ so_far
 
+-- behind so many, whose number was widened
+pub widened_moves : {X : Type 0} (read : Reader X) (text : List X) (left n m : ℕ) (t : Spot) (before total : Result (List X × Spot) Fault) → m ≡ n
+    → with_front text (times read (left - n) t) ≡ before → before ≡ total → with_front text (times read (left - m) t) ≡ total
+widened_moves read text left n m t before total same moved so_far = ap (λ (k : ℕ). with_front text (times read (left - k) t)) same ∙ moved ∙ so_far
+
+-- one more character
+pub one_moves : {X : Type 0} (read : Reader X) (front : List X) (left n : ℕ) (s t : Spot) (x : X) (total : Result (List X × Spot) Fault) → n < left → read s ≡ Ok (x, t)
+    → with_front front (times read (left - n) s) ≡ total → with_front (front ++ x ∷ []) (times read (left - n - 1) t) ≡ total
+one_moves read front left n s t x total lt h so_far =
+    let e : left - (n + 1) ≡ left - n - 1 = omega arith in
+    ap (λ (k : ℕ). with_front (front ++ x ∷ []) (times read k t)) (sym e) ∙ times_goes_on read front left n s t x total lt h so_far
+
 -- before the first
 pub nothing_before : {X : Type 0} (r : Result (List X × Spot) Fault) → with_front [] r ≡ r
 nothing_before (Ok more) = refl
 nothing_before (Err f) = refl
 
-pub first_run : (text old : List ℕ) (room count n m : ℕ) (s t : Spot) → room ≡ count → m ≡ n → old ≡ [] → with_front text (times code_at (room - n) t) ≡ with_front old (times code_at room s) → with_front text (times code_at (count - m) t) ≡ times code_at count s
-first_run text old room count n m s t all same none run =
-    let e : count - m ≡ room - n = omega arith in
-    ap (λ (k : ℕ). with_front text (times code_at k t)) e ∙ run ∙ ap (λ (o : List ℕ). with_front o (times code_at room s)) none ∙ nothing_before (times code_at room s) ∙ ap (λ (k : ℕ). times code_at k s) all
-
 pub no_run : (old : List ℕ) (count : ℕ) (s : Spot) → old ≡ [] → with_front old (times code_at count s) ≡ times code_at count s
 no_run old count s none = ap (λ (o : List ℕ). with_front o (times code_at count s)) none ∙ nothing_before (times code_at count s)
+
+-- all of them, by a run alone and with others behind it
+pub all_run : (text old : List ℕ) (count n : ℕ) (s t : Spot) → n ≡ count → old ≡ [] → with_front text (times code_at (count - n) t) ≡ with_front old (times code_at count s) → times code_at count s ≡ Ok (text, t)
+all_run text old count n s t all none run = run_ends code_at text (count - n) t (times code_at count s) (omega (arith, all)) (run ∙ no_run old count s none)
+
+pub run_others : (text mid old : List ℕ) (count n : ℕ) (s t u : Spot) → old ≡ [] → with_front mid (times code_at (count - n) t) ≡ with_front old (times code_at count s) → with_front mid (times code_at (count - n) t) ≡ Ok (text, u) → times code_at count s ≡ Ok (text, u)
+run_others text mid old count n s t u none run others = sym (no_run old count s none) ∙ sym run ∙ others
+
+pub on_true : (b : Bool) (P Q : Type 0) → (P → Q) → OnTrue b P → OnTrue b Q
+on_true true P Q f p = f p
+on_true false P Q f p = p
 
 -- ---- what is written
 pub ascii_octet : (c : ℕ) → c < 128 → shortest c ≡ c ∷ []

@@ -20,9 +20,10 @@
 //! ```
 //!
 //! The characters of a text are decoded in one pass, straight into it, with room for as many as the bits
-//! that are left can hold. Those of ASCII, an octet each, are taken eight at once, as a word, and written
-//! by runs. A set's characters are decoded at most once a call, and not at all where they are ASCII alone:
-//! a place is one step to its character, and a character is found by binary search.
+//! that are left can hold, and for a few longer ones. Those of ASCII, an octet each, are taken eight at
+//! once, as a word, and written by runs. A set's characters are decoded at most once a call, and not at
+//! all where they are ASCII alone: a place is one step to its character, and a character is found by
+//! binary search.
 #![tactic(auto)]
 
 pub mod laws;

@@ -3,6 +3,7 @@ ghost use Rattle.std.specs.Int.{to_be_bytes, w64};
 ghost use Rattle.std.specs.Str.{IsAscii};
 ghost use Rattle.exi_bits.specs.Bits.{octets_of, rest};
 ghost use Rattle.exi_bits.specs.Repeat.{times};
+ghost use Rattle.exi_names.specs.Characters.{between};
 ghost use Rattle.exi_text.specs.Literals.{code_at, is_plain};
 
 use crate::word::{filled, is_plain_word};
@@ -10,18 +11,13 @@ use exi_bits::{Align, BitIn};
 use exi_names::Txt;
 use std::alloc::AllocError;
 
-/// Whether an octet is a whole code point, of an XML character: ASCII but most of its controls.
-fn is_plain_octet(octet: u8) -> bool
-    ensures { result ≡ is_plain octet }
-{
-    matches!(octet, 0x9..=0xA | 0xD | 0x20..=0x7F)
-}
-
-/// The place of the first octet that is not plain.
+/// The place of the first octet that is not surely plain.
 fn other_place(octets: &[u8]) -> Option<usize>
-    ensures { result ≡ position (λ octet. not (is_plain octet)) octets.now }
+    ensures { result ≡ position (λ octet. not (between 0x20 0x7F octet)) octets.now }
 {
-    octets.iter().position(|octet| !is_plain_octet(*octet))
+    octets
+        .iter()
+        .position(|octet| !matches!(*octet, 0x20..=0x7F))
 }
 
 /// Whether all octets are surely plain, looked at many at once: none of them ends the search.
@@ -35,38 +31,43 @@ pub fn all_plain(octets: &[u8]) -> bool
     all
 }
 
-/// How many plain octets there are in a word before any other, at most so many.
-fn plain_front(word: u64, octets: &[u8; 8], most: usize) -> usize
-    requires octets { octets.now ≡ to_be_bytes w64 word }
+/// How many surely plain octets there are in a word before any other, at most so many.
+#[inline(always)]
+fn plain_front(octets: &[u8; 8], most: usize) -> usize
     ensures few { result ≤ most }
     ensures within { result ≤ length octets.now }
     ensures plain { (i : ℕ) → i < result → is_plain (get_or octets.now i 0) ≡ true }
 {
-    if most == 8 && is_plain_word(word) {
-        return 8;
-    }
     match other_place(octets) {
         Some(place) => place.min(most),
         None => octets.len().min(most),
     }
 }
 
-/// Adds the first octets of a word, which are ASCII: all eight by one copy of known length.
+/// Adds the first octets of a word, which are ASCII and not all. Each number of them is a copy of known length.
+#[inline(always)]
 fn push_front(text: &mut Txt, octets: &[u8; 8], run: usize) -> Result<(), AllocError>
-    requires few { run ≤ 8 }
+    requires few { run < 8 }
     requires ascii { IsAscii (take run octets.now) }
     ensures ok { OnOk result (text.new ≡ text.old ++ take run octets.now) }
 {
-    if run == 8 {
-        return text.push_ascii(octets);
+    match run {
+        0 => Ok(()),
+        1 => text.push_ascii(&octets[..1]),
+        2 => text.push_ascii(&octets[..2]),
+        3 => text.push_ascii(&octets[..3]),
+        4 => text.push_ascii(&octets[..4]),
+        5 => text.push_ascii(&octets[..5]),
+        6 => text.push_ascii(&octets[..6]),
+        _ => text.push_ascii(&octets[..7]),
     }
-    text.push_ascii(&octets[..run])
 }
 
 /// Adds plain characters that stand at the place, and answers how many: at most eight, which a word holds,
-/// and at most so many. None where the word does not begin with one, or fewer bits than a word has are left.
-/// After an `Err` the place is anything.
-pub fn add_plain(input: &mut BitIn<'_>, text: &mut Txt, most: u128) -> Result<u64, AllocError>
+/// and at most so many. None where the word does not surely begin with one, or fewer bits than a word has are
+/// left. After an `Err` the place is anything.
+#[inline(always)]
+pub fn add_plain(input: &mut BitIn<'_>, text: &mut Txt, most: u64) -> Result<u64, AllocError>
     ensures few { IfOk result (λ n. n ≤ most) }
     ensures text { IfOk result (λ n. text.new ≡ text.old ++ octets_of n (rest input.old)) }
     ensures read { IfOk result (λ n. times code_at n input.old ≡ Ok (octets_of n (rest input.old), input.new)) }
@@ -76,8 +77,13 @@ pub fn add_plain(input: &mut BitIn<'_>, text: &mut Txt, most: u128) -> Result<u6
     let Some(word) = input.take(64, Align::Bits) else {
         return Ok(0);
     };
+    let all = word.to_be_bytes();
+    if most >= 8 && is_plain_word(word) {
+        text.push_ascii(&all)?;
+        return Ok(8);
+    }
     let octets = word.to_be_bytes();
-    let run = plain_front(word, &octets, most.min(8) as usize);
+    let run = plain_front(&octets, most.min(7) as usize);
     let behind = input.at();
     input.go_to_bit(behind - (8 - run as u64) * 8);
     push_front(text, &octets, run)?;
@@ -130,6 +136,6 @@ pub fn add_few(input: &mut BitIn<'_>, text: &mut Txt, most: u32) -> Result<u64, 
     }
     let behind = input.at();
     input.go_to_bit(behind - (8 - u64::from(most)) * 8);
-    text.push_ascii(&octets[..most as usize])?;
+    push_front(text, &octets, most as usize)?;
     Ok(u64::from(most))
 }

@@ -1,8 +1,9 @@
-ghost use Rattle.std.specs.Prelude.{◌≡◌, ◌-◌, ◌%◌, ◌<◌, ◌≤◌, [], IfOk, IfErr, MatchOption, Ok, OnErr, option_copied};
+ghost use Rattle.std.specs.Prelude.{◌≡◌, ◌-◌, ◌%◌, ◌<◌, ◌≤◌, [], IfOk, IfErr, IfNone, IfSome, MatchOption, Ok, OnErr, option_copied};
+ghost use Rattle.std.specs.Bool.{OnTrue};
 ghost use Rattle.exi_bits.specs.Bits.{IsAligned};
 ghost use Rattle.exi_bits.specs.Unsigned.{Reads, ReadsSome, Stops, StopsAs};
 ghost use Rattle.exi_bits.specs.Repeat.{times, with_front};
-ghost use Rattle.exi_items.specs.Charges.{Charges, after_text, meter_after};
+ghost use Rattle.exi_items.specs.Charges.{Charges, after_text, meter_after, text_charge};
 ghost use Rattle.exi_text.specs.Literals.{code_at, in_set_at, chars_at};
 
 use crate::plain::{add_few, add_plain, add_word};
@@ -15,6 +16,7 @@ use std::alloc::{AllocError, Global};
 
 /// A character whose code point takes an octet, two or three, all in the word that stands at the place.
 /// None where it takes more, is no XML character, or fewer bits than a word has are left; nothing moves then.
+#[inline(always)]
 fn short_code(input: &mut BitIn<'_>) -> Option<char>
     ensures read { MatchOption result (input.new ≡ input.old) (λ c. code_at input.old ≡ Ok (c, input.new)) }
     ensures bytes { input.new.bytes ≡ input.old.bytes }
@@ -126,6 +128,34 @@ fn add_codes(input: &mut BitIn<'_>, text: &mut Txt, most: u128) -> Result<u128, 
     Ok(most)
 }
 
+/// Adds characters by their code points as long as each takes three octets at most and a word is left, and
+/// answers how many: at most so many. After an `Err` the place is anything.
+#[inline(always)]
+fn add_short(input: &mut BitIn<'_>, text: &mut Txt, most: u128) -> Result<u64, AllocError>
+    ensures few { IfOk result (λ n. n ≤ most) }
+    ensures read { IfOk result (λ n. with_front text.new (times code_at (most - n) input.new) ≡ with_front text.old (times code_at most input.old)) }
+    ensures bytes { input.new.bytes ≡ input.old.bytes }
+    ensures phase { input.new.place % 8 ≡ input.old.place % 8 }
+{
+    if most >= 0x1_0000_0000_0000_0000 {
+        return Ok(0);
+    }
+    let count = most as u64;
+    let mut left = count;
+    while left > 0 {
+        let run = add_plain(input, text, left)?;
+        left -= run;
+        if run < 8 && left > 0 {
+            let Some(c) = short_code(input) else {
+                return Ok(count - left);
+            };
+            text.push(c)?;
+            left -= 1;
+        }
+    }
+    Ok(count - left)
+}
+
 /// Adds characters by their code points, of which some may be more than an octet. After an `Err` the place is
 /// anything.
 #[cold]
@@ -137,13 +167,27 @@ fn add_others(input: &mut BitIn<'_>, text: &mut Txt, count: u128) -> Result<(), 
 {
     let mut left = count;
     while left > 0 {
-        let run = add_plain(input, text, left)?;
-        left -= u128::from(run);
-        if run < 8 && left > 0 {
+        left -= u128::from(add_short(input, text, left)?);
+        if left > 0 {
             left -= add_codes(input, text, left)?;
         }
     }
     Ok(())
+}
+
+/// Adds characters by their code points, as [`add_others`] does, and answers whether they were added. The
+/// place is anything where not.
+#[cold]
+#[inline(never)]
+fn others_added(input: &mut BitIn<'_>, text: &mut Txt, count: u64) -> bool
+    ensures read { OnTrue result (with_front text.old (times code_at count input.old) ≡ Ok (text.new, input.new)) }
+    ensures bytes { input.new.bytes ≡ input.old.bytes }
+    ensures phase { input.new.place % 8 ≡ input.old.place % 8 }
+{
+    match add_others(input, text, u128::from(count)) {
+        Ok(()) => true,
+        Err(_) => false,
+    }
 }
 
 /// Adds characters of an octet each from the place on, and answers how many: at most so many. After an `Err`
@@ -169,6 +213,52 @@ fn add_run(input: &mut BitIn<'_>, text: &mut Txt, most: u64) -> Result<u64, Allo
     Ok(most - left)
 }
 
+/// Adds so many characters by their code points to an empty text, and answers whether they were added. The
+/// place is anything where not.
+#[inline(always)]
+fn codes_added(input: &mut BitIn<'_>, text: &mut Txt, count: u64) -> bool
+    requires empty { text.old ≡ [] }
+    ensures read { OnTrue result (times code_at count input.old ≡ Ok (text.new, input.new)) }
+    ensures bytes { input.new.bytes ≡ input.old.bytes }
+    ensures phase { input.new.place % 8 ≡ input.old.place % 8 }
+{
+    // A few of them may take more than an octet.
+    let room = count.saturating_add(count / 16);
+    let Ok(()) = text.reserve(room as usize) else {
+        return false;
+    };
+    let Ok(run) = add_run(input, text, count) else {
+        return false;
+    };
+    if run == count {
+        return true;
+    }
+    others_added(input, text, count - run)
+}
+
+/// The characters by their code points, charged once they are read. None where that way meets a stop of any
+/// kind, or where they surely do not fit the bits that are left; nothing moves and nothing is charged then.
+#[tactic(auto, unfolding(exi_items::specs::Charges::text_charge))]
+#[inline(always)]
+fn plain_chars(alloc: Global, input: &mut BitIn<'_>, count: u128, meter: &mut Meter) -> Option<Txt>
+    ensures read { IfSome result (λ t. times code_at count input.old ≡ Ok (t, input.new)) }
+    ensures charge { IfSome result (λ _. text_charge count input.old.place meter.old ≡ Ok meter.new) }
+    ensures none { IfNone result ((input.new ≡ input.old) × (meter.new ≡ meter.old)) }
+    ensures bytes { input.new.bytes ≡ input.old.bytes }
+    ensures phase { input.new.place % 8 ≡ input.old.place % 8 }
+{
+    if count > u128::from(input.left() / 8) {
+        return None;
+    }
+    let start = input.at();
+    let mut text = Txt::new(alloc);
+    if codes_added(input, &mut text, count as u64) && meter.text(count) {
+        return Some(text);
+    }
+    input.go_to_bit(start);
+    None
+}
+
 /// Adds so many characters by their code points to an empty text. After an `Err` the place is anything.
 fn codes(input: &mut BitIn<'_>, text: &mut Txt, count: u128) -> Result<(), Stop>
     requires empty { text.old ≡ [] }
@@ -176,16 +266,8 @@ fn codes(input: &mut BitIn<'_>, text: &mut Txt, count: u128) -> Result<(), Stop>
     ensures bytes { input.new.bytes ≡ input.old.bytes }
     ensures phase { input.new.place % 8 ≡ input.old.place % 8 }
 {
-    let room = room_for(input, count, 8);
-    text.reserve(room)?;
-    let mut left = count;
-    if u128::from(room as u64) == count {
-        left -= u128::from(add_run(input, text, room as u64)?);
-    }
-    if left > 0 {
-        add_others(input, text, left)?;
-    }
-    Ok(())
+    text.reserve(room_for(input, count, 8))?;
+    add_others(input, text, count)
 }
 
 /// Adds so many characters by their places in the set to an empty text. After an `Err` the place is
@@ -240,20 +322,10 @@ fn charged_chars(
     characters(input, text, count, &set, align)
 }
 
-/// Reads the characters of a string whose length is `count`, with a set of characters or without
-/// (EXI 1.0, sections 7.1.10 and 7.1.10.1). Their number is charged to the meter before the first.
-/// Under [`Align::Bytes`] the place has to be a whole byte.
-///
-/// # Errors
-///
-/// The place is then as before. Where memory ran out the meter is too; after a fault the charge stays.
-///
-/// - `TextLimit` at the first character where the characters would pass the limit; nothing is charged.
-/// - `Short` and `TooWide` at the number or the code point that is so.
-/// - `BadChar` at the first bit of a code point that is no XML character, or of a number above that of
-///   the set's characters.
-/// - `Memory` where memory is refused.
-pub fn read_chars(
+/// Reads the characters as [`read_chars`] does, whatever the way.
+#[cold]
+#[inline(never)]
+fn chars_apart(
     alloc: Global,
     input: &mut BitIn<'_>,
     count: u128,
@@ -280,5 +352,45 @@ pub fn read_chars(
             }
             Err(stop)
         }
+    }
+}
+
+/// Reads the characters of a string whose length is `count`, with a set of characters or without
+/// (EXI 1.0, sections 7.1.10 and 7.1.10.1). Their number is charged to the meter before the first.
+/// Under [`Align::Bytes`] the place has to be a whole byte.
+///
+/// # Errors
+///
+/// The place is then as before. Where memory ran out the meter is too; after a fault the charge stays.
+///
+/// - `TextLimit` at the first character where the characters would pass the limit; nothing is charged.
+/// - `Short` and `TooWide` at the number or the code point that is so.
+/// - `BadChar` at the first bit of a code point that is no XML character, or of a number above that of
+///   the set's characters.
+/// - `Memory` where memory is refused.
+#[tactic(auto, unfolding(crate::specs::Literals::chars_at))]
+pub fn read_chars(
+    alloc: Global,
+    input: &mut BitIn<'_>,
+    count: u128,
+    set: Option<&Alphabet>,
+    align: Align,
+    meter: &mut Meter,
+) -> Result<Txt, Stop>
+    requires aligned { IsAligned align input.old }
+    ensures read { Charges (λ t. t) result input.new meter.new (chars_at (option_copied set.entry) align count (record { spot = input.old; meter = meter.old })) }
+    ensures place { OnErr result (input.new ≡ input.old) }
+    ensures meter { IfErr result (λ stop. meter.new ≡ meter_after stop meter.old (after_text meter.old count)) }
+    ensures bytes { input.new.bytes ≡ input.old.bytes }
+    ensures aligned { IsAligned align input.new }
+{
+    if let None = set {
+        if let Some(text) = plain_chars(alloc, input, count, meter) {
+            return Ok(text);
+        }
+    }
+    match chars_apart(alloc, input, count, set, align, meter) {
+        Ok(text) => Ok(text),
+        Err(stop) => Err(stop),
     }
 }

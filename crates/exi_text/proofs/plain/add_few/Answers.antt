@@ -18,15 +18,15 @@ returns-then-not-is_plain_word-clause-read c = returned_read c.args.input.now c.
 pub go_to_bit-requires-2 : goal.go_to_bit-requires-2
 go_to_bit-requires-2 c = omega (arith, c.at-behind.ensures.within)
 
-pub push_ascii-requires : goal.push_ascii-requires
-push_ascii-requires c =
+pub push_front-requires : goal.push_front-requires
+push_front-requires c =
     let w = word_begins c.args.most c.in-Some.word c.to_be_bytes-octets.result c.args.input.now c.take.new.self (omega (arith, c.requires.few)) c.in-Some.ensures.read c.to_be_bytes-octets.ensures (first_octets_plain c.filled.result c.in-Some.word c.args.most c.to_be_bytes-octets.result (omega (arith, c.filled.type_inv)) c.to_be_bytes-octets.ensures c.filled.ensures c.requires.few (sym c.is_plain_word.ensures ∙ c.if-not-is_plain_word.false)) in
-    record { ascii = w.ascii }
+    record { few = omega (arith, c.requires.few); ascii = w.ascii }
 
 pub returns-clause-text : goal.returns-clause-text
 returns-clause-text c =
     let w = word_begins c.args.most c.in-Some.word c.to_be_bytes-octets.result c.args.input.now c.take.new.self (omega (arith, c.requires.few)) c.in-Some.ensures.read c.to_be_bytes-octets.ensures (first_octets_plain c.filled.result c.in-Some.word c.args.most c.to_be_bytes-octets.result (omega (arith, c.filled.type_inv)) c.to_be_bytes-octets.ensures c.filled.ensures c.requires.few (sym c.is_plain_word.ensures ∙ c.if-not-is_plain_word.false)) in
-    rw c.from-2.ensures (c.in_ok-push_ascii.ensures.ok ∙ ap (λ (os : List ℕ). c.args.text.now ++ os) w.text)
+    rw c.from-2.ensures (c.in_ok-push_front.ensures.ok ∙ ap (λ (os : List ℕ). c.args.text.now ++ os) w.text)
 
 pub returns-clause-read : goal.returns-clause-read
 returns-clause-read c =

@@ -1,6 +1,5 @@
-use Rattle.std.proofs.Common.{◌∙◌, arith, sym}
+use Rattle.std.proofs.Common.{arith}
 use Rattle.exi_text.proofs.Runs.{found_plain, none_plain}
-use Rattle.exi_text.proofs.WordTests.{word_octets_plain}
 use Rattle.exi_text.proofs.plain.plain_front.Goals as goal
 
 pub returns-in-Some-clause-plain : goal.returns-in-Some-clause-plain
@@ -8,6 +7,3 @@ returns-in-Some-clause-plain c = λ i lt. (found_plain c.args.octets.now c.in-So
 
 pub returns-in-None-clause-plain : goal.returns-in-None-clause-plain
 returns-in-None-clause-plain c = λ i lt. none_plain c.args.octets.now c.in-None.ensures i (omega (arith, lt))
-
-pub returns-then-is_plain_word-clause-plain : goal.returns-then-is_plain_word-clause-plain
-returns-then-is_plain_word-clause-plain c = word_octets_plain c.args.word c.args.octets.now (omega (arith, c.ranges.word.fits)) c.requires.octets (sym c.is_plain_word.ensures ∙ c.if-is_plain_word.true)
