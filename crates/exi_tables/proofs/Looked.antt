@@ -1,6 +1,6 @@
 -- What is found by hash is what is found by walking.
 use Rattle.std.proofs.Common.{◌≡◌, ℕ, ◌≤◌, ◌&&◌, Bool, true, false, List, Option, Some, None, refl, sym, ap, ◌∙◌, true≢false}
-use Rattle.std.specs.Prelude.{position, slice_get, nat_eq}
+use Rattle.std.specs.Prelude.{option_and_then, position, slice_get, nat_eq}
 use Rattle.std.specs.Map.{lookup}
 use Rattle.std.specs.Str.{bytes_eq}
 use Rattle.std.proofs.lemmas.Bool.{eqb-true}
@@ -8,9 +8,9 @@ use Rattle.std.proofs.lemmas.Slice.Eq.{bytes_eq-Decides}
 use Rattle.exi_names.specs.NameMaps.{same_name}
 use Rattle.exi_names.specs.declared.names.NameId.{NameId}
 use Rattle.exi_tables.specs.declared.live.Live.{Live}
-use Rattle.exi_tables.specs.Kept.{IsListed, IsOwned, Row, has_text, kept_place, text_hash}
+use Rattle.exi_tables.specs.Kept.{IsListed, IsOwned, Row, givens, has_text, kept_place, kept_under, text_hash}
 use Rattle.exi_tables.specs.Spots.{SpotSet, in_spots, is_listed, is_spot}
-use Rattle.exi_tables.specs.Values.{least_under, stands_under, text_under}
+use Rattle.exi_tables.specs.Values.{least_under, name_place, stands_under, text_under}
 use Rattle.exi_tables.proofs.Found.{no_least, no_position, no_text, one_text, position_at}
 use Rattle.exi_tables.proofs.Given.{same_is}
 
@@ -77,6 +77,9 @@ module _ (live : List Live) (rows : List Row) (c : IsOwned live rows) where
 
   pub not_owned : (name : NameId) (place : ℕ) → None ≡ kept_place rows name place → None ≡ text_under name live place
   not_owned name place missing = no_text name place live (λ q l at ok. no_place q (missing ∙ owned_at name place q l at ok))
+
+  pub no_number : (name : NameId) (place : ℕ) → None ≡ name_place name (givens rows) → None ≡ text_under name live place
+  no_number name place missing = not_owned name place (ap (λ o. kept_under (option_and_then (slice_get rows) o) place) missing)
 
   module _ (name : NameId) (place global : ℕ) (found : Some global ≡ kept_place rows name place) where
     only : (q : ℕ) (l : Live) → slice_get live q ≡ Some l → stands_under name place l ≡ true → q ≡ global

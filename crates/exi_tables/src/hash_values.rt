@@ -69,6 +69,18 @@ impl ValueStore for HashValues {
         self.values.own_at(name, place)
     }
 
+    fn number(&self, name: NameId) -> Option<usize> {
+        self.values.number(name)
+    }
+
+    fn numbered_given(&self, name: NameId, number: usize) -> u32 {
+        self.values.numbered_given(name, number)
+    }
+
+    fn numbered_at(&self, name: NameId, number: usize, place: u32) -> Option<&Txt> {
+        self.values.numbered_at(name, number, place)
+    }
+
     fn own_of(&self, name: NameId, text: &Txt) -> Option<u32> {
         match self.index.get(&hash_of(text)) {
             Some(spots) => own_among(self.values.live(), spots, name, text),

@@ -75,6 +75,18 @@ impl ValueStore for ListValues {
         }
     }
 
+    fn number(&self, name: NameId) -> Option<usize> {
+        place_of(&self.given, name)
+    }
+
+    fn numbered_given(&self, name: NameId, _number: usize) -> u32 {
+        given_to(&self.given, name)
+    }
+
+    fn numbered_at(&self, name: NameId, _number: usize, place: u32) -> Option<&Txt> {
+        self.own_at(name, place)
+    }
+
     fn own_of(&self, name: NameId, text: &Txt) -> Option<u32> {
         least_under(&self.live, name, text)
     }

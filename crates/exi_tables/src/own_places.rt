@@ -1,8 +1,8 @@
-ghost use Rattle.std.specs.Prelude.{◌≡◌, ◌<◌, ◌+◌, ◌-◌, ◌^◌, ◌∷◌, [], ℕ, Some, length, IfOk, OnOk, OnErr};
+ghost use Rattle.std.specs.Prelude.{◌≡◌, ◌<◌, ◌+◌, ◌-◌, ◌^◌, ◌∷◌, [], ℕ, None, Some, length, IfOk, OnOk, OnErr};
 ghost use Rattle.std.specs.Option.{option_copied};
 ghost use Rattle.exi_names.specs.declared.names.NameId.{NameId as Name};
 ghost use Rattle.exi_tables.specs.Kept.{IsForgotten, givens, kept_in, kept_place, row_of, with_place, without_place};
-ghost use Rattle.exi_tables.specs.Values.{given_to, one_more};
+ghost use Rattle.exi_tables.specs.Values.{given_to, name_place, one_more};
 
 use exi_names::{NameId, NameMap};
 use std::alloc::{AllocError, Global};
@@ -137,14 +137,39 @@ impl OwnPlaces {
         }
     }
 
-    /// The place among all that is kept for a place under a name.
-    pub fn get(&self, name: NameId, local: u32) -> Option<u32>
+    /// The number of a name: its place among those under which places were given.
+    #[inline]
+    pub fn number(&self, name: NameId) -> Option<usize>
+        ensures { result ≡ name_place name (givens self.now) }
+    {
+        self.numbers.get(name).copied()
+    }
+
+    /// What was given under the name of a number.
+    #[inline]
+    fn numbered(&self, name: NameId, number: usize) -> &OwnRow
+        requires { name_place name (givens self.now) ≡ Some number }
+        ensures { Some result.now ≡ row_of name self.now }
+    {
+        &self.rows[number]
+    }
+
+    /// How many places were given under the name of a number.
+    #[inline]
+    pub fn given_at(&self, name: NameId, number: usize) -> u32
+        requires { name_place name (givens self.now) ≡ Some number }
+        ensures { result ≡ given_to name (givens self.now) }
+    {
+        self.numbered(name, number).count()
+    }
+
+    /// The place among all that is kept for a place under the name of a number.
+    #[inline]
+    pub fn get_at(&self, name: NameId, number: usize, local: u32) -> Option<u32>
+        requires { name_place name (givens self.now) ≡ Some number }
         ensures { result ≡ kept_place self.now name local }
     {
-        match self.row(name) {
-            Some(row) => row.get(local),
-            None => None,
-        }
+        self.numbered(name, number).get(local)
     }
 
     /// Gives a name's next place, to the value at a place among all.
@@ -152,6 +177,7 @@ impl OwnPlaces {
     /// # Errors
     ///
     /// `AllocError` where memory is refused; nothing is then given.
+    #[inline(always)]
     pub fn push(&mut self, alloc: Global, name: NameId, global: u32) -> Result<u32, AllocError>
         requires { given_to name (givens self.old) < 2 ^ 32 - 1 }
         ensures local { IfOk result (λ local. local ≡ given_to name (givens self.old)) }
@@ -167,6 +193,22 @@ impl OwnPlaces {
             self.rows[number].push(global)?;
             return Ok(local);
         }
+        self.push_first(alloc, name, global)
+    }
+
+    /// Gives the first place under a name, as [`OwnPlaces::push`] does.
+    #[cold]
+    #[inline(never)]
+    fn push_first(&mut self, alloc: Global, name: NameId, global: u32) -> Result<u32, AllocError>
+        requires { name_place name (givens self.old) ≡ None }
+        ensures local { IfOk result (λ local. local ≡ given_to name (givens self.old)) }
+        ensures given { OnOk result (givens self.new ≡ one_more name (givens self.old)) }
+        ensures there { OnOk result (
+            kept_place self.new name (given_to name (givens self.old)) ≡ Some global) }
+        ensures others { OnOk result ((n : Name) (local : ℕ) → local < given_to n (givens self.old) →
+            kept_place self.new n local ≡ kept_place self.old n local) }
+        ensures err { OnErr result (self.new ≡ self.old) }
+    {
         let row = OwnRow::one(alloc, name, global)?;
         self.rows.reserve(1)?;
         self.numbers.insert(alloc, name, self.rows.len())?;

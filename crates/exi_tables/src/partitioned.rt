@@ -173,6 +173,18 @@ impl<T: Texts + Drop, V: ValueStore + Drop> Tables for Partitioned<T, V> {
         self.values.own_at(name, place)
     }
 
+    fn own_number(&self, name: NameId) -> Option<usize> {
+        self.values.number(name)
+    }
+
+    fn numbered_values(&self, name: NameId, number: usize) -> u32 {
+        self.values.numbered_given(name, number)
+    }
+
+    fn numbered_value_at(&self, name: NameId, number: usize, place: u32) -> Option<&Txt> {
+        self.values.numbered_at(name, number, place)
+    }
+
     fn name_value_place(&self, name: NameId, text: &Txt) -> Option<u32> {
         self.values.own_of(name, text)
     }

@@ -71,6 +71,7 @@ impl PlaceValues {
     /// # Errors
     ///
     /// `AllocError` where memory is refused; the values are then unchanged.
+    #[inline(always)]
     pub fn push(&mut self, name: NameId, text: Txt) -> Result<(), AllocError>
         requires added { is_added self.old.bounds text ≡ true }
         requires room { length self.old.live < 2 ^ 32 - 1 }
@@ -121,7 +122,23 @@ impl ValueStore for PlaceValues {
     }
 
     fn own_at(&self, name: NameId, place: u32) -> Option<&Txt> {
-        let global = self.own.get(name, place)?;
+        let number = self.own.number(name)?;
+        self.numbered_at(name, number, place)
+    }
+
+    #[inline]
+    fn number(&self, name: NameId) -> Option<usize> {
+        self.own.number(name)
+    }
+
+    #[inline]
+    fn numbered_given(&self, name: NameId, number: usize) -> u32 {
+        self.own.given_at(name, number)
+    }
+
+    #[inline]
+    fn numbered_at(&self, name: NameId, number: usize, place: u32) -> Option<&Txt> {
+        let global = self.own.get_at(name, number, place)?;
         let value = value_at(&self.live, global)?;
         if !stands_under(value, name, place) {
             return None;
@@ -143,6 +160,7 @@ impl ValueStore for PlaceValues {
 }
 
 /// Keeps nothing for the place under its name of the value that stands at a place among all.
+#[inline]
 fn forget_at(own: &mut OwnPlaces, live: &[Live], place: u32)
     ensures given { givens own.new ≡ givens own.old }
     ensures others { (n : Name) (local : ℕ) →

@@ -18,6 +18,7 @@ ghost use Rattle.exi_tables.specs.Partitions.{
   with_prefix,
   with_value,
 };
+ghost use Rattle.exi_tables.specs.Values.{name_place};
 
 use exi_names::{NameId, StartNames, Txt};
 use std::alloc::{AllocError, Global};
@@ -161,6 +162,24 @@ pub trait Tables {
     /// The live value at a place of a name's own partition.
     fn name_value_at(&self, name: NameId, place: u32) -> Option<&Txt>
         requires name { IsName (held self.now) name }
+        ensures { option_copied result ≡ name_value_at (held self.now) name place };
+
+    /// The number of a name's own partition: its place among those to which a value was ever added. Through it the
+    /// partition is looked up once for its count and a value. `None` where no value was added under the name.
+    fn own_number(&self, name: NameId) -> Option<usize>
+        requires name { IsName (held self.now) name }
+        ensures { result ≡ name_place name (held self.now).values.given };
+
+    /// How many places were ever given in a name's own partition, of this number.
+    fn numbered_values(&self, name: NameId, number: usize) -> u32
+        requires name { IsName (held self.now) name }
+        requires number { name_place name (held self.now).values.given ≡ Some number }
+        ensures { result ≡ name_values (held self.now) name };
+
+    /// The live value at a place of a name's own partition, of this number.
+    fn numbered_value_at(&self, name: NameId, number: usize, place: u32) -> Option<&Txt>
+        requires name { IsName (held self.now) name }
+        requires number { name_place name (held self.now).values.given ≡ Some number }
         ensures { option_copied result ≡ name_value_at (held self.now) name place };
 
     /// The least place of a live value in a name's own partition.

@@ -1,10 +1,11 @@
-ghost use Rattle.std.specs.Prelude.{◌≡◌, ◌<◌, ◌-◌, ◌^◌, length, OnOk, OnErr};
+ghost use Rattle.std.specs.Prelude.{◌≡◌, ◌<◌, ◌-◌, ◌^◌, Some, length, OnOk, OnErr};
 ghost use Rattle.std.specs.Option.{option_copied};
 ghost use Rattle.exi_tables.specs.Partitions.{live_at, least_place};
 ghost use Rattle.exi_tables.specs.Values.{
   ValueTable,
   given_to,
   least_under,
+  name_place,
   no_values,
   text_under,
   texts_of,
@@ -42,6 +43,20 @@ pub trait ValueStore {
 
     /// The live value at a place under a name.
     fn own_at(&self, name: NameId, place: u32) -> Option<&Txt>
+        ensures { option_copied result ≡ text_under name (table self.now).live place };
+
+    /// The number of a name: its place among those under which values were added.
+    fn number(&self, name: NameId) -> Option<usize>
+        ensures { result ≡ name_place name (table self.now).given };
+
+    /// How many places were given under the name of a number.
+    fn numbered_given(&self, name: NameId, number: usize) -> u32
+        requires number { name_place name (table self.now).given ≡ Some number }
+        ensures { result ≡ given_to name (table self.now).given };
+
+    /// The live value at a place under the name of a number.
+    fn numbered_at(&self, name: NameId, number: usize, place: u32) -> Option<&Txt>
+        requires number { name_place name (table self.now).given ≡ Some number }
         ensures { option_copied result ≡ text_under name (table self.now).live place };
 
     /// The least place of a live value under a name.

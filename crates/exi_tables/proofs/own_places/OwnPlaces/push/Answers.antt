@@ -1,7 +1,7 @@
-use Rattle.std.proofs.Common.{◌≡◌, Some, None, length, refl, sym, ◌∙◌, rules}
+use Rattle.std.proofs.Common.{◌≡◌, Some, None, refl, sym, ◌∙◌}
 use Rattle.exi_tables.specs.Kept.{givens, with_place}
 use Rattle.exi_tables.specs.Values.{name_place}
-use Rattle.exi_tables.proofs.Owns.{first_numbered, first_others, first_there, given_here, numbered_then, push_given, push_others, push_there}
+use Rattle.exi_tables.proofs.Owns.{given_here, numbered_then, push_given, push_others, push_there}
 use Rattle.exi_tables.proofs.own_places.OwnPlaces.push.Goals as goal
 
 found : (c : goal.In_ok-push) → name_place c.args.name (givens c.self.inside.rows.items) ≡ Some c.in-Some.number
@@ -33,21 +33,5 @@ returns-in-Some-clause-others c =
     rw (c.in_ok-push.ensures.ok, ← c.self.view_is)
     (push_others c.args.name c.self.inside.rows.items c.in-Some.number c.index_mut.result.now (found c) c.index_mut.ensures.value c.args.global)
 
-none : (c : goal.After-push_reserved) → name_place c.args.name (givens c.self.inside.rows.items) ≡ None
-none c = sym (c.self.invariant.number c.args.name) ∙ sym c.get.ensures ∙ sym c.copied.ensures ∙ c.in_default.is
-
-pub invariant_of-self-2 : goal.invariant_of-self-2
-invariant_of-self-2 c =
-    let len : c.len.result ≡ length c.self.inside.rows.items = search rules in
-    rw (c.push_reserved.ensures.items, c.in_ok-reserve.ensures.items, c.in_ok-row.ensures)
-    (first_numbered c.args.name c.self.inside.rows.items c.args.global (none c) c.self.inside.numbers c.insert.new.self c.self.invariant (λ n. rw len at (c.in_ok-insert.ensures.ok n)))
-
-pub returns-clause-there : goal.returns-clause-there
-returns-clause-there c =
-    rw (c.push_reserved.ensures.items, c.in_ok-reserve.ensures.items, c.in_ok-row.ensures, ← c.self.view_is)
-    (first_there c.args.name c.self.inside.rows.items c.args.global (none c))
-
-pub returns-clause-others : goal.returns-clause-others
-returns-clause-others c =
-    rw (c.push_reserved.ensures.items, c.in_ok-reserve.ensures.items, c.in_ok-row.ensures, ← c.self.view_is)
-    (first_others c.args.name c.self.inside.rows.items c.args.global (none c))
+pub push_first-requires : goal.push_first-requires
+push_first-requires c = rw (← c.self.view_is) (sym (c.self.invariant.number c.args.name) ∙ sym c.get.ensures ∙ sym c.copied.ensures ∙ c.in_default.is)
