@@ -1,9 +1,11 @@
-ghost use Rattle.std.specs.Prelude.{◌≡◌, Ok, Err, None, Some, length, MatchResult};
+ghost use Rattle.std.specs.Prelude.{◌≡◌, ◌<◌, Ok, Err, None, Some, IfNone, IfSome, length, MatchResult};
 ghost use Rattle.std.specs.Option.{option_copied};
+ghost use Rattle.exi_bits.specs.Bits.{IsAligned};
+ghost use Rattle.exi_bits.specs.Unsigned.{below_at};
 ghost use Rattle.exi_bits.specs.declared.fault.Kind.TheVariants as kind;
 ghost use Rattle.exi_items.specs.Charges.{text_charge};
 
-use exi_bits::{Fault, Kind};
+use exi_bits::{Align, BitIn, Fault, Kind, bits_for};
 use exi_meter::Meter;
 use exi_names::Txt;
 
@@ -19,6 +21,28 @@ pub fn told(text: Option<&Txt>, bit: u64) -> Result<&Txt, Fault>
             bit,
         }),
     }
+}
+
+/// Takes the place of one of `count` texts. `None`, and nothing is taken, where there is a fault.
+#[inline(always)]
+#[tactic(auto, unfolding(exi_bits::specs::Unsigned::below_at))]
+pub fn place_below(input: &mut BitIn<'_>, count: u64, align: Align) -> Option<u64>
+    requires aligned { IsAligned align input.old }
+    ensures read { IfSome result (λ place. below_at count align kind.BadPlace input.old ≡ Ok (place, input.new)) }
+    ensures below { IfSome result (λ place. place < count) }
+    ensures place { IfNone result (input.new ≡ input.old) }
+    ensures bytes { input.new.bytes ≡ input.old.bytes }
+    ensures aligned { IsAligned align input.new }
+{
+    let bit = input.at();
+    let Ok(place) = input.number(bits_for(count), align) else {
+        return None;
+    };
+    if place < count {
+        return Some(place);
+    }
+    input.go_to_bit(bit);
+    None
 }
 
 /// Charges so many units of text, or answers `TextLimit` at this bit.

@@ -13,7 +13,7 @@ ghost use Rattle.exi_typed.specs.NameValues.{name_value_at};
 ghost use Rattle.exi_typed.specs.Places.{IsNameAt, IsPlaceIn, name_in, text_in};
 ghost use Rattle.exi_typed.specs.Strings.{known_at, name_at, name_under, prefix_at};
 
-use crate::charge::{charge, charge_text, told};
+use crate::charge::{charge, charge_text, place_below, told};
 use crate::parts::{NameRead, read_parts, read_prefix_of, read_under};
 use crate::spaces::{Space, told_local};
 use exi_bits::{Align, BitIn, Fault, Kind, Stop};
@@ -85,7 +85,7 @@ pub fn read_prefix<T: Tables>(
     if !keep {
         return Ok(None);
     }
-    read_kept(input, align, uri, tables, meter)
+    kept_apart(input, align, uri, tables, meter)
 }
 
 /// Reads the prefix of a name under the URI at a place, where prefixes are kept.
@@ -105,6 +105,28 @@ fn read_kept<T: Tables>(
     ensures aligned { IsAligned align input.new }
 {
     read_prefix_of(input, true, align, &NameRead::under(uri), tables, meter)
+}
+
+/// The same, with an answer that takes no memory of the caller's before it is there.
+#[inline(always)]
+fn kept_apart<T: Tables>(
+    input: &mut BitIn<'_>,
+    align: Align,
+    uri: u32,
+    tables: &T,
+    meter: &mut Meter,
+) -> Result<Option<u32>, Fault>
+    requires uri { uri < length (uris (T.held tables.now)) }
+    requires aligned { IsAligned align input.old }
+    ensures read { Goes (λ place. (option_map (text_in (prefixes (T.held tables.now) uri)) place, read_state input.new meter.new (T.held tables.now))) meter.new result (prefix_at true align uri (read_state input.old meter.old (T.held tables.now))) }
+    ensures within { IfOk result (λ place. IsPlaceIn (prefixes (T.held tables.now) uri) place) }
+    ensures bytes { input.new.bytes ≡ input.old.bytes }
+    ensures aligned { IsAligned align input.new }
+{
+    match read_kept(input, align, uri, tables, meter) {
+        Ok(place) => Ok(place),
+        Err(fault) => Err(fault),
+    }
 }
 
 /// Charges the texts of a name. Whether they are within the limit; where they are not, what was charged stays charged.
@@ -153,6 +175,29 @@ fn read_known_kept<T: Tables>(
     Ok(NameAt { id: name, prefix })
 }
 
+/// The same, with an answer that takes no memory of the caller's before it is there.
+#[inline(always)]
+fn known_apart<T: Tables>(
+    input: &mut BitIn<'_>,
+    align: Align,
+    name: NameId,
+    tables: &T,
+    meter: &mut Meter,
+) -> Result<NameAt, Fault>
+    requires name { IsName (T.held tables.now) name }
+    requires aligned { IsAligned align input.old }
+    ensures read { Goes (λ n. (name_in (T.held tables.now) n, read_state input.new meter.new (T.held tables.now))) meter.new result (known_at true align name (read_state input.old meter.old (T.held tables.now))) }
+    ensures places { IfOk result (λ n. IsNameAt (T.held tables.now) n) }
+    ensures id { IfOk result (λ n. n.id ≡ name) }
+    ensures bytes { input.new.bytes ≡ input.old.bytes }
+    ensures aligned { IsAligned align input.new }
+{
+    match read_known_kept(input, align, name, tables, meter) {
+        Ok(name) => Ok(name),
+        Err(fault) => Err(fault),
+    }
+}
+
 /// Reads a name that the event's code tells: its texts are charged, and only its prefix is coded.
 ///
 /// # Errors
@@ -180,7 +225,7 @@ pub fn read_known<T: Tables>(
     ensures aligned { IsAligned align input.new }
 {
     if keep {
-        return read_known_kept(input, align, name, tables, meter);
+        return known_apart(input, align, name, tables, meter);
     }
     if charge_name(input, name, tables, meter) {
         let prefix = None;
@@ -216,6 +261,32 @@ fn read_any_under<T: Tables>(
     Ok(read.add(tables)?)
 }
 
+/// The same, with an answer that takes no memory of the caller's before it is there.
+#[inline(always)]
+fn under_apart<T: Tables>(
+    alloc: Global,
+    input: &mut BitIn<'_>,
+    keep: bool,
+    align: Align,
+    uri: u32,
+    tables: &mut T,
+    meter: &mut Meter,
+) -> Result<NameAt, Stop>
+    requires uri { uri < length (uris (T.held tables.old)) }
+    requires few { NoneLonger (2 ^ 31) (T.held tables.old) }
+    requires aligned { IsAligned align input.old }
+    ensures read { GoesOrStops (λ n. (name_in (T.held tables.new) n, read_state input.new meter.new (T.held tables.new))) meter.new result (name_under keep align uri (text_in (uris (T.held tables.old)) uri) (read_state input.old meter.old (T.held tables.old))) }
+    ensures places { IfOk result (λ n. IsNameAt (T.held tables.new) n) }
+    ensures tables { Leaves result (T.held tables.old) (T.held tables.new) }
+    ensures bytes { input.new.bytes ≡ input.old.bytes }
+    ensures aligned { IsAligned align input.new }
+{
+    match read_any_under(alloc, input, keep, align, uri, tables, meter) {
+        Ok(name) => Ok(name),
+        Err(stop) => Err(stop),
+    }
+}
+
 /// Reads the local name of a URI at a place and, where prefixes are kept, the prefix, and adds what is missed.
 ///
 /// # Errors
@@ -247,15 +318,19 @@ pub fn read_name_under<T: Tables>(
     ensures aligned { IsAligned align input.new }
 {
     let start = input.at();
-    let code = input.unsigned()?;
+    let Some(code) = input.one_octet() else {
+        return under_apart(alloc, input, keep, align, uri, tables, meter);
+    };
     if code > 0 {
         input.go_to_bit(start);
-        return read_any_under(alloc, input, keep, align, uri, tables, meter);
+        return under_apart(alloc, input, keep, align, uri, tables, meter);
     }
     let bit = input.at();
-    let count = u64::from(tables.locals(uri));
-    let place = input.below(count, align, Kind::BadPlace)? as u32;
-    let (local, text) = told_local(tables, uri, place, bit)?;
+    let Some(place) = place_below(input, u64::from(tables.locals(uri)), align) else {
+        input.go_to_bit(start);
+        return under_apart(alloc, input, keep, align, uri, tables, meter);
+    };
+    let (local, text) = told_local(tables, uri, place as u32, bit)?;
     charge_text(meter, text, input.at())?;
     let prefix = read_prefix(input, keep, align, uri, tables, meter)?;
     let id = NameId { uri, local };
@@ -282,6 +357,30 @@ fn read_any<T: Tables>(
 {
     let read = read_parts(alloc, input, keep, align, tables, meter)?;
     Ok(read.add(tables)?)
+}
+
+/// The same, with an answer that takes no memory of the caller's before it is there.
+#[inline(always)]
+fn any_apart<T: Tables>(
+    alloc: Global,
+    input: &mut BitIn<'_>,
+    keep: bool,
+    align: Align,
+    tables: &mut T,
+    meter: &mut Meter,
+) -> Result<NameAt, Stop>
+    requires few { NoneLonger (2 ^ 31) (T.held tables.old) }
+    requires aligned { IsAligned align input.old }
+    ensures read { GoesOrStops (λ n. (name_in (T.held tables.new) n, read_state input.new meter.new (T.held tables.new))) meter.new result (name_at keep align (read_state input.old meter.old (T.held tables.old))) }
+    ensures places { IfOk result (λ n. IsNameAt (T.held tables.new) n) }
+    ensures tables { Leaves result (T.held tables.old) (T.held tables.new) }
+    ensures bytes { input.new.bytes ≡ input.old.bytes }
+    ensures aligned { IsAligned align input.new }
+{
+    match read_any(alloc, input, keep, align, tables, meter) {
+        Ok(name) => Ok(name),
+        Err(stop) => Err(stop),
+    }
 }
 
 /// Reads a qualified name: its URI, its local name and, where prefixes are kept, its prefix (EXI 1.0, section
@@ -315,10 +414,12 @@ pub fn read_name<T: Tables>(
     ensures aligned { IsAligned align input.new }
 {
     let start = input.at();
-    let code = input.below(u64::from(tables.uris()) + 1, align, Kind::BadPlace)?;
+    let Some(code) = place_below(input, u64::from(tables.uris()) + 1, align) else {
+        return any_apart(alloc, input, keep, align, tables, meter);
+    };
     if code == 0 {
         input.go_to_bit(start);
-        return read_any(alloc, input, keep, align, tables, meter);
+        return any_apart(alloc, input, keep, align, tables, meter);
     }
     let (space, text) = Space::told(tables, (code - 1) as u32, start)?;
     charge_text(meter, text, input.at())?;
