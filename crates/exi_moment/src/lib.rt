@@ -43,6 +43,7 @@ mod fields;
 pub mod laws;
 mod numbers;
 mod read;
+mod short;
 mod write;
 
 pub use fields::is_moment;

@@ -1,6 +1,6 @@
 //! Fields from the numbers of a stream, and back. `None` is a field out of its range.
 
-ghost use Rattle.std.specs.Prelude.{◌≡◌, ◌+◌, ◌*◌, ◌<◌, ◌≤◌, ◌^◌, ◌-ℤ◌, pos, unsigned_abs, IfSome, IsTrue};
+ghost use Rattle.std.specs.Prelude.{◌≡◌, ◌+◌, ◌*◌, ◌<◌, ◌≤◌, ◌^◌, ◌-ℤ◌, pos, unsigned_abs, IfSome, IsTrue, Some};
 ghost use Rattle.exi_names.specs.Moments.{is_month_day, is_time};
 ghost use Rattle.exi_moment.specs.Reading.{signed, year_of, month_day_of, time_of, minutes_of, zone_of};
 ghost use Rattle.exi_moment.specs.Spelling.{zone_number};
@@ -20,6 +20,20 @@ pub fn year(minus: bool, size: u128) -> Option<i64>
     let size = size as i128;
     let year = if minus { 1999 - size } else { 2000 + size };
     i64::try_from(year).ok()
+}
+
+/// The year of a sign and a magnitude of one octet: it is in range.
+#[tactic(auto, unfolding(crate::specs::Reading::year_of))]
+#[inline(always)]
+pub fn near_year(minus: bool, size: u64) -> i64
+    requires { size < 128 }
+    ensures { year_of minus size ≡ Some result }
+{
+    if minus {
+        1999 - size as i64
+    } else {
+        2000 + size as i64
+    }
 }
 
 /// The sign and the magnitude of a year.

@@ -6,6 +6,7 @@ ghost use Rattle.exi_moment.specs.Reading.{where_it_counts, year_at, month_day_a
 
 use crate::fields::{counts_month_day, counts_time, counts_year};
 use crate::numbers::{month_day, time, year, zone};
+use crate::short::short_date_time;
 use exi_bits::{Align, BitIn, Fault, Kind};
 use exi_names::{Moment, MomentKind};
 
@@ -188,6 +189,38 @@ fn moment_parts(input: &mut BitIn<'_>, kind: MomentKind, align: Align) -> Result
     })
 }
 
+/// Reads a date or a time of a kind part by part. The place is as before after an `Err`.
+#[inline(never)]
+fn read_in_parts(input: &mut BitIn<'_>, kind: MomentKind, align: Align) -> Result<Moment, Fault>
+    requires aligned { IsAligned align input.old }
+    ensures read { Reads (λ x. x) result input.old input.new (moment_at kind align input.old) }
+    ensures bytes { input.new.bytes ≡ input.old.bytes }
+    ensures aligned { IsAligned align input.new }
+{
+    let start = input.at();
+    match moment_parts(input, kind, align) {
+        Ok(moment) => Ok(moment),
+        Err(fault) => {
+            input.go_to_bit(start);
+            Err(fault)
+        }
+    }
+}
+
+/// The same, with its answer in a room that is made on this way alone.
+#[inline(always)]
+fn read_apart(input: &mut BitIn<'_>, kind: MomentKind, align: Align) -> Result<Moment, Fault>
+    requires aligned { IsAligned align input.old }
+    ensures read { Reads (λ x. x) result input.old input.new (moment_at kind align input.old) }
+    ensures bytes { input.new.bytes ≡ input.old.bytes }
+    ensures aligned { IsAligned align input.new }
+{
+    match read_in_parts(input, kind, align) {
+        Ok(moment) => Ok(moment),
+        Err(fault) => Err(fault),
+    }
+}
+
 /// Reads a date or a time of a kind (EXI 1.0, section 7.1.8). Takes no memory.
 ///
 /// Day 31 is taken in any month, any minute in hour 24, and second 60; the zone is at most 14 hours
@@ -203,18 +236,17 @@ fn moment_parts(input: &mut BitIn<'_>, kind: MomentKind, align: Align) -> Result
 /// - `BadPlace` at a number of one bit that is not 0 or 1 in a byte-aligned stream;
 /// - `BadMoment` at an item with a field out of its range, also one that the kind does not have and
 ///   that is not 0. For the year, which has to fit 64 bits, the item is its Unsigned Integer.
+#[inline(always)]
 pub fn read_moment(input: &mut BitIn<'_>, kind: MomentKind, align: Align) -> Result<Moment, Fault>
     requires aligned { IsAligned align input.old }
     ensures read { Reads (λ x. x) result input.old input.new (moment_at kind align input.old) }
     ensures bytes { input.new.bytes ≡ input.old.bytes }
     ensures aligned { IsAligned align input.new }
 {
-    let start = input.at();
-    match moment_parts(input, kind, align) {
-        Ok(moment) => Ok(moment),
-        Err(fault) => {
-            input.go_to_bit(start);
-            Err(fault)
+    if let (MomentKind::DateTime, Align::Bits) = (kind, align) {
+        if let Some(moment) = short_date_time(input) {
+            return Ok(moment);
         }
     }
+    read_apart(input, kind, align)
 }
