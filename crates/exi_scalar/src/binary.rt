@@ -1,20 +1,47 @@
 ghost use Rattle.std.specs.Prelude.{◌≡◌, ◌%◌, ◌++◌, OnOk, OnErr, IfErr};
 ghost use Rattle.exi_bits.specs.Bits.{IsAligned};
-ghost use Rattle.exi_bits.specs.Unsigned.{unsigned_at};
+ghost use Rattle.exi_bits.specs.Unsigned.{Reads, unsigned_at};
 ghost use Rattle.exi_bits.specs.Written.{IsWholeBytes};
 ghost use Rattle.exi_items.specs.Charges.{Charges, meter_after};
 ghost use Rattle.exi_items.specs.Fronts.{HoldsFront};
 ghost use Rattle.exi_names.specs.Seen.{seen};
 ghost use Rattle.exi_scalar.specs.Scalars.{IsBinary, after_count, binary_at, binary_bits};
 
-use exi_bits::{Align, BitIn, BitOut, Stop};
+use exi_bits::{Align, BitIn, BitOut, Fault, Stop};
 use exi_items::charge_text;
 use exi_meter::Meter;
 use exi_names::{Octets, Val};
 use std::alloc::{AllocError, Global};
 
+/// The number of octets where it takes several octets itself.
+#[inline(always)]
+fn long_count(input: &mut BitIn<'_>) -> Result<u128, Fault>
+    ensures read { Reads (λ x. x) result input.old input.new (unsigned_at input.old) }
+    ensures bytes { input.new.bytes ≡ input.old.bytes }
+    ensures phase { input.new.place % 8 ≡ input.old.place % 8 }
+{
+    match input.unsigned() {
+        Ok(count) => Ok(count),
+        Err(fault) => Err(fault),
+    }
+}
+
+/// The number of octets, which most often takes one octet itself.
+#[inline(always)]
+fn count_of(input: &mut BitIn<'_>) -> Result<u128, Fault>
+    ensures read { Reads (λ x. x) result input.old input.new (unsigned_at input.old) }
+    ensures bytes { input.new.bytes ≡ input.old.bytes }
+    ensures phase { input.new.place % 8 ≡ input.old.place % 8 }
+{
+    if let Some(count) = input.one_octet() {
+        return Ok(u128::from(count));
+    }
+    long_count(input)
+}
+
 /// Reads a Binary. After an `Err` the place is anything.
 #[tactic(auto, unfolding(crate::specs::Scalars::binary_at))]
+#[inline(always)]
 fn binary(alloc: Global, input: &mut BitIn<'_>, hex: bool, meter: &mut Meter) -> Result<Val, Stop>
     ensures read { Charges seen result input.new meter.new (binary_at hex (record { spot = input.old; meter = meter.old })) }
     ensures meter { meter.new ≡ after_count meter.old (unsigned_at input.old) }
@@ -22,7 +49,7 @@ fn binary(alloc: Global, input: &mut BitIn<'_>, hex: bool, meter: &mut Meter) ->
     ensures phase { input.new.place % 8 ≡ input.old.place % 8 }
 {
     let bit = input.at();
-    let count = input.unsigned()?;
+    let count = count_of(input)?;
     charge_text(meter, count, bit)?;
     let octets = input.octets(alloc, count)?;
     Ok(Val::Bin {
@@ -43,6 +70,7 @@ fn binary(alloc: Global, input: &mut BitIn<'_>, hex: bool, meter: &mut Meter) ->
 /// - `TextLimit` at the number, where so many octets would pass the limit; nothing is charged.
 /// - `Short` at the octet at which the bits end.
 /// - `Memory` where memory is refused.
+#[inline(always)]
 pub fn read_binary(
     alloc: Global,
     input: &mut BitIn<'_>,

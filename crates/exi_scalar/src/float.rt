@@ -13,6 +13,7 @@ use std::alloc::AllocError;
 
 /// Reads an Integer from -2^`bits` to 2^`bits` - 1. After an `Err` the place is anything.
 #[tactic(auto, unfolding(crate::specs::Scalars::small_at))]
+#[inline(never)]
 fn small(input: &mut BitIn<'_>, bits: u32, align: Align) -> Result<(bool, u128), Fault>
     requires few { bits < 128 }
     requires aligned { IsAligned align input.old }

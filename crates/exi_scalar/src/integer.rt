@@ -11,6 +11,7 @@ use exi_names::Whole;
 use std::alloc::AllocError;
 
 /// The number of that sign, so far from 0, or if it is negative from -1.
+#[inline(always)]
 fn whole_of(parts: (bool, u128)) -> Whole
     requires below { parts.1 < 2 ^ 127 }
     ensures { result ≡ whole_of parts }
@@ -25,6 +26,7 @@ fn whole_of(parts: (bool, u128)) -> Whole
 
 /// Reads an Integer. After an `Err` the place is anything.
 #[tactic(auto, unfolding(crate::specs::Scalars::integer_at))]
+#[inline(always)]
 fn integer(input: &mut BitIn<'_>, align: Align) -> Result<Whole, Fault>
     requires aligned { IsAligned align input.old }
     ensures read { ReadsSome (λ x. x) result input.new (integer_at align input.old) }
@@ -46,6 +48,7 @@ fn integer(input: &mut BitIn<'_>, align: Align) -> Result<Whole, Fault>
 /// - `Short` at the sign or the Unsigned Integer, where the bits end in it.
 /// - `BadPlace` at the sign, where it is neither 0 nor 1 in a byte-aligned stream.
 /// - `TooWide` at the Unsigned Integer, where it is so or the number is out of range.
+#[inline(always)]
 pub fn read_integer(input: &mut BitIn<'_>, align: Align) -> Result<Whole, Fault>
     requires aligned { IsAligned align input.old }
     ensures read { Reads (λ x. x) result input.old input.new (integer_at align input.old) }

@@ -12,6 +12,7 @@ use std::alloc::AllocError;
 
 /// A bit: whether it is 1.
 #[tactic(auto, unfolding(crate::specs::Scalars::bit_at))]
+#[inline(always)]
 pub fn read_bit(input: &mut BitIn<'_>, align: Align) -> Result<bool, Fault>
     requires aligned { IsAligned align input.old }
     ensures read { Reads (λ x. x) result input.old input.new (bit_at align input.old) }
@@ -24,6 +25,7 @@ pub fn read_bit(input: &mut BitIn<'_>, align: Align) -> Result<bool, Fault>
 
 /// A sign and the Unsigned Integer behind it, below 2^127. After an `Err` the place is anything.
 #[tactic(auto, unfolding(crate::specs::Scalars::signed_at))]
+#[inline(always)]
 pub fn read_signed(input: &mut BitIn<'_>, align: Align) -> Result<(bool, u128), Fault>
     requires aligned { IsAligned align input.old }
     ensures read { ReadsSome (λ x. x) result input.new (signed_at align input.old) }
