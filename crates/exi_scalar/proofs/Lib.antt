@@ -1,3 +1,4 @@
 pub mod Signs
 pub mod Binaries
 pub mod Asked
+pub mod Words

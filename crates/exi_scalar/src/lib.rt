@@ -28,6 +28,7 @@ mod decimal;
 mod float;
 mod integer;
 pub mod laws;
+mod short;
 mod signed;
 
 pub use binary::{read_binary, write_binary};
@@ -35,3 +36,4 @@ pub use boolean::{read_boolean, write_boolean};
 pub use decimal::{read_decimal, write_decimal};
 pub use float::{read_float, write_float};
 pub use integer::{read_integer, write_integer};
+pub use short::read_unsigned;

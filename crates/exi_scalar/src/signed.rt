@@ -7,6 +7,7 @@ ghost use Rattle.exi_bits.specs.Written.{IsWholeBytes};
 ghost use Rattle.exi_items.specs.Fronts.{HoldsFront};
 ghost use Rattle.exi_scalar.specs.Scalars.{bit_at, signed_at, signed_bits, one_if};
 
+use crate::short::read_unsigned;
 use exi_bits::{Align, BitIn, BitOut, Fault, Kind};
 use std::alloc::AllocError;
 
@@ -35,7 +36,7 @@ pub fn read_signed(input: &mut BitIn<'_>, align: Align) -> Result<(bool, u128), 
 {
     let minus = read_bit(input, align)?;
     let bit = input.at();
-    let size = input.unsigned()?;
+    let size = read_unsigned(input)?;
     if size < 1 << 127 {
         return Ok((minus, size));
     }
