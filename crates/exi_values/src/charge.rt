@@ -7,6 +7,7 @@ use exi_meter::Meter;
 
 /// Charges so many units of text, or answers `TextLimit` at this bit.
 #[tactic(auto, unfolding(exi_items::specs::Charges::text_charge))]
+#[inline(always)]
 pub fn charge(meter: &mut Meter, units: u128, bit: u64) -> Result<(), Fault>
     ensures charge { MatchResult result (λ _. text_charge units bit meter.old ≡ Ok meter.new) (λ f. (text_charge units bit meter.old ≡ Err f) × (meter.new ≡ meter.old)) }
     ensures within { IsWithin meter.new }

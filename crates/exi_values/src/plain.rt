@@ -15,6 +15,7 @@ use exi_scalar::{read_binary, read_boolean, read_decimal, read_float, read_integ
 use std::alloc::Global;
 
 /// The number at a place, from the least one on.
+#[inline(always)]
 fn from_least(least: i128, place: u64) -> Whole
     ensures { result ≡ number_of (least +ℤ pos place) }
 {
@@ -40,6 +41,7 @@ fn from_least(least: i128, place: u64) -> Whole
 
 /// Reads an integer of a bounded range, by its place in it. After an `Err` the place is anything.
 #[tactic(auto, unfolding(crate::specs::Readings::charged_first, crate::specs::Readings::small_at))]
+#[inline(always)]
 pub fn read_small(
     input: &mut BitIn<'_>,
     least: &i128,
@@ -59,6 +61,7 @@ pub fn read_small(
 
 /// Reads an integer that is not negative. After an `Err` the place is anything.
 #[tactic(auto, unfolding(crate::specs::Readings::charged_first, crate::specs::Readings::natural_at))]
+#[inline(always)]
 pub fn read_natural(input: &mut BitIn<'_>, align: Align, meter: &mut Meter) -> Result<Val, Stop>
     requires aligned { IsAligned align input.old }
     ensures read { (p : Partitions) → GoesOrStops (λ v. (seen v, read_state input.new meter.new p)) meter.new result (charged_first natural_at (read_state input.old meter.old p)) }
@@ -72,6 +75,7 @@ pub fn read_natural(input: &mut BitIn<'_>, align: Align, meter: &mut Meter) -> R
 
 /// Reads an integer. After an `Err` the place is anything.
 #[tactic(auto, unfolding(crate::specs::Readings::charged_first, crate::specs::Readings::whole_at))]
+#[inline(always)]
 pub fn read_whole(input: &mut BitIn<'_>, align: Align, meter: &mut Meter) -> Result<Val, Stop>
     requires aligned { IsAligned align input.old }
     ensures read { (p : Partitions) → GoesOrStops (λ v. (seen v, read_state input.new meter.new p)) meter.new result (charged_first (whole_at align) (read_state input.old meter.old p)) }
@@ -85,6 +89,7 @@ pub fn read_whole(input: &mut BitIn<'_>, align: Align, meter: &mut Meter) -> Res
 
 /// Reads a boolean, with a pattern or without. After an `Err` the place is anything.
 #[tactic(auto, unfolding(crate::specs::Readings::charged_first))]
+#[inline(always)]
 pub fn read_truth(
     input: &mut BitIn<'_>,
     pattern: bool,
@@ -126,6 +131,7 @@ pub fn read_floating(input: &mut BitIn<'_>, align: Align, meter: &mut Meter) -> 
 
 /// Reads a date or a time. After an `Err` the place is anything.
 #[tactic(auto, unfolding(crate::specs::Readings::charged_first, crate::specs::Readings::dated_at))]
+#[inline(always)]
 pub fn read_date(
     input: &mut BitIn<'_>,
     kind: MomentKind,
@@ -144,6 +150,7 @@ pub fn read_date(
 
 /// Reads octets behind their number, which is charged. After an `Err` the place is anything.
 #[tactic(auto, unfolding(crate::specs::Readings::octets_value_at))]
+#[inline(always)]
 pub fn read_octets(
     alloc: Global,
     input: &mut BitIn<'_>,

@@ -110,6 +110,73 @@ fn read_list<T: Tables>(
     Ok(whole(items))
 }
 
+/// Reads a value of any datatype. After an `Err` the place is anything.
+#[cycle(read)]
+#[tactic(auto, unfolding(crate::specs::Valued::valued_at))]
+#[inline(never)]
+fn read_any<T: Tables>(
+    alloc: Global,
+    input: &mut BitIn<'_>,
+    kind: &Datatype,
+    align: Align,
+    name: NameId,
+    tables: &mut T,
+    meter: &mut Meter,
+) -> Result<Val, Stop>
+    requires name { IsName (T.held tables.old) name }
+    requires few { NoneLonger (2 ^ 31) (T.held tables.old) }
+    requires room { HasRoom (represented kind.now) meter.old (T.held tables.old) }
+    requires aligned { IsAligned align input.old }
+    ensures read { GoesOrStops (λ v. (seen v, read_state input.new meter.new (T.held tables.new))) meter.new result (valued_at (represented kind.now) align name (read_state input.old meter.old (T.held tables.old))) }
+    ensures tables { LeavesAfter (represented kind.now) align name result (read_state input.old meter.old (T.held tables.old)) (T.held tables.new) }
+    ensures bytes { input.new.bytes ≡ input.old.bytes }
+    ensures aligned { IsAligned align input.new }
+{
+    match kind {
+        Datatype::Small { least, count } => read_small(input, least, *count, align, meter),
+        Datatype::Unsigned => read_natural(input, align, meter),
+        Datatype::Integer => read_whole(input, align, meter),
+        Datatype::Boolean { pattern } => read_truth(input, *pattern, align, meter),
+        Datatype::Binary { hex } => read_octets(alloc, input, *hex, align, meter),
+        Datatype::Decimal => read_fixed(input, align, meter),
+        Datatype::Float => read_floating(input, align, meter),
+        Datatype::Moment(moment) => read_date(input, *moment, align, meter),
+        Datatype::List(item) => read_list(alloc, input, item, align, name, tables, meter),
+        Datatype::Choice { base, values } => read_choice(alloc, input, base, values, align, meter),
+        Datatype::Chars(set) => read_in_set(alloc, input, set, align, name, tables, meter),
+        Datatype::Text | Datatype::Name { .. } => {
+            read_tabled(alloc, input, kind, align, name, tables, meter)
+        }
+    }
+}
+
+/// The same, with its answer in a room that is made on this way alone.
+#[cycle(read)]
+#[inline(always)]
+fn read_apart<T: Tables>(
+    alloc: Global,
+    input: &mut BitIn<'_>,
+    kind: &Datatype,
+    align: Align,
+    name: NameId,
+    tables: &mut T,
+    meter: &mut Meter,
+) -> Result<Val, Stop>
+    requires name { IsName (T.held tables.old) name }
+    requires few { NoneLonger (2 ^ 31) (T.held tables.old) }
+    requires room { HasRoom (represented kind.now) meter.old (T.held tables.old) }
+    requires aligned { IsAligned align input.old }
+    ensures read { GoesOrStops (λ v. (seen v, read_state input.new meter.new (T.held tables.new))) meter.new result (valued_at (represented kind.now) align name (read_state input.old meter.old (T.held tables.old))) }
+    ensures tables { LeavesAfter (represented kind.now) align name result (read_state input.old meter.old (T.held tables.old)) (T.held tables.new) }
+    ensures bytes { input.new.bytes ≡ input.old.bytes }
+    ensures aligned { IsAligned align input.new }
+{
+    match read_any(alloc, input, kind, align, name, tables, meter) {
+        Ok(value) => Ok(value),
+        Err(stop) => Err(stop),
+    }
+}
+
 /// Reads a value of a datatype under a name, whose places exist (EXI 1.0, sections 7.1 and 7.3.3), and adds what is
 /// missed to the tables.
 ///
@@ -144,20 +211,20 @@ pub fn read_value<T: Tables>(
     ensures bytes { input.new.bytes ≡ input.old.bytes }
     ensures aligned { IsAligned align input.new }
 {
+    // the frequent ones, each straight
     match kind {
         Datatype::Small { least, count } => read_small(input, least, *count, align, meter),
         Datatype::Unsigned => read_natural(input, align, meter),
         Datatype::Integer => read_whole(input, align, meter),
         Datatype::Boolean { pattern } => read_truth(input, *pattern, align, meter),
         Datatype::Binary { hex } => read_octets(alloc, input, *hex, align, meter),
-        Datatype::Decimal => read_fixed(input, align, meter),
-        Datatype::Float => read_floating(input, align, meter),
         Datatype::Moment(moment) => read_date(input, *moment, align, meter),
-        Datatype::List(item) => read_list(alloc, input, item, align, name, tables, meter),
-        Datatype::Choice { base, values } => read_choice(alloc, input, base, values, align, meter),
-        Datatype::Chars(set) => read_in_set(alloc, input, set, align, name, tables, meter),
-        Datatype::Text | Datatype::Name { .. } => {
-            read_tabled(alloc, input, kind, align, name, tables, meter)
-        }
+        Datatype::Decimal
+        | Datatype::Float
+        | Datatype::List(_)
+        | Datatype::Choice { .. }
+        | Datatype::Chars(_)
+        | Datatype::Text
+        | Datatype::Name { .. } => read_apart(alloc, input, kind, align, name, tables, meter),
     }
 }
