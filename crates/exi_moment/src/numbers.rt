@@ -50,6 +50,7 @@ pub fn year_parts(year: i64) -> (bool, u128)
 
 /// Month and day.
 #[tactic(auto, unfolding(crate::specs::Reading::month_day_of))]
+#[inline(always)]
 pub fn month_day(kind: MomentKind, number: u64) -> Option<(u8, u8)>
     ensures { result ≡ month_day_of kind number }
 {
@@ -64,6 +65,7 @@ pub fn month_day(kind: MomentKind, number: u64) -> Option<(u8, u8)>
 
 /// Hour, minute and second.
 #[tactic(auto, unfolding(crate::specs::Reading::time_of))]
+#[inline(always)]
 pub fn time(number: u64) -> Option<(u8, u8, u8)>
     ensures { result ≡ time_of number }
 {
@@ -79,6 +81,7 @@ pub fn time(number: u64) -> Option<(u8, u8, u8)>
 
 /// The minutes of hours and minutes that stand side by side, whatever their sign.
 #[tactic(auto, unfolding(crate::specs::Reading::minutes_of))]
+#[inline(always)]
 fn minutes(number: u64) -> Option<u64>
     ensures value { result ≡ minutes_of number }
     ensures few { IfSome result (λ m. m ≤ 840) }
@@ -94,6 +97,7 @@ fn minutes(number: u64) -> Option<u64>
 
 /// The zone of its number.
 #[tactic(auto, unfolding(crate::specs::Reading::zone_of))]
+#[inline(always)]
 pub fn zone(number: u64) -> Option<i16>
     ensures { result ≡ zone_of number }
 {

@@ -244,8 +244,18 @@ pub fn read_moment(input: &mut BitIn<'_>, kind: MomentKind, align: Align) -> Res
     ensures aligned { IsAligned align input.new }
 {
     if let (MomentKind::DateTime, Align::Bits) = (kind, align) {
-        if let Some(moment) = short_date_time(input) {
-            return Ok(moment);
+        if let Some(fields) = short_date_time(input) {
+            return Ok(Moment {
+                kind,
+                year: fields.year,
+                month: fields.month,
+                day: fields.day,
+                hour: fields.hour,
+                minute: fields.minute,
+                second: fields.second,
+                fraction: None,
+                zone: Some(fields.zone),
+            });
         }
     }
     read_apart(input, kind, align)
