@@ -11,7 +11,9 @@ use exi_bits::{Align, BitIn, Kind, Stop};
 use exi_meter::Meter;
 use exi_moment::read_moment;
 use exi_names::{MomentKind, Val, Whole};
-use exi_scalar::{read_binary, read_boolean, read_decimal, read_float, read_integer};
+use exi_scalar::{
+    read_binary, read_boolean, read_decimal, read_float, read_integer, read_unsigned,
+};
 use std::alloc::Global;
 
 /// The number at a place, from the least one on.
@@ -69,7 +71,7 @@ pub fn read_natural(input: &mut BitIn<'_>, align: Align, meter: &mut Meter) -> R
     ensures aligned { IsAligned align input.new }
 {
     charge(meter, 1, input.at())?;
-    let size = input.unsigned()?;
+    let size = read_unsigned(input)?;
     Ok(Val::Int(Whole { minus: false, size }))
 }
 
