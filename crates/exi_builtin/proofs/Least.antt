@@ -1,9 +1,10 @@
 -- The least code of a production, and what is kept so that it is found.
-use Rattle.std.proofs.Common.{◌≡◌, ℕ, zero, suc, ◌+◌, ◌<◌, ◌≤◌, ◌^◌, Bool, true, false, cond, ◌||◌, List, [], ◌∷◌, ◌++◌, All, drop, filter, get_or, length, refl, ap, sym, ◌∙◌, ◌⊎◌, reverse, subst, arith, inl, inr, Option, Some, None}
+use Rattle.std.proofs.Common.{◌≡◌, ℕ, zero, suc, ◌+◌, ◌<◌, ◌≤◌, ◌^◌, Bool, true, false, cond, ◌||◌, List, [], ◌∷◌, ◌++◌, All, drop, filter, get_or, length, refl, slice_get, ap, sym, ◌∙◌, ◌⊎◌, reverse, subst, arith, inl, inr, Option, Some, None}
 use Rattle.std.specs.Option.{is_some, option_map}
 use Rattle.std.specs.List.{list_any}
 use Rattle.std.proofs.lemmas.Bool.{cases_Bool}
 use Rattle.std.proofs.lemmas.List.{drop_all, drop_more, reverse-append}
+use Rattle.std.proofs.lemmas.Option.{none-some}
 use mathlib.Core.Bool.{beq}
 use Rattle.exi_names.specs.declared.names.NameId.{NameId}
 use Rattle.exi_names.specs.NameMaps.{same_name}
@@ -197,6 +198,35 @@ kept_start (Some k) = let same : k ≡ 0 + k = omega arith in ap Some same
 
 pub kept_end : (test keep : Learnable → Bool) (xs : List Learnable) (i place : ℕ) (all : Option ℕ) → length xs ≤ i → all ≡ option_map (λ k. place + k) (first_place test (filter keep (drop i xs))) → all ≡ None
 kept_end test keep xs i place all past e = e ∙ ap (λ ys. option_map (λ k. place + k) (first_place test (filter keep ys))) (drop_all i xs past)
+
+-- ---- the first of those behind a place
+pub drop_there : {X : Type 0} (xs : List X) (i : ℕ) (x : X) → slice_get xs i ≡ Some x → drop i xs ≡ x ∷ drop (suc i) xs
+drop_there [] i x e = absurd (none-some x e)
+drop_there (y ∷ ys) zero x e = cc
+drop_there (y ∷ ys) (suc i) x e = drop_there ys i x e
+
+pub drop_past : {X : Type 0} (xs : List X) (i : ℕ) → slice_get xs i ≡ None → drop i xs ≡ []
+drop_past [] zero e = refl
+drop_past [] (suc i) e = refl
+drop_past (y ∷ ys) zero e = absurd (none-some y (sym e))
+drop_past (y ∷ ys) (suc i) e = drop_past ys i e
+
+pub behind_found : {X : Type 0} (test : X → Bool) (xs : List X) (i : ℕ) (x : X) (all : Option ℕ) → slice_get xs i ≡ Some x → test x ≡ true → all ≡ option_map (λ k. i + k) (first_place test (drop i xs)) → all ≡ Some i
+behind_found test xs i x all there passes e =
+    let same : i + 0 ≡ i = omega arith in
+    e ∙ ap (λ ys. option_map (λ k. i + k) (first_place test ys)) (drop_there xs i x there) ∙ rw passes (ap Some same)
+
+pub behind_on : {X : Type 0} (test : X → Bool) (xs : List X) (i : ℕ) (x : X) (all : Option ℕ) → slice_get xs i ≡ Some x → test x ≡ false → all ≡ option_map (λ k. i + k) (first_place test (drop i xs)) → all ≡ option_map (λ k. i + 1 + k) (first_place test (drop (i + 1) xs))
+behind_on test xs i x all there passes e =
+    let next : suc i ≡ i + 1 = omega arith in
+    e ∙ ap (λ ys. option_map (λ k. i + k) (first_place test ys)) (drop_there xs i x there) ∙ rw passes (ap (λ j. option_map (λ k. i + k) (option_map suc (first_place test (drop j xs)))) next) ∙ by (first_place test (drop (i + 1) xs))
+  where
+    by : (o : Option ℕ) → option_map (λ k. i + k) (option_map suc o) ≡ option_map (λ k. i + 1 + k) o
+    by None = refl
+    by (Some k) = let same : i + suc k ≡ i + 1 + k = omega arith in ap Some same
+
+pub behind_end : {X : Type 0} (test : X → Bool) (xs : List X) (i : ℕ) (all : Option ℕ) → slice_get xs i ≡ None → all ≡ option_map (λ k. i + k) (first_place test (drop i xs)) → all ≡ None
+behind_end test xs i all past e = e ∙ ap (λ ys. option_map (λ k. i + k) (first_place test ys)) (drop_past xs i past)
 
 -- ---- the least code
 abbrev pub earlier : {X : Type 0} → Option X → Option X → Option X

@@ -25,7 +25,7 @@ pub enum Front {
 
 impl Front {
     /// The code that ends with this part.
-    #[inline]
+    #[inline(always)]
     pub fn code(self, part: u32) -> Code
         ensures { parts_of result ≡ parts_before self ++ part ∷ [] }
     {

@@ -14,6 +14,9 @@ use indexmap::IndexMap;
 use std::alloc::{AllocError, Global};
 use std::marker::Model;
 
+/// How many of the latest productions are compared with a name before it is looked up by hash: for few that is less work.
+const COMPARED: u32 = 8;
+
 /// A name by which a place is kept.
 #[derive(Clone, Copy, Debug, PartialEq, Eq, Hash)]
 pub struct NameKey {
@@ -89,9 +92,36 @@ impl LearnedList {
         None
     }
 
-    /// The code of the production of a name, the least where there are several.
-    #[inline]
+    /// The production of a code that is there.
+    #[inline(always)]
+    pub fn learned_at(&self, code: u32) -> Learnable
+        requires { code < length self.now }
+        ensures { Some result ≡ slice_get self.now code }
+    {
+        self.items[self.items.len() - 1 - code as usize]
+    }
+
+    /// The code of the production of a name, the least where there are several. The latest few are compared one by one.
+    #[inline(never)]
     fn code_of_name(&self, name: NameId, attribute: bool) -> Option<u32>
+        ensures { result ≡ first_place (is_named name attribute) self.now }
+    {
+        for code in 0..COMPARED {
+            match self.at(code) {
+                Some(production) => {
+                    if is_named(name, attribute, production) {
+                        return Some(code);
+                    }
+                }
+                None => return None,
+            }
+        }
+        self.kept_code(name, attribute)
+    }
+
+    /// The code of the production of a name, by the place that is kept for it.
+    #[inline(never)]
+    fn kept_code(&self, name: NameId, attribute: bool) -> Option<u32>
         ensures { result ≡ first_place (is_named name attribute) self.now }
     {
         let key = key_of(name);
@@ -125,7 +155,7 @@ impl LearnedList {
     }
 
     /// The code of a production, the least where there are several.
-    #[inline]
+    #[inline(always)]
     pub fn code_of(&self, production: Learnable) -> Option<u32>
         ensures { result ≡ first_place (is_it production) self.now }
     {
@@ -145,7 +175,7 @@ impl LearnedList {
     }
 
     /// Whether the production that a use would add stands already, where it is added once only.
-    #[inline]
+    #[inline(always)]
     pub fn stands(&self, used: Learned) -> bool
         ensures { result ≡ stands_already used self.now }
     {
@@ -185,6 +215,17 @@ impl LearnedList {
         self.end = place_if(is_end(production), place, self.end);
         self.has_type = is_known_type(production) || self.has_type;
         Ok(())
+    }
+}
+
+/// Whether a production is one of this name.
+#[inline(always)]
+fn is_named(name: NameId, attribute: bool, production: Learnable) -> bool
+    ensures { result ≡ is_named name attribute production }
+{
+    match production {
+        Learnable::Known(other, a) => other == name && a == attribute,
+        _ => false,
     }
 }
 

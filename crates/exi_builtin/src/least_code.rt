@@ -1,4 +1,4 @@
-ghost use Rattle.std.specs.Prelude.{◌≡◌, ◌≤◌, None, filter, length};
+ghost use Rattle.std.specs.Prelude.{◌≡◌, ◌≤◌, None, Some, IsTrue, filter, length};
 ghost use Rattle.std.specs.Option.{option_map};
 ghost use Rattle.exi_gram.specs.Codes.{coded};
 ghost use Rattle.exi_gram.specs.Tables.{parts_of};
@@ -54,7 +54,6 @@ fn kept_place(options: &Options, list: &[Learnable], production: Learnable) -> O
 }
 
 /// The place of a production among those that are written with codes of one part.
-#[inline(always)]
 fn first_written(room: Room, production: Learnable) -> Option<u32>
     ensures { result ≡ first_place (is_it production) (written room).firsts }
 {
@@ -79,7 +78,6 @@ fn first_written(room: Room, production: Learnable) -> Option<u32>
 }
 
 /// The least code of a production that has none of one part in a state that learned so many.
-#[inline(never)]
 fn longer_code(
     learned: &LearnedList,
     room: Room,
@@ -101,8 +99,57 @@ fn longer_code(
     Some(Front::Second(first, second).code(third))
 }
 
+/// The least code of a production that was not learned. It is asked for at the first use of a name, of characters and of an
+/// end, and so stands apart.
+#[cold]
+#[inline(never)]
+fn written_code(
+    learned: &LearnedList,
+    room: Room,
+    production: Learnable,
+    options: &Options,
+) -> Option<Code>
+    requires { first_place (is_it production) learned.now ≡ None }
+    ensures { option_map parts_of result ≡ first_code (is_it production)
+        (coded (behind_learned learned.now (left_of options.now (written room)))) }
+{
+    if let Some(place) = first_written(room, production) {
+        return Some(Front::Empty.code(learned.len() + place));
+    }
+    longer_code(learned, room, production, options)
+}
+
+/// [`written_code`], whose answer in memory is met on its way alone.
+#[inline(always)]
+fn code_apart(
+    learned: &LearnedList,
+    room: Room,
+    production: Learnable,
+    options: &Options,
+) -> Option<Code>
+    requires { first_place (is_it production) learned.now ≡ None }
+    ensures { option_map parts_of result ≡ first_code (is_it production)
+        (coded (behind_learned learned.now (left_of options.now (written room)))) }
+{
+    match written_code(learned, room, production, options) {
+        Some(code) => Some(code),
+        None => None,
+    }
+}
+
+/// Whether a production is the end of an element in its content, the one written there with a code of one part.
+#[inline(always)]
+fn is_end_of_content(room: Room, production: Learnable) -> bool
+    ensures { IsTrue result → first_place (is_it production) (written room).firsts ≡ Some 0 }
+{
+    match (room, production) {
+        (Room::Content(_), Learnable::Ee(one_part)) => one_part,
+        _ => false,
+    }
+}
+
 /// The least code of a production in a state that learned these.
-#[inline]
+#[inline(always)]
 pub fn least_code(
     learned: &LearnedList,
     room: Room,
@@ -115,8 +162,8 @@ pub fn least_code(
     if let Some(first) = learned.code_of(production) {
         return Some(Front::Empty.code(first));
     }
-    if let Some(place) = first_written(room, production) {
-        return Some(Front::Empty.code(learned.len() + place));
+    if is_end_of_content(room, production) {
+        return Some(Front::Empty.code(learned.len()));
     }
-    longer_code(learned, room, production, options)
+    code_apart(learned, room, production, options)
 }

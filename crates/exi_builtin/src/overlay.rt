@@ -42,7 +42,7 @@ use std::marker::Model;
 /// What the built-in grammars learned in one body or one self-contained fragment (EXI 1.0, sections
 /// 8.4.2 and 8.4.3).
 ///
-/// A contract sees it as a `Learning`. No call walks the learned productions, but [`Overlay::codes`]; a call
+/// A contract sees it as a `Learning`. No call walks all learned productions, but [`Overlay::codes`]; a call
 /// that answers an error leaves it as it was.
 #[derive(Drop)]
 pub struct Overlay {
@@ -146,7 +146,7 @@ impl Overlay {
     }
 
     /// What a state learned.
-    #[inline]
+    #[inline(always)]
     fn learned_list(&self, room: Room) -> &LearnedList
         requires { IsRoom self.now room }
         ensures { result.now ≡ learned_in self.now room }
@@ -205,8 +205,8 @@ impl Overlay {
 
     /// The code of a production in a state (EXI 1.0, section 6.2), the least where it was learned more than
     /// once, and none where the state does not have it. The number of the state has to be one that
-    /// [`Overlay::grammar`] gave. What was learned is not walked, and no memory is taken.
-    #[inline]
+    /// [`Overlay::grammar`] gave. Of what was learned, the latest few are looked at, and no memory is taken.
+    #[inline(always)]
     pub fn code_of(&self, room: Room, production: Learnable, options: &Options) -> Option<Code>
         requires { IsRoom self.now room }
         ensures { option_map parts_of result
@@ -221,7 +221,7 @@ impl Overlay {
     /// # Errors
     ///
     /// `AllocError` where memory is refused. The bits then end with a front of the code, maybe none of it.
-    #[inline]
+    #[inline(always)]
     pub fn write_code(
         &self,
         out: &mut BitOut,
@@ -246,6 +246,7 @@ impl Overlay {
     /// # Errors
     ///
     /// `AllocError` where memory is refused; nothing is then changed.
+    #[inline(always)]
     pub fn learn(&mut self, room: Room, used: Learned) -> Result<bool, AllocError>
         requires room { IsRoom self.old room }
         requires few { length (learned_in self.old room) < 2 ^ 31 }
@@ -261,6 +262,8 @@ impl Overlay {
     }
 
     /// Adds a production in front of those of a state.
+    #[cold]
+    #[inline(never)]
     fn add(&mut self, room: Room, production: Learnable) -> Result<(), AllocError>
         requires room { IsRoom self.old room }
         requires few { length (learned_in self.old room) < 2 ^ 31 }

@@ -9,7 +9,7 @@ ghost use Rattle.exi_builtin.specs.Learning.{behind_learned};
 
 use crate::learnable::{Learnable, Room};
 use crate::learned_list::LearnedList;
-use crate::written::{Written, as_written, firsts_of, has_longer, is_kept};
+use crate::written::{Written, as_written, firsts_of, has_longer, is_kept, written_at};
 use exi_bits::{BitIn, Fault};
 use exi_gram::{Options, read_part};
 
@@ -89,6 +89,21 @@ fn read_longer(input: &mut BitIn<'_>, room: Room, options: &Options) -> Result<L
     }
 }
 
+/// [`read_longer`], whose answer in memory is met on its way alone.
+#[inline(always)]
+fn read_apart(input: &mut BitIn<'_>, room: Room, options: &Options) -> Result<Learnable, Fault>
+    requires aligned { IsAligned (align_of options.now) input.old }
+    ensures read { ReadsSome (λ x. x) result input.new (second_at (align_of options.now)
+        (kept_seconds (is_kept options.now) (written room).seconds) input.old) }
+    ensures bytes { input.new.bytes ≡ input.old.bytes }
+    ensures aligned { IsAligned (align_of options.now) input.new }
+{
+    match read_longer(input, room, options) {
+        Ok(production) => Ok(production),
+        Err(fault) => Err(fault),
+    }
+}
+
 /// The production of a code of one part.
 #[inline(always)]
 fn first_at(learned: &LearnedList, room: Room, first: u32) -> Option<Learnable>
@@ -96,9 +111,9 @@ fn first_at(learned: &LearnedList, room: Room, first: u32) -> Option<Learnable>
 {
     let count = learned.len();
     if first < count {
-        return learned.at(first);
+        return Some(learned.learned_at(first));
     }
-    firsts_of(room).get((first - count) as usize).copied()
+    written_at(room, first - count)
 }
 
 /// How many values the first part of a code has.
@@ -136,6 +151,6 @@ pub fn read_behind(
     let first = read_part(input, values, options.align())?;
     match first_at(learned, room, first) {
         Some(production) => Ok(production),
-        None => read_longer(input, room, options),
+        None => read_apart(input, room, options),
     }
 }

@@ -1,4 +1,4 @@
-ghost use Rattle.std.specs.Prelude.{◌≡◌, ◌<◌, ◌++◌, length, OnOk, OnErr};
+ghost use Rattle.std.specs.Prelude.{◌≡◌, ◌<◌, ◌++◌, [], ◌∷◌, length, OnOk, OnErr};
 ghost use Rattle.exi_bits.specs.Bits.{number};
 ghost use Rattle.exi_bits.specs.Widths.{width_for};
 ghost use Rattle.exi_bits.specs.Written.{IsWholeBytes};
@@ -62,8 +62,6 @@ fn write_parts(
 }
 
 /// Writes any code of a state that learned these productions.
-#[cold]
-#[inline(never)]
 fn write_any(
     out: &mut BitOut,
     learned: &LearnedList,
@@ -85,6 +83,52 @@ fn write_any(
         second_count(options, &written),
         kept_count(options, written.members),
         options.align(),
+    )
+}
+
+/// Writes a code of two parts.
+#[cold]
+#[inline(never)]
+fn write_two(
+    out: &mut BitOut,
+    learned: &LearnedList,
+    room: Room,
+    first: u32,
+    second: u32,
+    options: &Options,
+) -> Result<(), AllocError>
+    requires code { IsCodeOf (behind_learned learned.now (left_of options.now (written room))) (first ∷ second ∷ []) }
+    requires aligned { IsWholeBytes (align_of options.now) out.old }
+    ensures ok { OnOk result (out.new ≡ out.old ++ code_bits (align_of options.now) (codes (behind_learned learned.now (left_of options.now (written room)))) (first ∷ second ∷ [])) }
+    ensures err { OnErr result (HoldsFront out.old (code_bits (align_of options.now) (codes (behind_learned learned.now (left_of options.now (written room)))) (first ∷ second ∷ [])) out.new) }
+    ensures aligned { IsWholeBytes (align_of options.now) out.new }
+{
+    write_any(out, learned, room, Code::Two(first, second), options)
+}
+
+/// Writes a code of three parts.
+#[cold]
+#[inline(never)]
+fn write_three(
+    out: &mut BitOut,
+    learned: &LearnedList,
+    room: Room,
+    parts: (u32, u32, u32),
+    options: &Options,
+) -> Result<(), AllocError>
+    requires code { IsCodeOf (behind_learned learned.now (left_of options.now (written room))) (parts.0 ∷ parts.1 ∷ parts.2 ∷ []) }
+    requires aligned { IsWholeBytes (align_of options.now) out.old }
+    ensures ok { OnOk result (out.new ≡ out.old ++ code_bits (align_of options.now) (codes (behind_learned learned.now (left_of options.now (written room)))) (parts.0 ∷ parts.1 ∷ parts.2 ∷ [])) }
+    ensures err { OnErr result (HoldsFront out.old (code_bits (align_of options.now) (codes (behind_learned learned.now (left_of options.now (written room)))) (parts.0 ∷ parts.1 ∷ parts.2 ∷ [])) out.new) }
+    ensures aligned { IsWholeBytes (align_of options.now) out.new }
+{
+    let (first, second, third) = parts;
+    write_any(
+        out,
+        learned,
+        room,
+        Code::Three(first, second, third),
+        options,
     )
 }
 
@@ -111,6 +155,9 @@ pub fn write_behind(
             first_count(learned, room, options),
             options.align(),
         ),
-        _ => write_any(out, learned, room, code, options),
+        Code::Two(first, second) => write_two(out, learned, room, first, second, options),
+        Code::Three(first, second, third) => {
+            write_three(out, learned, room, (first, second, third), options)
+        }
     }
 }

@@ -1,4 +1,4 @@
-ghost use Rattle.std.specs.Prelude.{◌≡◌, ◌≤◌, if◌then◌else◌, length};
+ghost use Rattle.std.specs.Prelude.{◌≡◌, ◌≤◌, if◌then◌else◌, length, slice_get};
 ghost use Rattle.exi_gram.specs.Codes.{kept_seconds, longer};
 ghost use Rattle.exi_builtin.specs.BuiltIn.{is_kept, written};
 ghost use Rattle.exi_builtin.specs.Layout.{laid_out};
@@ -29,6 +29,25 @@ pub fn firsts_of(room: Room) -> &'static [Learnable]
         Room::StartTag(_) => &[],
         Room::Content(_) => &[Learnable::Ee(true)],
         Room::Fragment => &[Learnable::SeAny, Learnable::Ed],
+    }
+}
+
+/// The production at a place among those with codes of one part as they are written.
+#[inline(always)]
+pub fn written_at(room: Room, place: u32) -> Option<Learnable>
+    ensures { result ≡ slice_get (written room).firsts place }
+{
+    match room {
+        Room::StartTag(_) => None,
+        Room::Content(_) => match place {
+            0 => Some(Learnable::Ee(true)),
+            _ => None,
+        },
+        Room::Fragment => match place {
+            0 => Some(Learnable::SeAny),
+            1 => Some(Learnable::Ed),
+            _ => None,
+        },
     }
 }
 

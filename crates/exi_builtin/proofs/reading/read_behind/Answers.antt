@@ -25,4 +25,4 @@ returns-in-None-clause-read c =
     let seconds = kept_seconds (is_kept o) (written c.args.room).seconds in
     let read : code_at (align_of o) (behind_learned c.args.learned.now (left_of o (written c.args.room))) c.args.input.now ≡ second_at (align_of o) seconds c.read_part.new.input
     = first_tells (align_of o) c.align.result _ (c.args.learned.now ++ (written c.args.room).firsts) seconds c.first_count-values.result c.in_ok-first.first c.args.input.now c.read_part.new.input None (left_shape o c.args.room c.args.learned.now) c.align.ensures c.first_count-values.ensures c.in_ok-first.ensures.read c.in-None.ensures in
-    rw read c.read_longer.ensures.read
+    rw read c.read_apart.ensures.read

@@ -1,17 +1,19 @@
-use Rattle.std.proofs.Common.{◌≡◌, ◌∙◌, ap, sym}
-use Rattle.exi_builtin.specs.Marks.{code_at_place}
-use Rattle.exi_builtin.proofs.Least.{leads_named}
+use Rattle.std.proofs.Common.{◌∙◌, sym}
+use Rattle.exi_builtin.specs.LeastCodes.{is_named}
+use Rattle.exi_builtin.proofs.Least.{behind_end, behind_found, behind_on, kept_start}
 use Rattle.exi_builtin.proofs.learned_list.LearnedList.code_of_name.Goals as goal
-use Rattle.exi_builtin.proofs.learned_list.LearnedList.code_of_name.Goals.{else-attribute, then-attribute}
 
-pub code_at-requires : goal.code_at-requires
-code_at-requires c = elim c.if-attribute.branch [
-  | then-attribute w ↦ record { within = (leads_named _ c.args.self.now c.args.name c.args.attribute _ c.if-attribute.place _ c.self.view_is w.if-attribute.true (w.place-is ∙ w.copied-place.ensures ∙ rw c.key_of-key.ensures at w.get.ensures.value) (c.self.invariant.attributes_are c.args.name)).within }
-  | else-attribute w ↦ record { within = (leads_named _ c.args.self.now c.args.name c.args.attribute _ c.if-attribute.place _ c.self.view_is w.if-attribute.false (w.place-is ∙ w.copied-place-else-attribute.ensures ∙ rw c.key_of-key.ensures at w.get-else-attribute.ensures.value) (c.self.invariant.elements_are c.args.name)).within }
-]
+pub returns-then-is_named : goal.returns-then-is_named
+returns-then-is_named c =
+    sym (behind_found (is_named c.args.name c.args.attribute) c.args.self.now c.loop-code.code c.in-Some.production _ (sym c.at.ensures ∙ c.in-Some.is) (sym c.is_named.ensures ∙ c.if-is_named.true) c.loop-code.invariant)
 
-pub returns : goal.returns
-returns c = elim c.if-attribute.branch [
-  | then-attribute w ↦ c.code_at.ensures ∙ sym (leads_named _ c.args.self.now c.args.name c.args.attribute _ c.if-attribute.place _ c.self.view_is w.if-attribute.true (w.place-is ∙ w.copied-place.ensures ∙ rw c.key_of-key.ensures at w.get.ensures.value) (c.self.invariant.attributes_are c.args.name)).first
-  | else-attribute w ↦ c.code_at.ensures ∙ sym (leads_named _ c.args.self.now c.args.name c.args.attribute _ c.if-attribute.place _ c.self.view_is w.if-attribute.false (w.place-is ∙ w.copied-place-else-attribute.ensures ∙ rw c.key_of-key.ensures at w.get-else-attribute.ensures.value) (c.self.invariant.elements_are c.args.name)).first
-]
+pub returns-in-None : goal.returns-in-None
+returns-in-None c =
+    sym (behind_end (is_named c.args.name c.args.attribute) c.args.self.now c.loop-code.code _ (sym c.at.ensures ∙ c.in-None.is) c.loop-code.invariant)
+
+pub loop-code-init : goal.loop-code-init
+loop-code-init c = kept_start _
+
+pub loop-code-preserved : goal.loop-code-preserved
+loop-code-preserved c =
+    behind_on (is_named c.args.name c.args.attribute) c.args.self.now c.loop-code.code c.in-Some.production _ (sym c.at.ensures ∙ c.in-Some.is) (sym c.is_named.ensures ∙ c.if-is_named.false) c.loop-code.invariant
