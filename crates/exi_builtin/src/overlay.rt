@@ -82,7 +82,7 @@ impl Overlay {
     /// # Errors
     ///
     /// `AllocError` where memory is refused; nothing is then changed.
-    #[inline]
+    #[inline(always)]
     pub fn grammar(&mut self, name: NameId) -> Result<u32, AllocError>
         requires { length self.old.grammars < 2 ^ 31 }
         ensures number { IfOk result (λ number. number ≡ grammar_number self.old name) }
