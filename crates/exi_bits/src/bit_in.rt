@@ -249,7 +249,7 @@ impl<'a> BitIn<'a> {
     ///
     /// `Short` at the place, where fewer bits remain.
     #[tactic(auto, unfolding(crate::specs::Unsigned::field_at))]
-    #[inline]
+    #[inline(always)]
     pub fn number(&mut self, width: u32, align: Align) -> Result<u64, Fault>
         requires narrow { width ≤ 64 }
         requires aligned { IsAligned align self.old }
@@ -275,7 +275,7 @@ impl<'a> BitIn<'a> {
     ///
     /// At the first bit of the number: `Short` where fewer bits remain, and `kind` where the number is
     /// not below the count, as with a count of 0 at once.
-    #[inline]
+    #[inline(always)]
     pub fn below(&mut self, count: u64, align: Align, kind: Kind) -> Result<u64, Fault>
         requires aligned { IsAligned align self.old }
         ensures read { Reads (λ x. x) result self.old self.new (below_at count align kind self.old) }
@@ -291,7 +291,7 @@ impl<'a> BitIn<'a> {
 
     /// Takes a number below a count, of the width of the count.
     #[tactic(auto, unfolding(crate::specs::Unsigned::below_at))]
-    #[inline]
+    #[inline(always)]
     fn one_of(&mut self, count: u64, align: Align, kind: Kind) -> Result<u64, Fault>
         requires aligned { IsAligned align self.old }
         ensures read { Reads (λ x. x) result self.old self.new (below_at count align kind self.old) }

@@ -11,6 +11,7 @@ use exi_bits::{Align, BitIn, Fault, Kind};
 ///
 /// At the first bit of the part: `Short` where the bits end, `NoCode` where the number is not below the count.
 #[tactic(auto, unfolding(crate::specs::Codes::part_at))]
+#[inline(always)]
 pub fn read_part(input: &mut BitIn<'_>, count: u32, align: Align) -> Result<u32, Fault>
     requires aligned { IsAligned align input.old }
     ensures read { Reads (λ x. x) result input.old input.new (part_at count align input.old) }
