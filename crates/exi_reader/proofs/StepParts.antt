@@ -11,7 +11,7 @@ use Rattle.exi_bits.specs.Unsigned.{◌>>=◌}
 use Rattle.exi_builtin.specs.declared.learnable.Learned.TheVariants as used
 use Rattle.exi_builtin.specs.Learning.{is_type}
 use Rattle.exi_gram.specs.Codes.{code_at}
-use Rattle.exi_gram.specs.Switches.{align_of, prefixes, strict}
+use Rattle.exi_gram.specs.Switches.{align_of, strict}
 use Rattle.exi_meter.specs.Metering.{Metering, without_level}
 use Rattle.exi_names.specs.Datatypes.{Representation}
 use Rattle.exi_names.specs.Datatypes as datatype
@@ -21,7 +21,7 @@ use Rattle.exi_names.specs.Events as event
 use Rattle.exi_names.specs.Seen.{Value}
 use Rattle.exi_names.specs.Seen as value
 use Rattle.exi_typed.specs.ReadStates.{ReadState, ContextReader, Failure, failing}
-use Rattle.exi_typed.specs.Items.{item_at, qualified, string}
+use Rattle.exi_typed.specs.Items.{item_at}
 use Rattle.exi_typed.specs.Strings.{Named, value_at}
 use Rattle.exi_values.specs.Valued.{valued_at}
 use Rattle.exi_reader.specs.declared.frames.Outer.TheVariants as outer
@@ -390,6 +390,26 @@ nil_refused g bytes bit a name to c found k w nil h f =
     ap (λ (r : Result (Value × ReadState) Failure). r >>= λ found. unless (no_element a) bit found.1.context.meter >>= λ free. given_value name.name found.0 (effected (effect_of g by_name name.id found.0) to (reached found.1 c))) (nil_value g name (read_state_in bytes c.meter c) (nil_no_type name.id nil) nil ∙ h)
     ∙ ap (λ (o : Option Kind). unless o bit k.context.meter >>= λ free. given_value name.name found (effected (effect_of g by_name name.id found) to (reached k c))) f
 
+-- ---- behind the code: the charges, and the content
+module _ (g : Setting) (bytes : List ℕ) (a : Alone) (c : Config) (bit : ℕ) (r : Rule) where
+  abbrev behind_charges : Result Metering Failure → Result Given Failure
+  behind_charges q = q >>= λ m. at_event bit (making bytes bit (plan_on g a c r r.on) (record c { meter = m }))
+
+  followed_by : followed bytes bit (plan_on g a c r r.on) c ≡ behind_charges (charged_at bit (charges_on a c.after_start r.on) c.meter)
+  followed_by = followed_is bytes bit (plan_on g a c r r.on) c ∙ ap behind_charges (charges_are g a c r r.on bit c.meter)
+
+  -- a charge is refused
+  pub followed_unpaid : (e : Failure) → charged_at bit (charges_on a c.after_start r.on) c.meter ≡ Err e → followed bytes bit (plan_on g a c r r.on) c ≡ Err e
+  followed_unpaid e k = followed_by ∙ ap behind_charges k
+
+  -- all is charged
+  pub followed_paid : (m : Metering) → charged_at bit (charges_on a c.after_start r.on) c.meter ≡ Ok m →
+      followed bytes bit (plan_on g a c r r.on) c ≡ at_event bit (making bytes bit (plan_on g a (record c { meter = m }) r r.on) (record c { meter = m }))
+  followed_paid m k =
+      followed_by
+      ∙ (ap behind_charges k
+      ∙ ap (λ (p : Plan). at_event bit (making bytes bit p (record c { meter = m }))) (sym (plan_same g a c c.place m r r.on)))
+
 -- ---- with the code
 module _ (g : Setting) (bytes : List ℕ) (c : Config) where
   abbrev behind_code : Rule × Spot → Result Given Failure
@@ -404,26 +424,11 @@ module _ (g : Setting) (bytes : List ℕ) (c : Config) where
   unfolding one
   one_behind r t h = ap (λ (q : Result (Rule × Spot) Fault). failing c.meter q >>= behind_code) h
 
-  -- a code, and behind it the charges and the content
-  abbrev pub parts_of : Rule → Spot → Result Given Failure
-  parts_of r t = charged_at c.place (charges_on (alone_in c.elements c.outer) c.after_start r.on) c.meter >>= λ m. at_event c.place (making bytes c.place (plan_on g (alone_in c.elements c.outer) c r r.on) (record c { place = t.place; meter = m }))
-
-  one_parts : (r : Rule) (t : Spot) → code_at (align_of g.options) (rules_of g c) (spot_in bytes c) ≡ Ok (r, t) → one g bytes c ≡ parts_of r t
-  one_parts r t h =
+  -- a code, and what stands behind it
+  pub one_followed : (r : Rule) (t : Spot) (bit : ℕ) (a : Alone) → code_at (align_of g.options) (rules_of g c) (spot_in bytes c) ≡ Ok (r, t) → bit ≡ c.place → a ≡ alone_in c.elements c.outer →
+      one g bytes c ≡ followed bytes bit (plan_on g a (record c { place = t.place }) r r.on) (record c { place = t.place })
+  one_followed r t bit a h at alone =
       one_behind r t h
-      ∙ (followed_is bytes c.place (plan_on g (alone_in c.elements c.outer) c r r.on) (record c { place = t.place })
-      ∙ ap (λ (q : Result Metering Failure). q >>= λ m. at_event c.place (making bytes c.place (plan_on g (alone_in c.elements c.outer) c r r.on) (record c { place = t.place; meter = m }))) (charges_are g (alone_in c.elements c.outer) c r r.on c.place c.meter))
-
-  -- a charge is refused
-  pub one_unpaid : (r : Rule) (t : Spot) (e : Failure) → code_at (align_of g.options) (rules_of g c) (spot_in bytes c) ≡ Ok (r, t) → charged_at c.place (charges_on (alone_in c.elements c.outer) c.after_start r.on) c.meter ≡ Err e → one g bytes c ≡ Err e
-  one_unpaid r t e h k =
-      one_parts r t h
-      ∙ ap (λ (q : Result Metering Failure). q >>= λ m. at_event c.place (making bytes c.place (plan_on g (alone_in c.elements c.outer) c r r.on) (record c { place = t.place; meter = m }))) k
-
-  -- all is charged
-  pub one_paid : (r : Rule) (t : Spot) (m : Metering) → code_at (align_of g.options) (rules_of g c) (spot_in bytes c) ≡ Ok (r, t) → charged_at c.place (charges_on (alone_in c.elements c.outer) c.after_start r.on) c.meter ≡ Ok m →
-      one g bytes c ≡ at_event c.place (making bytes c.place (plan_on g (alone_in c.elements c.outer) (record c { place = t.place; meter = m }) r r.on) (record c { place = t.place; meter = m }))
-  one_paid r t m h k =
-      one_parts r t h
-      ∙ (ap (λ (q : Result Metering Failure). q >>= λ n. at_event c.place (making bytes c.place (plan_on g (alone_in c.elements c.outer) c r r.on) (record c { place = t.place; meter = n }))) k
-      ∙ ap (λ (p : Plan). at_event c.place (making bytes c.place p (record c { place = t.place; meter = m }))) (sym (plan_same g (alone_in c.elements c.outer) c t.place m r r.on)))
+      ∙ (ap (λ (n : ℕ). followed bytes n (plan_on g (alone_in c.elements c.outer) c r r.on) (record c { place = t.place })) (sym at)
+      ∙ (ap (λ (z : Alone). followed bytes bit (plan_on g z c r r.on) (record c { place = t.place })) (sym alone)
+      ∙ ap (λ (p : Plan). followed bytes bit p (record c { place = t.place })) (sym (plan_same g a c t.place c.meter r r.on))))

@@ -1,7 +1,10 @@
 -- What a step keeps between its code and its content.
-use Rattle.std.proofs.Common.{◌≡◌, ◌≤◌, ◌<◌, ◌+◌, ◌-◌, ◌^◌, ℕ, Bool, true, false, List, [], ◌∷◌, length, Option, None, Ok, Err, refl, sym, ap, ◌∙◌, subst, arith}
-use Rattle.exi_builtin.specs.Learning.{Learning}
-use Rattle.exi_gram.specs.Codes.{code_at}
+use Rattle.std.proofs.Common.{◌≡◌, ◌≤◌, ◌<◌, ◌+◌, ◌-◌, ◌^◌, ℕ, Bool, true, false, List, [], ◌∷◌, length, Option, Some, None, Result, Ok, Err, refl, sym, ap, ◌∙◌, subst, arith}
+use Rattle.exi_bits.specs.declared.fault.Fault.{Fault}
+use Rattle.exi_bits.specs.Bits.{Spot}
+use Rattle.exi_builtin.specs.declared.learnable.Room.{Room}
+use Rattle.exi_builtin.specs.Learning.{IsRoom, Learning}
+use Rattle.exi_gram.specs.Codes.{Productions, code_at}
 use Rattle.exi_gram.specs.Switches.{align_of}
 use Rattle.exi_meter.specs.Metering.{Metering}
 use Rattle.exi_names.specs.declared.datatype.Datatype.{Datatype}
@@ -9,12 +12,13 @@ use Rattle.exi_names.specs.declared.names.NameId.{NameId}
 use Rattle.exi_tables.specs.Partitions.{IsName, Partitions, uris}
 use Rattle.exi_typed.specs.ReadStates.{Failure}
 use Rattle.exi_values.proofs.Growths.{few_more}
-use Rattle.exi_reader.specs.Configurations.{Config, Setting, rules_of, spot_in}
+use Rattle.exi_reader.specs.Configurations.{Config, Setting, built_in, element_rules, rules_in, rules_of, spot_in}
 use Rattle.exi_reader.specs.Handing.{AreThere, HasLevels, HasNames, HasRoom, IsThereIn, IsTold, StandsIn, Standing, charged_at, charges_on, making, telling_of, terminal_in, with_place}
-use Rattle.exi_reader.specs.Plans.{Alone, Plan, alone_in, plan_on}
-use Rattle.exi_reader.specs.OneEvent.{at_event, one}
+use Rattle.exi_reader.specs.Plans.{Alone, Plan, alone_in, nowhere, plan_on}
+use Rattle.exi_reader.specs.OneEvent.{at_event, followed, one}
 use Rattle.exi_reader.specs.declared.charges.Charges.{Charges}
 use Rattle.exi_reader.specs.declared.frames.Element.{Element}
+use Rattle.exi_reader.specs.declared.frames.Outer.{Outer}
 use Rattle.exi_reader.specs.declared.frames.State.{State}
 use Rattle.exi_reader.specs.declared.frames.State.TheVariants as state
 use Rattle.exi_reader.specs.declared.rule.Content.{Content}
@@ -23,9 +27,9 @@ use Rattle.exi_reader.specs.declared.rule.Telling.{Telling as Told}
 use Rattle.exi_reader.specs.declared.rule.Telling.TheVariants as told
 use Rattle.exi_reader.specs.Rules.{Rule, Terminal, attribute, characters, comment, declaration, document_type, element, end_document, end_element, entity, instruction, self_contained, start_document}
 use Rattle.exi_reader.specs.Spelled.{IsCharged, counted_by, entered_by}
-use Rattle.exi_reader.specs.Stacks.{HasForm, HaveForm}
+use Rattle.exi_reader.specs.Stacks.{HasForm, HaveForm, first_element}
 use Rattle.exi_reader.proofs.EventOne.{charge_is}
-use Rattle.exi_reader.proofs.StepParts.{charges_are, one_paid, one_unpaid}
+use Rattle.exi_reader.proofs.StepParts.{charges_are, followed_paid, followed_unpaid, one_followed}
 
 entered_up : (e : Bool) (m : Metering) → m.level ≤ (entered_by e m).level
 entered_up true m = omega arith
@@ -117,53 +121,67 @@ charges_typed a after content.Instruction d = refl
 charges_typed a after content.DocumentType d = refl
 charges_typed a after content.Entity d = refl
 
--- ---- a step, by what its parts answer
-module _ (old : Standing) (r : Rule) (x : Config) (told : code_at (align_of old.setting.options) (rules_of old.setting old.config) (spot_in old.bytes old.config) ≡ Ok (r, spot_in old.bytes x)) (bit : ℕ) (at : bit ≡ old.config.place) (k : Charges) (a : Alone) where
-  abbrev first_part : Standing → Type 0
-  first_part v = (a ≡ alone_in v.config.elements v.config.outer) × (k ≡ charges_on a v.config.after_start r.on)
+-- ---- inside an element of a built-in grammar
+first_is : (x e : Element) → Some x ≡ Some e → x ≡ e
+first_is x e is = cc
 
-  charged_same : (m : Metering) → first_part old → charged_at old.config.place (charges_on (alone_in old.config.elements old.config.outer) old.config.after_start r.on) m ≡ charged_at bit k m
-  charged_same m h =
-      let same : charges_on (alone_in old.config.elements old.config.outer) old.config.after_start r.on ≡ k = ap (λ (z : Alone). charges_on z old.config.after_start r.on) (sym h.0) ∙ sym h.1 in
-      ap (λ (z : ℕ). charged_at z (charges_on (alone_in old.config.elements old.config.outer) old.config.after_start r.on) m) (sym at) ∙ ap (λ (z : Charges). charged_at bit z m) same
+pub rules_inside : (g : Setting) (l : Learning) (e : Element) (r : Room) (es : List Element) (o : Outer) → first_element es ≡ Some e → e.state ≡ state.BuiltIn r → rules_in g l es o ≡ built_in g l r
+rules_inside g l e r [] o is at = absurd cc
+rules_inside g l e r (x ∷ xs) o is at = ap (λ (y : Element). element_rules g l y.state) (first_is x e is) ∙ ap (element_rules g l) at
 
-  pub step_unpaid : (v : Standing) (e : Failure) → v ≡ with_place old x.place → a ≡ alone_in v.config.elements v.config.outer → k ≡ charges_on a v.config.after_start r.on → charged_at bit k v.config.meter ≡ Err e → one old.setting old.bytes old.config ≡ Err e
-  step_unpaid v e is ea ek paid =
-      subst (λ (w : Standing). first_part w → charged_at bit k w.config.meter ≡ Err e → one old.setting old.bytes old.config ≡ Err e) (sym is)
-      (λ h c. one_unpaid old.setting old.bytes old.config r (spot_in old.bytes x) e told (charged_same old.config.meter h ∙ c)) (ea, ek) paid
+pub room_inside : (g : Setting) (l : Learning) (e : Element) (r : Room) (es : List Element) → first_element es ≡ Some e → e.state ≡ state.BuiltIn r → AreThere g l es → IsRoom l r
+room_inside g l e r [] is at h = absurd cc
+room_inside g l e r (x ∷ xs) is at h = subst (λ (s : State). IsThereIn g l s) at (subst (λ (y : Element). IsThereIn g l y.state) (first_is x e is) h)
 
-  pub step_paid : (v : Standing) (m : Metering) → v ≡ with_place old x.place → a ≡ alone_in v.config.elements v.config.outer → k ≡ charges_on a v.config.after_start r.on → charged_at bit k v.config.meter ≡ Ok m →
-      one old.setting old.bytes old.config ≡ at_event bit (making v.bytes bit (plan_on v.setting a (record v.config { meter = m }) r r.on) (record v.config { meter = m }))
-  step_paid v m is ea ek paid =
-      subst (λ (w : Standing). first_part w → charged_at bit k w.config.meter ≡ Ok m → one old.setting old.bytes old.config ≡ at_event bit (making w.bytes bit (plan_on w.setting a (record w.config { meter = m }) r r.on) (record w.config { meter = m }))) (sym is)
-      (λ h c.
-      let after : Config = record old.config { place = x.place; meter = m } in
-      one_paid old.setting old.bytes old.config r (spot_in old.bytes x) m told (charged_same old.config.meter h ∙ c)
-      ∙ (ap (λ (z : Alone). at_event old.config.place (making old.bytes old.config.place (plan_on old.setting z after r r.on) after)) (sym h.0)
-      ∙ ap (λ (z : ℕ). at_event z (making old.bytes z (plan_on old.setting a after r r.on) after)) (sym at))) (ea, ek) paid
+pub nowhere_inside : (e : Element) (es : List Element) (o : Outer) → first_element es ≡ Some e → alone_in es o ≡ nowhere
+nowhere_inside e [] o is = absurd cc
+nowhere_inside e (x ∷ xs) o is = refl
 
-  step_level : (v : Standing) (m : Metering) → v ≡ with_place old x.place → a ≡ alone_in v.config.elements v.config.outer → k ≡ charges_on a v.config.after_start r.on → charged_at bit k v.config.meter ≡ Ok m → old.config.meter.level ≤ m.level
-  step_level v m is ea ek paid =
-      subst (λ (w : Standing). first_part w → charged_at bit k w.config.meter ≡ Ok m → old.config.meter.level ≤ m.level) (sym is)
-      (λ h c. paid_level old.setting (alone_in old.config.elements old.config.outer) old.config r old.config.place old.config.meter m (charged_same old.config.meter h ∙ c)) (ea, ek) paid
+-- a code among the productions of the built-in grammar is one among all
+pub told_so : (g : Setting) (bytes : List ℕ) (c : Config) (r : Room) (q : Result (Rule × Spot) Fault) → rules_of g c ≡ built_in g c.learned r → code_at (align_of g.options) (built_in g c.learned r) (spot_in bytes c) ≡ q → code_at (align_of g.options) (rules_of g c) (spot_in bytes c) ≡ q
+told_so g bytes c r q is told = ap (λ (p : Productions Rule). code_at (align_of g.options) p (spot_in bytes c)) is ∙ told
 
-  pub step_levels : (v : Standing) (m : Metering) → v ≡ with_place old x.place → a ≡ alone_in v.config.elements v.config.outer → k ≡ charges_on a v.config.after_start r.on → charged_at bit k v.config.meter ≡ Ok m → HasLevels old.config → HasLevels (record v.config { meter = m })
-  step_levels v m is ea ek paid h =
-      let le = step_level v m is ea ek paid in
-      subst (λ (w : Standing). HasLevels (record w.config { meter = m })) (sym is) (levels_on old.config x.place m le h)
+-- ---- a step: its code, and what stands behind
+module _ (old : Standing) (r : Rule) (x : Config) (told : code_at (align_of old.setting.options) (rules_of old.setting old.config) (spot_in old.bytes old.config) ≡ Ok (r, spot_in old.bytes x)) (v : Standing) (is : v ≡ with_place old x.place) where
+  pub step_followed : (bit : ℕ) (a : Alone) → bit ≡ old.config.place → a ≡ alone_in old.config.elements old.config.outer → one old.setting old.bytes old.config ≡ followed v.bytes bit (plan_on v.setting a v.config r r.on) v.config
+  step_followed bit a at alone =
+      subst (λ (w : Standing). one old.setting old.bytes old.config ≡ followed w.bytes bit (plan_on w.setting a w.config r r.on) w.config) (sym is)
+      (one_followed old.setting old.bytes old.config r (spot_in old.bytes x) bit a told at alone)
 
-  step_text : (v : Standing) (m : Metering) → v ≡ with_place old x.place → a ≡ alone_in v.config.elements v.config.outer → k ≡ charges_on a v.config.after_start r.on → charged_at bit k v.config.meter ≡ Ok m → m.used.text ≡ old.config.meter.used.text
-  step_text v m is ea ek paid =
-      subst (λ (w : Standing). first_part w → charged_at bit k w.config.meter ≡ Ok m → m.used.text ≡ old.config.meter.used.text) (sym is)
-      (λ h c. paid_text old.setting (alone_in old.config.elements old.config.outer) old.config r old.config.place old.config.meter m (charged_same old.config.meter h ∙ c)) (ea, ek) paid
+  pub step_room : HasRoom old.config → HasRoom v.config
+  step_room h = subst (λ (w : Standing). HasRoom w.config) (sym is) (room_on old.config x.place old.config.meter refl h)
 
-  pub step_room : (v : Standing) (m : Metering) → v ≡ with_place old x.place → a ≡ alone_in v.config.elements v.config.outer → k ≡ charges_on a v.config.after_start r.on → charged_at bit k v.config.meter ≡ Ok m → HasRoom old.config → HasRoom (record v.config { meter = m })
-  step_room v m is ea ek paid h =
-      let same = step_text v m is ea ek paid in
-      subst (λ (w : Standing). HasRoom (record w.config { meter = m })) (sym is) (room_on old.config x.place m same h)
+  pub step_levels : HasLevels old.config → HasLevels v.config
+  step_levels h = subst (λ (w : Standing). HasLevels w.config) (sym is) (levels_on old.config x.place old.config.meter (omega arith) h)
 
-  pub step_forms : (v : Standing) (m : Metering) → v ≡ with_place old x.place → AreThere old.setting old.config.learned old.config.elements → HaveForm (record v.config { meter = m }).elements
-  step_forms v m is h = subst (λ (w : Standing). HaveForm w.config.elements) (sym is) (forms_there old.setting old.config.learned old.config.elements h)
+  pub step_forms : AreThere old.setting old.config.learned old.config.elements → HaveForm v.config.elements
+  step_forms h = subst (λ (w : Standing). HaveForm w.config.elements) (sym is) (forms_there old.setting old.config.learned old.config.elements h)
 
-  pub step_names : (v : Standing) (m : Metering) → v ≡ with_place old x.place → HasNames old.config r.on → HasNames (record v.config { meter = m }) r.on
-  step_names v m is h = subst (λ (w : Standing). HasNames (record w.config { meter = m }) r.on) (sym is) (names_on old.config x.place m r.on h)
+  pub step_names : HasNames old.config r.on → HasNames v.config r.on
+  step_names h = subst (λ (w : Standing). HasNames w.config r.on) (sym is) (names_on old.config x.place old.config.meter r.on h)
+
+-- ---- what stands behind a code, by what its parts answer
+module _ (old : Standing) (r : Rule) (bit : ℕ) (a : Alone) (k : Charges) (v : Standing) (is : v ≡ old) (ek : k ≡ charges_on a v.config.after_start r.on) where
+  charged_same : (q : Result Metering Failure) → charged_at bit k v.config.meter ≡ q → charged_at bit (charges_on a v.config.after_start r.on) v.config.meter ≡ q
+  charged_same q paid = ap (λ (z : Charges). charged_at bit z v.config.meter) (sym ek) ∙ paid
+
+  pub follow_unpaid : (e : Failure) → charged_at bit k v.config.meter ≡ Err e → followed old.bytes bit (plan_on old.setting a old.config r r.on) old.config ≡ Err e
+  follow_unpaid e paid = subst (λ (w : Standing). followed w.bytes bit (plan_on w.setting a w.config r r.on) w.config ≡ Err e) is (followed_unpaid v.setting v.bytes a v.config bit r e (charged_same (Err e) paid))
+
+  pub follow_paid : (m : Metering) → charged_at bit k v.config.meter ≡ Ok m →
+      followed old.bytes bit (plan_on old.setting a old.config r r.on) old.config ≡ at_event bit (making v.bytes bit (plan_on v.setting a (record v.config { meter = m }) r r.on) (record v.config { meter = m }))
+  follow_paid m paid =
+      subst (λ (w : Standing). followed w.bytes bit (plan_on w.setting a w.config r r.on) w.config ≡ at_event bit (making v.bytes bit (plan_on v.setting a (record v.config { meter = m }) r r.on) (record v.config { meter = m }))) is
+      (followed_paid v.setting v.bytes a v.config bit r m (charged_same (Ok m) paid))
+
+  pub follow_room : (m : Metering) → charged_at bit k v.config.meter ≡ Ok m → HasRoom old.config → HasRoom (record v.config { meter = m })
+  follow_room m paid h = room_on v.config v.config.place m (paid_text v.setting a v.config r bit v.config.meter m (charged_same (Ok m) paid)) (subst (λ (w : Standing). HasRoom w.config) (sym is) h)
+
+  pub follow_levels : (m : Metering) → charged_at bit k v.config.meter ≡ Ok m → HasLevels old.config → HasLevels (record v.config { meter = m })
+  follow_levels m paid h = levels_on v.config v.config.place m (paid_level v.setting a v.config r bit v.config.meter m (charged_same (Ok m) paid)) (subst (λ (w : Standing). HasLevels w.config) (sym is) h)
+
+  pub follow_forms : (m : Metering) → HaveForm old.config.elements → HaveForm (record v.config { meter = m }).elements
+  follow_forms m h = subst (λ (w : Standing). HaveForm w.config.elements) (sym is) h
+
+  pub follow_names : (m : Metering) → HasNames old.config r.on → HasNames (record v.config { meter = m }) r.on
+  follow_names m h = names_on v.config v.config.place m r.on (subst (λ (w : Standing). HasNames w.config r.on) (sym is) h)

@@ -7,9 +7,10 @@ use Rattle.exi_bits.specs.declared.fault.Kind.TheVariants as kind
 use Rattle.exi_bits.specs.declared.fault.Stop.{Stop}
 use Rattle.exi_bits.specs.declared.fault.Stop.TheVariants as stop
 use Rattle.exi_bits.specs.Unsigned.{◌>>=◌}
+use Rattle.exi_builtin.specs.declared.learnable.Learnable.{Learnable}
 use Rattle.exi_builtin.specs.declared.learnable.Learned.{Learned}
 use Rattle.exi_builtin.specs.declared.learnable.Room.{Room}
-use Rattle.exi_builtin.specs.Learning.{IsRoom, Learning, learned_in}
+use Rattle.exi_builtin.specs.Learning.{IsRoom, Learning, learned_in, state_behind}
 use Rattle.exi_gram.specs.Books.{IsStateOf}
 use Rattle.exi_gram.specs.Codes.{Productions, code_at}
 use Rattle.exi_gram.specs.Switches.{align_of}
@@ -32,12 +33,12 @@ use Rattle.exi_typed.specs.Strings.{Named}
 use Rattle.exi_values.specs.Valued.{valued_at}
 use Rattle.exi_reader.specs.Changes as changes
 use Rattle.exi_reader.specs.Changes.{Effect, effect_of, effected, emptied, emptied_elements, has_level, innermost, leads, moved_elements, moves, outer_behind, put_aside, restated, retyped, room_in, root_in, stays}
-use Rattle.exi_reader.specs.Configurations.{Body, Config, Setting, body_outer, read_state_in, reached, rules_of, spot_in}
+use Rattle.exi_reader.specs.Configurations.{Body, Config, Setting, body_outer, built_in, read_state_in, reached, rules_of, spot_in}
 use Rattle.exi_reader.specs.Contents.{attribute_value_at}
 use Rattle.exi_reader.specs.OneEvent.{behind, event_charge, level_charge, remembered, unless}
 use Rattle.exi_reader.specs.Plans.{Given, Plan, barred_in, is_event, no_element, wrong_element}
 use Rattle.exi_reader.specs.Plans as plans
-use Rattle.exi_reader.specs.Rules.{Rule, Telling, Terminal, Valuing, attribute, by_name, characters, comment, declaration, document_type, element, end_document, end_element, entity, instruction, known, self_contained, spelled, start_document, typed, under, untyped}
+use Rattle.exi_reader.specs.Rules.{Rule, Telling, Terminal, Valuing, attribute, built_in_terminal, by_name, characters, comment, declaration, document_type, element, end_document, end_element, entity, instruction, known, self_contained, spelled, start_document, typed, under, untyped}
 use Rattle.exi_reader.specs.Runs.{Job}
 use Rattle.exi_reader.specs.Stacks.{HasForm}
 use Rattle.exi_reader.specs.declared.alone.Alone.{Alone}
@@ -273,6 +274,13 @@ with_place s place = record s { config = record s.config { place = place } }
 abbrev pub Picks : Result Kept Fault → Standing → Standing → Productions Rule → Type 0
 Picks (Ok r) old new p = (code_at (align_of old.setting.options) p (spot_in old.bytes old.config) ≡ Ok (rule_in r, spot_in old.bytes new.config)) × (new ≡ with_place old new.config.place)
 Picks (Err f) old new p = (code_at (align_of old.setting.options) p (spot_in old.bytes old.config) ≡ Err f) × (new ≡ old)
+
+-- the same of a production of a built-in grammar
+abbrev pub PicksBuiltIn : Room → Result Learnable Fault → Standing → Standing → Type 0
+PicksBuiltIn room (Ok p) old new =
+    (code_at (align_of old.setting.options) (built_in old.setting old.config.learned room) (spot_in old.bytes old.config) ≡ Ok (record { on = built_in_terminal p; to = state_behind room p; inner = None }, spot_in old.bytes new.config))
+    × (new ≡ with_place old new.config.place)
+PicksBuiltIn room (Err f) old new = (code_at (align_of old.setting.options) (built_in old.setting old.config.learned room) (spot_in old.bytes old.config) ≡ Err f) × (new ≡ old)
 
 -- the state exists
 abbrev pub IsThere : Setting → Outer → Type 0

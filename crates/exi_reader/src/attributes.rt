@@ -38,13 +38,13 @@ use crate::elements::Elements;
 use crate::frames::{Outer, State};
 use crate::halt::Halt;
 use crate::parts::{
-    go_to, is_nil, is_type, learn_name, nil_read, read_type, see_name, see_value, told_name,
-    typed_value,
+    go_to, is_nil, is_type, learn_name, nil_read, read_type, see_name, see_string, see_value,
+    told_name, typed_value,
 };
 use crate::rule::{Telling, Valuing};
 use crate::stepper::Stepper;
 use exi_builtin::Learned;
-use exi_names::{Datatype, EventOut, EventRef, Val, ValRef};
+use exi_names::{Datatype, EventOut, Val};
 use exi_tables::Tables;
 use exi_typed::{NameAt, StringRead, name_ref, read_string};
 
@@ -104,7 +104,7 @@ impl<'a, T: Tables + Drop> Stepper<'a, T> {
     /// The value of an attribute that names the type by which its element goes on, whose name is read.
     #[tactic(auto, unfolding(crate::specs::Handing::value_made))]
     #[inline(never)]
-    fn type_value<E: EventOut>(
+    fn type_value_apart<E: EventOut>(
         &mut self,
         bit: u64,
         alone: Alone,
@@ -146,6 +146,35 @@ impl<'a, T: Tables + Drop> Stepper<'a, T> {
         let value = name_ref(&self.tables, found.name).copy()?;
         see_name(name_ref(&self.tables, name), value, out)?;
         Ok(None)
+    }
+
+    /// The same, copied out of the memory that the call answers in: the way of a string needs none.
+    #[inline(always)]
+    fn type_value<E: EventOut>(
+        &mut self,
+        bit: u64,
+        alone: Alone,
+        valuing: Valuing,
+        name: NameAt,
+        to: u32,
+        out: &mut E,
+    ) -> Result<Option<u64>, Halt>
+        requires few { NoneLonger (2 ^ 31) self.old.config.tables }
+        requires places { IsNameAt self.old.config.tables name }
+        requires acts { acts_as_type (valuing_in valuing None) name.id ≡ true }
+        ensures hands { HandsAny E.took E.broke result self.new
+            (value_made self.old.setting self.old.bytes bit (alone_of alone) (valuing_in valuing None) (name_in self.old.config.tables name) to self.old.config) out.old out.new }
+        ensures setting { self.new.setting ≡ self.old.setting }
+        ensures bytes { self.new.bytes ≡ self.old.bytes }
+        ensures root { OnFault result (self.new.config.root ≡ self.old.config.root) }
+        ensures same { E.same out.old out.new }
+        ensures later { E.stops out.old ≤ E.stops out.new }
+        ensures stopped { IsErrOf result Halt.Stopped → Rose (E.stops out.old) (E.stops out.new) }
+    {
+        match self.type_value_apart(bit, alone, valuing, name, to, out) {
+            Ok(fragment) => Ok(fragment),
+            Err(halt) => Err(halt),
+        }
     }
 
     /// The value of `xsi:nil`, whose name is read.
@@ -225,9 +254,9 @@ impl<'a, T: Tables + Drop> Stepper<'a, T> {
         alone.refuse(bit)?;
         let told = name_ref(&self.tables, name);
         match text {
-            StringRead::Stands(text) => out.see(&EventRef::At(told, ValRef::Text(text)))?,
+            StringRead::Stands(text) => see_string(told, text, out)?,
             StringRead::Missed(text) => {
-                out.see(&EventRef::At(told, ValRef::Text(&text)))?;
+                see_string(told, &text, out)?;
                 self.tables.add_value(name.id, text)?;
             }
         }

@@ -2,7 +2,7 @@ ghost use Rattle.std.specs.Prelude.{◌≡◌, None, true};
 ghost use Rattle.exi_builtin.specs.Learning.{IsRoom, state_behind};
 ghost use Rattle.exi_gram.specs.Books.{IsStateOf};
 ghost use Rattle.exi_reader.specs.Configurations.{alone_rules, built_in, in_book, outer_rules, rules_in};
-ghost use Rattle.exi_reader.specs.Handing.{AreThere, IsThere, Picks, rule_in};
+ghost use Rattle.exi_reader.specs.Handing.{AreThere, IsThere, Picks, PicksBuiltIn, rule_in};
 ghost use Rattle.exi_reader.specs.Rules.{start_document};
 
 use crate::frames::{Outer, State};
@@ -38,18 +38,30 @@ pub fn state_behind(room: Room, production: Learnable) -> u32
 }
 
 impl<'a, T: Tables + Drop> Stepper<'a, T> {
-    /// The production whose code comes next, among those of a state of the built-in grammars.
+    /// The learned or undeclared production whose code comes next, among those of a state of the built-in grammars.
     #[inline(always)]
-    fn built_in_rule(&mut self, room: Room) -> Result<Rule<'a>, Fault>
+    pub fn built_in_production(&mut self, room: Room) -> Result<Learnable, Fault>
         requires room { IsRoom self.old.config.learned room }
-        ensures picks { Picks result self.old self.new (built_in self.old.setting self.old.config.learned room) }
+        ensures picks { PicksBuiltIn room result self.old self.new }
     {
         let options = self.book.options();
         let production = match self.overlay.read_code(&mut self.input, room, options) {
             Ok(production) => production,
             Err(fault) => return Err(fault),
         };
-        Ok(Rule::of_built_in(production, state_behind(room, production)))
+        Ok(production)
+    }
+
+    /// The production whose code comes next, among those of a state of the built-in grammars.
+    #[inline(always)]
+    fn built_in_rule(&mut self, room: Room) -> Result<Rule<'a>, Fault>
+        requires room { IsRoom self.old.config.learned room }
+        ensures picks { Picks result self.old self.new (built_in self.old.setting self.old.config.learned room) }
+    {
+        match self.built_in_production(room) {
+            Ok(production) => Ok(Rule::of_built_in(production, state_behind(room, production))),
+            Err(fault) => Err(fault),
+        }
     }
 
     /// The production whose code comes next, among those of a state of the book.
@@ -82,7 +94,7 @@ impl<'a, T: Tables + Drop> Stepper<'a, T> {
     /// The production whose code comes next, outside of all elements.
     #[cold]
     #[inline(never)]
-    fn outer_rule(&mut self) -> Result<Rule<'a>, Fault>
+    fn outer_rule_apart(&mut self) -> Result<Rule<'a>, Fault>
         requires there { IsThere self.old.setting self.old.config.outer }
         ensures picks { Picks result self.old self.new (outer_rules self.old.setting self.old.config.learned self.old.config.outer) }
     {
@@ -95,6 +107,18 @@ impl<'a, T: Tables + Drop> Stepper<'a, T> {
                 kind: Kind::NoCode,
                 bit: self.input.at(),
             }),
+        }
+    }
+
+    /// The same, copied out of the memory that the call answers in: the way inside elements needs none.
+    #[inline(always)]
+    fn outer_rule(&mut self) -> Result<Rule<'a>, Fault>
+        requires there { IsThere self.old.setting self.old.config.outer }
+        ensures picks { Picks result self.old self.new (outer_rules self.old.setting self.old.config.learned self.old.config.outer) }
+    {
+        match self.outer_rule_apart() {
+            Ok(rule) => Ok(rule.copied()),
+            Err(fault) => Err(fault),
         }
     }
 

@@ -36,13 +36,13 @@ use crate::declared::opener;
 use crate::frames::Outer;
 use crate::halt::Halt;
 use crate::parts::{
-    close, go_to, innermost, learn, learn_name, meet_root, open, see_characters, text, told_name,
-    typed_value,
+    close, go_to, innermost, learn, learn_name, meet_root, open, see_characters, see_end,
+    see_start, see_text, text, told_name, typed_value,
 };
 use crate::rule::Telling;
 use crate::stepper::Stepper;
 use exi_builtin::Learned;
-use exi_names::{Datatype, EventOut, EventRef, ValRef};
+use exi_names::{Datatype, EventOut, EventRef};
 use exi_tables::Tables;
 use exi_typed::{StringRead, declaration_texts, name_ref, read_declaration, read_string};
 
@@ -159,7 +159,7 @@ impl<'a, T: Tables + Drop> Stepper<'a, T> {
         open(&mut self.overlay, &mut self.elements, name.id, inner)?;
         if alone.is_event() {
             self.after_start = true;
-            out.see(&EventRef::Se(told))?;
+            see_start(told, out)?;
             return Ok(None);
         }
         self.after_start = false;
@@ -204,9 +204,9 @@ impl<'a, T: Tables + Drop> Stepper<'a, T> {
         )?;
         alone.refuse(bit)?;
         match text {
-            StringRead::Stands(text) => out.see(&EventRef::Ch(ValRef::Text(text)))?,
+            StringRead::Stands(text) => see_text(text, out)?,
             StringRead::Missed(text) => {
-                out.see(&EventRef::Ch(ValRef::Text(&text)))?;
+                see_text(&text, out)?;
                 self.tables.add_value(name, text)?;
             }
         }
@@ -282,7 +282,7 @@ impl<'a, T: Tables + Drop> Stepper<'a, T> {
         learn(&mut self.overlay, &self.elements, self.outer, Learned::Ee)?;
         self.after_start = false;
         close(&mut self.elements, self.outer, &mut self.meter);
-        out.see(&EventRef::Ee)?;
+        see_end(out)?;
         Ok(None)
     }
 

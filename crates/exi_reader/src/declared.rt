@@ -30,6 +30,7 @@ fn element_grammar(elements: &[ElementEntry], name: NameRef<'_>) -> Option<u32>
 
 /// The place of the grammar by which an element of this name is opened: that which its production tells, or else that
 /// of the global element of its name, where there is one.
+#[inline(always)]
 pub fn opener(book: &Book, name: NameRef<'_>, inner: Option<u32>) -> Option<u32>
     ensures { result ≡ opener book.now (named name.entry) inner }
 {

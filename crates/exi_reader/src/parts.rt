@@ -378,29 +378,70 @@ fn name_under<T: Tables>(
     read_name_under(alloc, input, keep, options.align(), uri, tables, meter)
 }
 
-/// Reads a name that the code told, as [`read_known`] does. It stands apart, so that the loop over events stays small.
+/// Reads a name that has bits of its own, whole or behind its URI, or that the code told: [`told_name`], apart.
 ///
 /// # Errors
 ///
-/// Those of [`read_known`]. The place may then be any.
+/// Those of the calls that read names. The place may then be any.
 #[inline(never)]
-fn known_name<T: Tables>(
+fn told_name_apart<T: Tables>(
+    alloc: Global,
+    book: &Book,
     input: &mut BitIn<'_>,
-    keep: bool,
-    align: Align,
-    name: NameId,
-    tables: &T,
+    telling: Telling,
+    tables: &mut T,
     meter: &mut Meter,
-) -> Result<NameAt, Fault>
-    requires name { IsName (T.held tables.now) name }
-    requires aligned { IsAligned align input.old }
-    ensures read { Goes (λ n. (name_in (T.held tables.now) n, read_state input.new meter.new (T.held tables.now))) meter.new result (known_at keep align name (read_state input.old meter.old (T.held tables.now))) }
-    ensures places { IfOk result (λ n. IsNameAt (T.held tables.now) n) }
-    ensures id { IfOk result (λ n. n.id ≡ name) }
+) -> Result<NameAt, Stop>
+    requires few { NoneLonger (2 ^ 31 - 2) (T.held tables.old) }
+    requires known { IsTold telling (T.held tables.old) }
+    requires aligned { IsAligned (align_of book.now.options) input.old }
+    ensures read { GoesOrStops
+        (λ n. (name_in (T.held tables.new) n, read_state input.new meter.new (T.held tables.new)))
+        meter.new
+        result
+        (told_name_at book.now (telling_of telling) (read_state input.old meter.old (T.held tables.old))) }
+    ensures places { IfOk result (λ n. IsNameAt (T.held tables.new) n) }
+    ensures few { IfOk result (λ n. NoneLonger (2 ^ 31) (T.held tables.new)) }
     ensures bytes { input.new.bytes ≡ input.old.bytes }
-    ensures aligned { IsAligned align input.new }
+    ensures aligned { IsAligned (align_of book.now.options) input.new }
 {
-    read_known(input, keep, align, name, tables, meter)
+    let options = book.options();
+    let keep = keeps_prefixes(options);
+    let align = options.align();
+    match telling {
+        Telling::Spelled => read_name(alloc, input, keep, align, tables, meter),
+        Telling::Under(uri) => name_under(alloc, book, input, uri, tables, meter),
+        Telling::Known(id) => Ok(read_known(input, keep, align, id, tables, meter)?),
+    }
+}
+
+/// The same, copied out of the memory that the call answers in: the way of a name that the code told needs none.
+#[inline(always)]
+fn told_name_copied<T: Tables>(
+    alloc: Global,
+    book: &Book,
+    input: &mut BitIn<'_>,
+    telling: Telling,
+    tables: &mut T,
+    meter: &mut Meter,
+) -> Result<NameAt, Stop>
+    requires few { NoneLonger (2 ^ 31 - 2) (T.held tables.old) }
+    requires known { IsTold telling (T.held tables.old) }
+    requires aligned { IsAligned (align_of book.now.options) input.old }
+    ensures read { GoesOrStops
+        (λ n. (name_in (T.held tables.new) n, read_state input.new meter.new (T.held tables.new)))
+        meter.new
+        result
+        (told_name_at book.now (telling_of telling) (read_state input.old meter.old (T.held tables.old))) }
+    ensures places { IfOk result (λ n. IsNameAt (T.held tables.new) n) }
+    ensures few { IfOk result (λ n. NoneLonger (2 ^ 31) (T.held tables.new)) }
+    ensures bytes { input.new.bytes ≡ input.old.bytes }
+    ensures aligned { IsAligned (align_of book.now.options) input.new }
+{
+    match told_name_apart(alloc, book, input, telling, tables, meter) {
+        Ok(name) => Ok(name),
+        Err(stop) => Err(stop),
+    }
 }
 
 /// Reads a name that has bits of its own, whole or behind its URI, or that the code told.
@@ -430,13 +471,15 @@ pub fn told_name<T: Tables>(
     ensures bytes { input.new.bytes ≡ input.old.bytes }
     ensures aligned { IsAligned (align_of book.now.options) input.new }
 {
-    let options = book.options();
-    let keep = keeps_prefixes(options);
-    let align = options.align();
     match telling {
-        Telling::Spelled => read_name(alloc, input, keep, align, tables, meter),
-        Telling::Under(uri) => name_under(alloc, book, input, uri, tables, meter),
-        Telling::Known(id) => Ok(known_name(input, keep, align, id, tables, meter)?),
+        Telling::Known(id) => {
+            let options = book.options();
+            let keep = keeps_prefixes(options);
+            Ok(read_known(input, keep, options.align(), id, tables, meter)?)
+        }
+        Telling::Spelled | Telling::Under(_) => {
+            told_name_copied(alloc, book, input, telling, tables, meter)
+        }
     }
 }
 
@@ -583,6 +626,58 @@ pub fn nil_read<T: Tables>(
 {
     let boolean = Datatype::Boolean { pattern: false };
     typed_value(alloc, book, input, &boolean, name, tables, meter)
+}
+
+/// Hands on the start of an element. The event's room is made here, as in the calls below: what comes before makes none.
+#[inline(always)]
+pub fn see_start<E: EventOut>(name: NameRef<'_>, out: &mut E) -> Result<(), PushStop>
+    ensures ok { OnOk result (E.took out.old (event.se (named name.entry) ∷ []) out.new) }
+    ensures broke { IsErrOf result PushStop.Stopped → E.broke out.old (event.se (named name.entry)) out.new }
+    ensures memory { IsErrOf result PushStop.Memory → E.took out.old [] out.new }
+    ensures same { E.same out.old out.new }
+    ensures later { E.stops out.old ≤ E.stops out.new }
+    ensures stopped { IsErrOf result PushStop.Stopped → Rose (E.stops out.old) (E.stops out.new) }
+{
+    out.see(&EventRef::Se(name))
+}
+
+/// Hands on the end of an element.
+#[inline(always)]
+pub fn see_end<E: EventOut>(out: &mut E) -> Result<(), PushStop>
+    ensures ok { OnOk result (E.took out.old (event.ee ∷ []) out.new) }
+    ensures broke { IsErrOf result PushStop.Stopped → E.broke out.old event.ee out.new }
+    ensures memory { IsErrOf result PushStop.Memory → E.took out.old [] out.new }
+    ensures same { E.same out.old out.new }
+    ensures later { E.stops out.old ≤ E.stops out.new }
+    ensures stopped { IsErrOf result PushStop.Stopped → Rose (E.stops out.old) (E.stops out.new) }
+{
+    out.see(&EventRef::Ee)
+}
+
+/// Hands on characters that are a string.
+#[inline(always)]
+pub fn see_text<E: EventOut>(text: &Txt, out: &mut E) -> Result<(), PushStop>
+    ensures ok { OnOk result (E.took out.old (event.ch (value.text text.now) ∷ []) out.new) }
+    ensures broke { IsErrOf result PushStop.Stopped → E.broke out.old (event.ch (value.text text.now)) out.new }
+    ensures memory { IsErrOf result PushStop.Memory → E.took out.old [] out.new }
+    ensures same { E.same out.old out.new }
+    ensures later { E.stops out.old ≤ E.stops out.new }
+    ensures stopped { IsErrOf result PushStop.Stopped → Rose (E.stops out.old) (E.stops out.new) }
+{
+    out.see(&EventRef::Ch(ValRef::Text(text)))
+}
+
+/// Hands on an attribute that is a string.
+#[inline(always)]
+pub fn see_string<E: EventOut>(name: NameRef<'_>, text: &Txt, out: &mut E) -> Result<(), PushStop>
+    ensures ok { OnOk result (E.took out.old (event.at (named name.entry) (value.text text.now) ∷ []) out.new) }
+    ensures broke { IsErrOf result PushStop.Stopped → E.broke out.old (event.at (named name.entry) (value.text text.now)) out.new }
+    ensures memory { IsErrOf result PushStop.Memory → E.took out.old [] out.new }
+    ensures same { E.same out.old out.new }
+    ensures later { E.stops out.old ≤ E.stops out.new }
+    ensures stopped { IsErrOf result PushStop.Stopped → Rose (E.stops out.old) (E.stops out.new) }
+{
+    out.see(&EventRef::At(name, ValRef::Text(text)))
 }
 
 /// Hands on an attribute.

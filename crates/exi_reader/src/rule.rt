@@ -130,6 +130,19 @@ impl<'a> Rule<'a> {
         }
     }
 
+    /// The same, part by part: where the memory of one is lent, a copy needs none.
+    #[inline(always)]
+    pub fn copied(self) -> Rule<'a>
+        ensures { result ≡ self.entry }
+    {
+        Rule {
+            on: self.on,
+            to: self.to,
+            inner: self.inner,
+            datatype: self.datatype,
+        }
+    }
+
     /// A production of a book, with the places of what it names.
     #[inline(always)]
     pub fn of_book(production: &'a Production, named: Named) -> Rule<'a>

@@ -1,18 +1,27 @@
-ghost use Rattle.std.specs.Prelude.{◌≡◌, ◌≤◌, IsErrOf};
+ghost use Rattle.std.specs.Prelude.{◌≡◌, ◌≤◌, None, IsErrOf, option_copied};
 ghost use Rattle.exi_names.specs.Events.{Rose};
-ghost use Rattle.exi_reader.specs.Handing.{HandsAny, HasLevels, HasNames, HasRoom, IsSteady, OnFault, alone_of, making, rule_in};
-ghost use Rattle.exi_reader.specs.OneEvent.{moved_limit, one};
-ghost use Rattle.exi_reader.specs.Plans.{plan_on};
+ghost use Rattle.exi_names.specs.Datatypes as datatype;
+ghost use Rattle.exi_names.specs.Datatypes.{represented};
+ghost use Rattle.exi_reader.specs.Handing.{HandsAny, HasLevels, HasNames, HasRoom, IsSteady, OnFault, alone_of, making, rule_in, telling_of, terminal_in, valuing_in};
+ghost use Rattle.exi_reader.specs.OneEvent.{followed, moved_limit, one};
+ghost use Rattle.exi_reader.specs.Plans.{alone_in, nowhere, plan_on};
+ghost use Rattle.exi_reader.specs.Rules.{attribute, built_in_terminal, characters, element, end_element};
+ghost use Rattle.exi_reader.specs.Configurations.{built_in, rules_of};
+ghost use Rattle.exi_builtin.specs.Learning.{IsRoom, state_behind};
 ghost use Rattle.exi_reader.specs.Stacks.{HaveForm};
+ghost use Rattle.exi_reader.specs.declared.halt.Halt.TheVariants as halt;
 
 use crate::alone::Alone;
 use crate::charges::Charges;
+use crate::codes::state_behind;
+use crate::frames::State;
 use crate::halt::Halt;
 use crate::parts::alone_in;
-use crate::rule::{Content, Rule};
+use crate::rule::{Content, Rule, Telling, Valuing};
 use crate::stepper::Stepper;
 use exi_bits::{Fault, Kind};
-use exi_names::EventOut;
+use exi_builtin::{Learnable, Room};
+use exi_names::{Datatype, EventOut};
 use exi_tables::Tables;
 
 /// A limit of text that is passed within an event has the event's first bit.
@@ -28,6 +37,14 @@ fn at_event(bit: u64, fault: Fault) -> Fault
         },
         _ => fault,
     }
+}
+
+/// The same, as what ends a turn: only a fault makes room for it.
+#[inline(always)]
+fn halt_at_event(bit: u64, fault: Fault) -> Halt
+    ensures { result ≡ halt.Fault (moved_limit bit fault) }
+{
+    Halt::Fault(at_event(bit, fault))
 }
 
 impl<'a, T: Tables + Drop> Stepper<'a, T> {
@@ -75,6 +92,479 @@ impl<'a, T: Tables + Drop> Stepper<'a, T> {
         }
     }
 
+    /// What stands behind an event's code, with what is asked and charged before. Answers the byte of a fragment that
+    /// begins.
+    #[inline(always)]
+    fn follow<E: EventOut>(
+        &mut self,
+        bit: u64,
+        alone: Alone,
+        rule: Rule<'_>,
+        out: &mut E,
+    ) -> Result<Option<u64>, Halt>
+        requires room { HasRoom self.old.config }
+        requires levels { HasLevels self.old.config }
+        requires names { HasNames self.old.config (rule_in rule).on }
+        requires forms { HaveForm self.old.config.elements }
+        ensures hands { HandsAny E.took E.broke result self.new
+            (followed self.old.bytes bit (plan_on self.old.setting (alone_of alone) self.old.config (rule_in rule.entry) (rule_in rule.entry).on) self.old.config) out.old out.new }
+        ensures setting { self.new.setting ≡ self.old.setting }
+        ensures bytes { self.new.bytes ≡ self.old.bytes }
+        ensures root { OnFault result (self.new.config.root ≡ self.old.config.root) }
+        ensures same { E.same out.old out.new }
+        ensures later { E.stops out.old ≤ E.stops out.new }
+        ensures stopped { IsErrOf result Halt.Stopped → Rose (E.stops out.old) (E.stops out.new) }
+    {
+        let charges = Charges::of(rule.on, alone, self.after_start);
+        if let Err(fault) = charges.pay(&mut self.meter, bit) {
+            return Err(Halt::Fault(fault));
+        }
+        match self.content(bit, alone, rule, out) {
+            Ok(fragment) => Ok(fragment),
+            Err(Halt::Fault(fault)) => Err(halt_at_event(bit, fault)),
+            Err(Halt::Memory) => Err(Halt::Memory),
+            Err(Halt::Stopped) => Err(Halt::Stopped),
+        }
+    }
+
+    /// [`follow`](Stepper::follow), apart from the ways of frequent events.
+    #[cold]
+    #[inline(never)]
+    fn follow_apart<E: EventOut>(
+        &mut self,
+        bit: u64,
+        alone: Alone,
+        rule: Rule<'_>,
+        out: &mut E,
+    ) -> Result<Option<u64>, Halt>
+        requires room { HasRoom self.old.config }
+        requires levels { HasLevels self.old.config }
+        requires names { HasNames self.old.config (rule_in rule).on }
+        requires forms { HaveForm self.old.config.elements }
+        ensures hands { HandsAny E.took E.broke result self.new
+            (followed self.old.bytes bit (plan_on self.old.setting (alone_of alone) self.old.config (rule_in rule.entry) (rule_in rule.entry).on) self.old.config) out.old out.new }
+        ensures setting { self.new.setting ≡ self.old.setting }
+        ensures bytes { self.new.bytes ≡ self.old.bytes }
+        ensures root { OnFault result (self.new.config.root ≡ self.old.config.root) }
+        ensures same { E.same out.old out.new }
+        ensures later { E.stops out.old ≤ E.stops out.new }
+        ensures stopped { IsErrOf result Halt.Stopped → Rose (E.stops out.old) (E.stops out.new) }
+    {
+        self.follow(bit, alone, rule, out)
+    }
+
+    /// [`follow`](Stepper::follow), for an event of a kind that is seldom. The rule is copied, so that those of other
+    /// kinds need no memory.
+    #[inline(always)]
+    fn follow_seldom<E: EventOut>(
+        &mut self,
+        bit: u64,
+        alone: Alone,
+        rule: Rule<'_>,
+        out: &mut E,
+    ) -> Result<Option<u64>, Halt>
+        requires room { HasRoom self.old.config }
+        requires levels { HasLevels self.old.config }
+        requires names { HasNames self.old.config (rule_in rule).on }
+        requires forms { HaveForm self.old.config.elements }
+        ensures hands { HandsAny E.took E.broke result self.new
+            (followed self.old.bytes bit (plan_on self.old.setting (alone_of alone) self.old.config (rule_in rule.entry) (rule_in rule.entry).on) self.old.config) out.old out.new }
+        ensures setting { self.new.setting ≡ self.old.setting }
+        ensures bytes { self.new.bytes ≡ self.old.bytes }
+        ensures root { OnFault result (self.new.config.root ≡ self.old.config.root) }
+        ensures same { E.same out.old out.new }
+        ensures later { E.stops out.old ≤ E.stops out.new }
+        ensures stopped { IsErrOf result Halt.Stopped → Rose (E.stops out.old) (E.stops out.new) }
+    {
+        match self.follow_apart(bit, alone, rule.copied(), out) {
+            Ok(fragment) => Ok(fragment),
+            Err(halt) => Err(halt),
+        }
+    }
+
+    /// [`follow`](Stepper::follow), for an event of a kind that is seldom and neither opens a grammar nor has a datatype.
+    #[inline(always)]
+    fn follow_plain<E: EventOut>(
+        &mut self,
+        bit: u64,
+        alone: Alone,
+        on: Content,
+        to: u32,
+        out: &mut E,
+    ) -> Result<Option<u64>, Halt>
+        requires room { HasRoom self.old.config }
+        requires levels { HasLevels self.old.config }
+        requires names { HasNames self.old.config (terminal_in on None) }
+        requires forms { HaveForm self.old.config.elements }
+        ensures hands { HandsAny E.took E.broke result self.new
+            (followed self.old.bytes bit (plan_on self.old.setting (alone_of alone) self.old.config (record { on = terminal_in on None; to = to; inner = None }) (terminal_in on None)) self.old.config) out.old out.new }
+        ensures setting { self.new.setting ≡ self.old.setting }
+        ensures bytes { self.new.bytes ≡ self.old.bytes }
+        ensures root { OnFault result (self.new.config.root ≡ self.old.config.root) }
+        ensures same { E.same out.old out.new }
+        ensures later { E.stops out.old ≤ E.stops out.new }
+        ensures stopped { IsErrOf result Halt.Stopped → Rose (E.stops out.old) (E.stops out.new) }
+    {
+        let rule = Rule {
+            on,
+            to,
+            inner: None,
+            datatype: None,
+        };
+        self.follow_seldom(bit, alone, rule, out)
+    }
+
+    /// [`follow`](Stepper::follow), for an element's start.
+    #[inline(always)]
+    fn follow_element<E: EventOut>(
+        &mut self,
+        bit: u64,
+        alone: Alone,
+        telling: Telling,
+        to: u32,
+        inner: Option<u32>,
+        out: &mut E,
+    ) -> Result<Option<u64>, Halt>
+        requires room { HasRoom self.old.config }
+        requires levels { HasLevels self.old.config }
+        requires names { HasNames self.old.config (element (telling_of telling)) }
+        requires forms { HaveForm self.old.config.elements }
+        ensures hands { HandsAny E.took E.broke result self.new
+            (followed self.old.bytes bit (plan_on self.old.setting (alone_of alone) self.old.config (record { on = element (telling_of telling); to = to; inner = inner }) (element (telling_of telling))) self.old.config) out.old out.new }
+        ensures setting { self.new.setting ≡ self.old.setting }
+        ensures bytes { self.new.bytes ≡ self.old.bytes }
+        ensures root { OnFault result (self.new.config.root ≡ self.old.config.root) }
+        ensures same { E.same out.old out.new }
+        ensures later { E.stops out.old ≤ E.stops out.new }
+        ensures stopped { IsErrOf result Halt.Stopped → Rose (E.stops out.old) (E.stops out.new) }
+    {
+        let charges = Charges::of(Content::Element(telling), alone, self.after_start);
+        if let Err(fault) = charges.pay(&mut self.meter, bit) {
+            return Err(Halt::Fault(fault));
+        }
+        match self.element(bit, alone, telling, to, inner, out) {
+            Ok(fragment) => Ok(fragment),
+            Err(Halt::Fault(fault)) => Err(halt_at_event(bit, fault)),
+            Err(Halt::Memory) => Err(Halt::Memory),
+            Err(Halt::Stopped) => Err(Halt::Stopped),
+        }
+    }
+
+    /// [`follow`](Stepper::follow), for an attribute.
+    #[inline(always)]
+    fn follow_attribute<E: EventOut>(
+        &mut self,
+        bit: u64,
+        alone: Alone,
+        telling: Telling,
+        valuing: Valuing,
+        datatype: Option<&Datatype>,
+        to: u32,
+        out: &mut E,
+    ) -> Result<Option<u64>, Halt>
+        requires room { HasRoom self.old.config }
+        requires levels { HasLevels self.old.config }
+        requires names { HasNames self.old.config (attribute (telling_of telling) (valuing_in valuing (option_copied datatype))) }
+        requires forms { HaveForm self.old.config.elements }
+        ensures hands { HandsAny E.took E.broke result self.new
+            (followed self.old.bytes bit (plan_on self.old.setting (alone_of alone) self.old.config (record { on = attribute (telling_of telling) (valuing_in valuing (option_copied datatype.entry)); to = to; inner = None }) (attribute (telling_of telling) (valuing_in valuing (option_copied datatype.entry)))) self.old.config) out.old out.new }
+        ensures setting { self.new.setting ≡ self.old.setting }
+        ensures bytes { self.new.bytes ≡ self.old.bytes }
+        ensures root { OnFault result (self.new.config.root ≡ self.old.config.root) }
+        ensures same { E.same out.old out.new }
+        ensures later { E.stops out.old ≤ E.stops out.new }
+        ensures stopped { IsErrOf result Halt.Stopped → Rose (E.stops out.old) (E.stops out.new) }
+    {
+        let charges = Charges::of(
+            Content::Attribute(telling, valuing),
+            alone,
+            self.after_start,
+        );
+        if let Err(fault) = charges.pay(&mut self.meter, bit) {
+            return Err(Halt::Fault(fault));
+        }
+        match self.attribute(bit, alone, telling, valuing, datatype, to, out) {
+            Ok(fragment) => Ok(fragment),
+            Err(Halt::Fault(fault)) => Err(halt_at_event(bit, fault)),
+            Err(Halt::Memory) => Err(Halt::Memory),
+            Err(Halt::Stopped) => Err(Halt::Stopped),
+        }
+    }
+
+    /// [`follow`](Stepper::follow), for characters that are a string.
+    #[inline(always)]
+    fn follow_characters<E: EventOut>(
+        &mut self,
+        bit: u64,
+        alone: Alone,
+        to: u32,
+        out: &mut E,
+    ) -> Result<Option<u64>, Halt>
+        requires room { HasRoom self.old.config }
+        requires levels { HasLevels self.old.config }
+        requires names { HasNames self.old.config (characters datatype.text) }
+        requires forms { HaveForm self.old.config.elements }
+        ensures hands { HandsAny E.took E.broke result self.new
+            (followed self.old.bytes bit (plan_on self.old.setting (alone_of alone) self.old.config (record { on = characters datatype.text; to = to; inner = None }) (characters datatype.text)) self.old.config) out.old out.new }
+        ensures setting { self.new.setting ≡ self.old.setting }
+        ensures bytes { self.new.bytes ≡ self.old.bytes }
+        ensures root { OnFault result (self.new.config.root ≡ self.old.config.root) }
+        ensures same { E.same out.old out.new }
+        ensures later { E.stops out.old ≤ E.stops out.new }
+        ensures stopped { IsErrOf result Halt.Stopped → Rose (E.stops out.old) (E.stops out.new) }
+    {
+        let charges = Charges::of(Content::Characters, alone, self.after_start);
+        if let Err(fault) = charges.pay(&mut self.meter, bit) {
+            return Err(Halt::Fault(fault));
+        }
+        match self.characters(bit, alone, to, out) {
+            Ok(fragment) => Ok(fragment),
+            Err(Halt::Fault(fault)) => Err(halt_at_event(bit, fault)),
+            Err(Halt::Memory) => Err(Halt::Memory),
+            Err(Halt::Stopped) => Err(Halt::Stopped),
+        }
+    }
+
+    /// [`follow`](Stepper::follow), for characters of a datatype.
+    #[inline(always)]
+    fn follow_typed<E: EventOut>(
+        &mut self,
+        bit: u64,
+        alone: Alone,
+        datatype: &Datatype,
+        to: u32,
+        out: &mut E,
+    ) -> Result<Option<u64>, Halt>
+        requires room { HasRoom self.old.config }
+        requires levels { HasLevels self.old.config }
+        requires names { HasNames self.old.config (characters (represented datatype.now)) }
+        requires forms { HaveForm self.old.config.elements }
+        ensures hands { HandsAny E.took E.broke result self.new
+            (followed self.old.bytes bit (plan_on self.old.setting (alone_of alone) self.old.config (record { on = characters (represented datatype.now); to = to; inner = None }) (characters (represented datatype.now))) self.old.config) out.old out.new }
+        ensures setting { self.new.setting ≡ self.old.setting }
+        ensures bytes { self.new.bytes ≡ self.old.bytes }
+        ensures root { OnFault result (self.new.config.root ≡ self.old.config.root) }
+        ensures same { E.same out.old out.new }
+        ensures later { E.stops out.old ≤ E.stops out.new }
+        ensures stopped { IsErrOf result Halt.Stopped → Rose (E.stops out.old) (E.stops out.new) }
+    {
+        let charges = Charges::of(Content::Characters, alone, self.after_start);
+        if let Err(fault) = charges.pay(&mut self.meter, bit) {
+            return Err(Halt::Fault(fault));
+        }
+        match self.typed_characters(bit, alone, datatype, to, out) {
+            Ok(fragment) => Ok(fragment),
+            Err(Halt::Fault(fault)) => Err(halt_at_event(bit, fault)),
+            Err(Halt::Memory) => Err(Halt::Memory),
+            Err(Halt::Stopped) => Err(Halt::Stopped),
+        }
+    }
+
+    /// [`follow`](Stepper::follow), for an element's end.
+    #[inline(always)]
+    fn follow_end<E: EventOut>(
+        &mut self,
+        bit: u64,
+        alone: Alone,
+        to: u32,
+        out: &mut E,
+    ) -> Result<Option<u64>, Halt>
+        requires room { HasRoom self.old.config }
+        requires levels { HasLevels self.old.config }
+        requires names { HasNames self.old.config (end_element) }
+        requires forms { HaveForm self.old.config.elements }
+        ensures hands { HandsAny E.took E.broke result self.new
+            (followed self.old.bytes bit (plan_on self.old.setting (alone_of alone) self.old.config (record { on = end_element; to = to; inner = None }) (end_element)) self.old.config) out.old out.new }
+        ensures setting { self.new.setting ≡ self.old.setting }
+        ensures bytes { self.new.bytes ≡ self.old.bytes }
+        ensures root { OnFault result (self.new.config.root ≡ self.old.config.root) }
+        ensures same { E.same out.old out.new }
+        ensures later { E.stops out.old ≤ E.stops out.new }
+        ensures stopped { IsErrOf result Halt.Stopped → Rose (E.stops out.old) (E.stops out.new) }
+    {
+        let charges = Charges::of(Content::EndElement, alone, self.after_start);
+        if let Err(fault) = charges.pay(&mut self.meter, bit) {
+            return Err(Halt::Fault(fault));
+        }
+        match self.end_element(bit, alone, out) {
+            Ok(fragment) => Ok(fragment),
+            Err(Halt::Fault(fault)) => Err(halt_at_event(bit, fault)),
+            Err(Halt::Memory) => Err(Halt::Memory),
+            Err(Halt::Stopped) => Err(Halt::Stopped),
+        }
+    }
+
+    /// [`follow`](Stepper::follow), on a way of its own for each kind of event that is frequent: what hangs on the kind
+    /// is then known there.
+    #[inline(always)]
+    fn follow_by_kind<E: EventOut>(
+        &mut self,
+        bit: u64,
+        alone: Alone,
+        rule: Rule<'_>,
+        out: &mut E,
+    ) -> Result<Option<u64>, Halt>
+        requires room { HasRoom self.old.config }
+        requires levels { HasLevels self.old.config }
+        requires names { HasNames self.old.config (rule_in rule).on }
+        requires forms { HaveForm self.old.config.elements }
+        ensures hands { HandsAny E.took E.broke result self.new
+            (followed self.old.bytes bit (plan_on self.old.setting (alone_of alone) self.old.config (rule_in rule.entry) (rule_in rule.entry).on) self.old.config) out.old out.new }
+        ensures setting { self.new.setting ≡ self.old.setting }
+        ensures bytes { self.new.bytes ≡ self.old.bytes }
+        ensures root { OnFault result (self.new.config.root ≡ self.old.config.root) }
+        ensures same { E.same out.old out.new }
+        ensures later { E.stops out.old ≤ E.stops out.new }
+        ensures stopped { IsErrOf result Halt.Stopped → Rose (E.stops out.old) (E.stops out.new) }
+    {
+        match alone {
+            Alone::Nowhere => {}
+            Alone::AtStart | Alone::AtFirst | Alone::AtEnd => {
+                return self.follow_seldom(bit, alone, rule, out);
+            }
+        }
+        match rule.on {
+            Content::Element(telling) => {
+                self.follow_element(bit, alone, telling, rule.to, rule.inner, out)
+            }
+            Content::Attribute(telling, Valuing::Untyped) => {
+                self.follow_attribute(bit, alone, telling, Valuing::Untyped, None, rule.to, out)
+            }
+            Content::Attribute(_, Valuing::Typed | Valuing::ByName) => {
+                self.follow_seldom(bit, alone, rule, out)
+            }
+            Content::Characters => match rule.datatype {
+                None => self.follow_characters(bit, alone, rule.to, out),
+                Some(datatype) => self.follow_typed(bit, alone, datatype, rule.to, out),
+            },
+            Content::EndElement => self.follow_end(bit, alone, rule.to, out),
+            Content::StartDocument => {
+                self.follow_plain(bit, alone, Content::StartDocument, rule.to, out)
+            }
+            Content::EndDocument => {
+                self.follow_plain(bit, alone, Content::EndDocument, rule.to, out)
+            }
+            Content::Declaration => {
+                self.follow_plain(bit, alone, Content::Declaration, rule.to, out)
+            }
+            Content::SelfContained => {
+                self.follow_plain(bit, alone, Content::SelfContained, rule.to, out)
+            }
+            Content::Comment => { self.follow_plain(bit, alone, Content::Comment, rule.to, out) }
+            Content::Instruction => {
+                self.follow_plain(bit, alone, Content::Instruction, rule.to, out)
+            }
+            Content::DocumentType => {
+                self.follow_plain(bit, alone, Content::DocumentType, rule.to, out)
+            }
+            Content::Entity => { self.follow_plain(bit, alone, Content::Entity, rule.to, out) }
+        }
+    }
+
+    /// [`follow`](Stepper::follow), for a production of a built-in grammar, inside an element. Each kind that is frequent
+    /// is matched once, here.
+    #[inline(always)]
+    fn follow_built_in<E: EventOut>(
+        &mut self,
+        bit: u64,
+        room: Room,
+        production: Learnable,
+        out: &mut E,
+    ) -> Result<Option<u64>, Halt>
+        requires room { HasRoom self.old.config }
+        requires levels { HasLevels self.old.config }
+        requires names { HasNames self.old.config (built_in_terminal production) }
+        requires forms { HaveForm self.old.config.elements }
+        ensures hands { HandsAny E.took E.broke result self.new
+            (followed self.old.bytes bit (plan_on self.old.setting nowhere self.old.config (record { on = built_in_terminal production; to = state_behind room production; inner = None }) (built_in_terminal production)) self.old.config) out.old out.new }
+        ensures setting { self.new.setting ≡ self.old.setting }
+        ensures bytes { self.new.bytes ≡ self.old.bytes }
+        ensures root { OnFault result (self.new.config.root ≡ self.old.config.root) }
+        ensures same { E.same out.old out.new }
+        ensures later { E.stops out.old ≤ E.stops out.new }
+        ensures stopped { IsErrOf result Halt.Stopped → Rose (E.stops out.old) (E.stops out.new) }
+    {
+        let to = state_behind(room, production);
+        match production {
+            Learnable::Known(name, false) => {
+                self.follow_element(bit, Alone::Nowhere, Telling::Known(name), to, None, out)
+            }
+            Learnable::Known(name, true) => {
+                let telling = Telling::Known(name);
+                self.follow_attribute(
+                    bit,
+                    Alone::Nowhere,
+                    telling,
+                    Valuing::Untyped,
+                    None,
+                    to,
+                    out,
+                )
+            }
+            Learnable::Ch(_) => self.follow_characters(bit, Alone::Nowhere, to, out),
+            Learnable::Ee(_) => self.follow_end(bit, Alone::Nowhere, to, out),
+            Learnable::SeAny
+            | Learnable::AtAny
+            | Learnable::Ed
+            | Learnable::Ns
+            | Learnable::Sc
+            | Learnable::Er
+            | Learnable::Cm
+            | Learnable::Pi => {
+                let rule = Rule::of_built_in(production, to);
+                self.follow_seldom(bit, Alone::Nowhere, rule, out)
+            }
+        }
+    }
+
+    /// One event inside an element whose grammar is built in.
+    #[inline(always)]
+    fn built_in_step<E: EventOut>(
+        &mut self,
+        bit: u64,
+        room: Room,
+        out: &mut E,
+    ) -> Result<Option<u64>, Halt>
+        requires steady { IsSteady self.old }
+        requires bit { bit ≡ self.old.config.place }
+        requires room { IsRoom self.old.config.learned room }
+        requires rules { rules_of self.old.setting self.old.config ≡ built_in self.old.setting self.old.config.learned room }
+        requires inside { alone_in self.old.config.elements self.old.config.outer ≡ nowhere }
+        ensures hands { HandsAny E.took E.broke result self.new (one self.old.setting self.old.bytes self.old.config) out.old out.new }
+        ensures setting { self.new.setting ≡ self.old.setting }
+        ensures bytes { self.new.bytes ≡ self.old.bytes }
+        ensures root { OnFault result (self.new.config.root ≡ self.old.config.root) }
+        ensures same { E.same out.old out.new }
+        ensures later { E.stops out.old ≤ E.stops out.new }
+        ensures stopped { IsErrOf result Halt.Stopped → Rose (E.stops out.old) (E.stops out.new) }
+    {
+        match self.built_in_production(room) {
+            Ok(production) => self.follow_built_in(bit, room, production, out),
+            Err(fault) => Err(Halt::Fault(fault)),
+        }
+    }
+
+    /// One event, by any rule.
+    #[inline(always)]
+    fn any_step<E: EventOut>(&mut self, bit: u64, out: &mut E) -> Result<Option<u64>, Halt>
+        requires steady { IsSteady self.old }
+        requires bit { bit ≡ self.old.config.place }
+        ensures hands { HandsAny E.took E.broke result self.new (one self.old.setting self.old.bytes self.old.config) out.old out.new }
+        ensures setting { self.new.setting ≡ self.old.setting }
+        ensures bytes { self.new.bytes ≡ self.old.bytes }
+        ensures root { OnFault result (self.new.config.root ≡ self.old.config.root) }
+        ensures same { E.same out.old out.new }
+        ensures later { E.stops out.old ≤ E.stops out.new }
+        ensures stopped { IsErrOf result Halt.Stopped → Rose (E.stops out.old) (E.stops out.new) }
+    {
+        let alone = alone_in(&self.elements, self.outer);
+        let rule = match self.rule() {
+            Ok(rule) => rule,
+            Err(fault) => return Err(Halt::Fault(fault)),
+        };
+        self.follow_by_kind(bit, alone, rule, out)
+    }
+
     /// One event.
     #[inline(always)]
     pub fn step<E: EventOut>(&mut self, out: &mut E) -> Result<Option<u64>, Halt>
@@ -88,20 +578,12 @@ impl<'a, T: Tables + Drop> Stepper<'a, T> {
         ensures stopped { IsErrOf result Halt.Stopped → Rose (E.stops out.old) (E.stops out.new) }
     {
         let bit = self.input.at();
-        let rule = match self.rule() {
-            Ok(rule) => rule,
-            Err(fault) => return Err(Halt::Fault(fault)),
-        };
-        let alone = alone_in(&self.elements, self.outer);
-        let charges = Charges::of(rule.on, alone, self.after_start);
-        if let Err(fault) = charges.pay(&mut self.meter, bit) {
-            return Err(Halt::Fault(fault));
-        }
-        match self.content(bit, alone, rule, out) {
-            Ok(fragment) => Ok(fragment),
-            Err(Halt::Fault(fault)) => Err(Halt::Fault(at_event(bit, fault))),
-            Err(Halt::Memory) => Err(Halt::Memory),
-            Err(Halt::Stopped) => Err(Halt::Stopped),
+        match self.elements.innermost() {
+            Some(element) => match element.state {
+                State::BuiltIn(room) => self.built_in_step(bit, room, out),
+                State::Informed { .. } => self.any_step(bit, out),
+            },
+            None => self.any_step(bit, out),
         }
     }
 }

@@ -10,5 +10,5 @@ returns-clause-hands g c = (
   Some event.ee,
   rw (← c.self.view_is, c.close.ensures.elements, c.close.ensures.meter, c.in_ok-learn.ensures.ok)
       (made_by _ _ (element_end_plan (alone_of c.args.alone)) _ tt _ refl c.in_ok-refuse.ensures),
-  c.in_ok-see.ensures.ok,
+  c.in_ok-see_end.ensures.ok,
 )

@@ -9,7 +9,7 @@ use Rattle.exi_reader.specs.Handing.{Standing}
 use Rattle.exi_reader.proofs.Names.{name_kept}
 use Rattle.exi_reader.proofs.StepParts.{made_typing}
 use Rattle.exi_reader.proofs.Handed.{see_stops}
-use Rattle.exi_reader.proofs.stepper.Stepper.type_value.Goals as goal
+use Rattle.exi_reader.proofs.stepper.Stepper.type_value_apart.Goals as goal
 
 pub name_ref-requires-2 : goal.name_ref-requires-2
 name_ref-requires-2 g c =

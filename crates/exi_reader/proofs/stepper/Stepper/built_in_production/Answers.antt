@@ -1,11 +1,11 @@
-use Rattle.std.proofs.Common.{rules}
+use Rattle.std.proofs.Common.{refl, rules}
 use Rattle.exi_reader.proofs.CodeParts.{built_in_fails, built_in_picks}
-use Rattle.exi_reader.proofs.stepper.Stepper.built_in_rule.Goals as goal
+use Rattle.exi_reader.proofs.stepper.Stepper.built_in_production.Goals as goal
 
 pub returns : goal.returns
 returns g c = record {
   picks = (
-    rw (← c.self.view_is) (built_in_picks c.self.inside.book.now c.self.inside.overlay c.args.room _ _ _ _ _ (rw c.options-options.ensures.options at c.in-Ok.ensures.read) c.of_built_in.ensures c.state_behind.ensures c.in-Ok.ensures.bytes),
+    rw (← c.self.view_is) (built_in_picks c.self.inside.book.now c.self.inside.overlay c.args.room _ _ _ _ _ (rw c.options-options.ensures.options at c.in-Ok.ensures.read) refl refl c.in-Ok.ensures.bytes),
     search rules,
   );
 }
