@@ -85,7 +85,7 @@ plain_join s start mid end le more one two =
     ap (flat_map escaped) split ∙ flat_map-append escaped a b ∙ ap (λ (x : List ℕ). x ++ flat_map escaped b) one ∙ ap (λ (x : List ℕ). a ++ x) two ∙ sym split
 
 -- a byte that stops no run stands for itself
-stands_alone : (b : ℕ) → stops_run b ≡ false → escaped b ≡ b ∷ []
+pub stands_alone : (b : ℕ) → stops_run b ≡ false → escaped b ≡ b ∷ []
 stands_alone b h =
     elim (cases_Bool (eqb b 34)) [
       | inl q ↦ let k : stops_run b ≡ true = rw q refl in absurd (cc)

@@ -1,4 +1,4 @@
-//! Lines of plain texts, laid in a room of bytes: no copy needs a test of capacity, and none asks for memory.
+//! Lines of frequent events, laid in a room of bytes: no copy needs a test of capacity, and none asks for memory.
 
 ghost use Rattle.std.specs.Prelude.{◌≡◌, ◌≤◌, ◌<◌, ◌+◌, ◌*◌, ◌++◌, ◌∷◌, [], IsTrue, IfSome, length, take, drop, codes, encode_utf8_all};
 ghost use Rattle.std.specs.List.{flat_map};
@@ -6,11 +6,29 @@ ghost use Rattle.exi_names.specs.Shown.{named, shows};
 ghost use Rattle.exi_evtext.specs.Lines.{escaped, line_of, name_words, quoted};
 
 use crate::lay_value::lay_typed;
-use crate::quote::few_stand;
+use crate::quote::{
+    eights_stand, few_stand, fours_stand, is_plain, run_end, sixteens_stand, twos_stand,
+};
 use exi_names::{EventRef, NameRef, Txt, ValRef};
+use std::simd::prelude::*;
 
 /// How many bytes are looked at at once.
 const WIDE: usize = 16;
+
+/// How many bytes a text of few has at most.
+const NEAR: usize = 32;
+
+/// More bytes than the line of a frequent event takes whose texts have few each.
+const LINE: usize = 256;
+
+/// Which texts a line may have.
+#[derive(Clone, Copy, Debug)]
+enum Reach {
+    /// Those of few bytes that stand for themselves.
+    Near,
+    /// All.
+    Far,
+}
 
 /// A byte at a place of a room; the answer is the place behind it.
 #[inline(always)]
@@ -37,18 +55,30 @@ fn lay_bytes(room: &mut [u8], at: usize, bytes: &[u8]) -> usize
     end
 }
 
-/// Bytes at a place of a room by their two ends, which together hold all of them: copies of a known width are quick.
+/// The first bytes, `N` of them, at a place of a room: one load and one store.
 #[inline(always)]
-fn lay_ends(room: &mut [u8], at: usize, bytes: &[u8], width: usize) -> usize
+fn lay_front<const N: usize>(room: &mut [u8], at: usize, bytes: &[u8]) -> usize
+    requires { (N ≤ length bytes.now) × (at + N ≤ length room.old) }
+    ensures behind { result ≡ at + N }
+    ensures laid { take result room.new ≡ take at room.old ++ take N bytes.now }
+    ensures len { length room.new ≡ length room.old }
+{
+    Simd::<u8, N>::from_slice(bytes).copy_to_slice(&mut room[at..]);
+    at + N
+}
+
+/// Bytes at a place of a room by their two ends, which together hold all of them.
+#[inline(always)]
+fn lay_ends<const N: usize>(room: &mut [u8], at: usize, bytes: &[u8]) -> usize
     requires room { at + length bytes.now ≤ length room.old }
-    requires ends { (width ≤ length bytes.now) × (length bytes.now ≤ 2 * width) }
+    requires ends { (N ≤ length bytes.now) × (length bytes.now ≤ 2 * N) }
     ensures behind { result ≡ at + length bytes.now }
     ensures laid { take result room.new ≡ take at room.old ++ bytes.now }
     ensures len { length room.new ≡ length room.old }
 {
-    let front = bytes.len() - width;
-    lay_bytes(room, at, &bytes[..width]);
-    lay_bytes(room, at + front, &bytes[front..])
+    let back = bytes.len() - N;
+    lay_front::<N>(room, at, bytes);
+    lay_front::<N>(room, at + back, &bytes[back..])
 }
 
 /// Bytes at a place of a room, few at a time more quickly.
@@ -60,46 +90,79 @@ pub fn lay_run(room: &mut [u8], at: usize, bytes: &[u8]) -> usize
     ensures len { length room.new ≡ length room.old }
 {
     match bytes.len() {
-        8..=16 => lay_ends(room, at, bytes, 8),
-        17..=32 => lay_ends(room, at, bytes, 16),
-        4..=7 => lay_ends(room, at, bytes, 4),
-        2..=3 => lay_ends(room, at, bytes, 2),
-        1 => lay_ends(room, at, bytes, 1),
+        8..=16 => lay_ends::<8>(room, at, bytes),
+        17..=32 => lay_ends::<16>(room, at, bytes),
+        4..=7 => lay_ends::<4>(room, at, bytes),
+        2..=3 => lay_ends::<2>(room, at, bytes),
+        1 => lay_ends::<1>(room, at, bytes),
         0 => at,
         _ => lay_bytes(room, at, bytes),
     }
 }
 
-/// Whether the first bytes surely stand for themselves between quotes. Some behind them are looked at too, so that
-/// always as many are looked at at once.
+/// A text of few bytes that stand for themselves.
 #[inline(always)]
-fn first_stand(bytes: &[u8], count: usize) -> bool
-    requires { count + WIDE ≤ length bytes.now }
-    ensures { IsTrue result → flat_map escaped (take count bytes.now) ≡ take count bytes.now }
-{
-    let mut done = 0;
-    while done < count {
-        if !few_stand(&bytes[done..done + WIDE]) {
-            return false;
-        }
-        done += WIDE;
-    }
-    true
-}
-
-/// Spaces behind what is laid, so that what the room held there does not matter.
-#[inline(always)]
-fn blank_behind(room: &mut [u8], at: usize)
-    requires { at + WIDE ≤ length room.old }
-    ensures kept { take at room.new ≡ take at room.old }
+fn lay_near(room: &mut [u8], at: usize, bytes: &[u8]) -> Option<usize>
+    requires { at + NEAR ≤ length room.old }
     ensures len { length room.new ≡ length room.old }
+    ensures within { IfSome result (λ end. end ≤ at + NEAR) }
+    ensures laid { IfSome result (λ end. take end room.new ≡ take at room.old ++ flat_map escaped bytes.now) }
 {
-    lay_bytes(room, at, &[b' '; WIDE]);
+    match bytes.len() {
+        8..=16 if eights_stand(bytes) => Some(lay_ends::<8>(room, at, bytes)),
+        4..=7 if fours_stand(bytes) => Some(lay_ends::<4>(room, at, bytes)),
+        2..=3 if twos_stand(bytes) => Some(lay_ends::<2>(room, at, bytes)),
+        17..=32 if sixteens_stand(bytes) => Some(lay_ends::<16>(room, at, bytes)),
+        1 if few_stand(bytes) => Some(lay_ends::<1>(room, at, bytes)),
+        0 => Some(at),
+        _ => None,
+    }
 }
 
-/// A text, where it is plain and there is room for it and for more.
+/// What stands for a byte between quotes.
 #[inline(always)]
-fn lay_text(room: &mut [u8], at: usize, text: &Txt) -> Option<usize>
+fn lay_escaped(room: &mut [u8], at: usize, byte: u8) -> usize
+    requires { at + 2 ≤ length room.old }
+    ensures len { length room.new ≡ length room.old }
+    ensures within { (at ≤ result) × (result ≤ at + 2) }
+    ensures laid { take result room.new ≡ take at room.old ++ escaped byte }
+{
+    let letter = match byte {
+        b'"' | b'\\' => byte,
+        b'\n' => b'n',
+        b'\r' => b'r',
+        b'\t' => b't',
+        _ => return lay_byte(room, at, byte),
+    };
+    let at = lay_byte(room, at, b'\\');
+    lay_byte(room, at, letter)
+}
+
+/// Bytes between quotes, those that stand for themselves in runs.
+#[inline(never)]
+fn lay_runs(room: &mut [u8], at: usize, bytes: &[u8]) -> usize
+    requires { at + 2 * length bytes.now ≤ length room.old }
+    ensures len { length room.new ≡ length room.old }
+    ensures within { result ≤ at + 2 * length bytes.now }
+    ensures laid { take result room.new ≡ take at room.old ++ flat_map escaped bytes.now }
+{
+    let mut end = at;
+    let mut done = 0;
+    while done < bytes.len() {
+        let stop = run_end(bytes, done);
+        end = lay_bytes(room, end, &bytes[done..stop]);
+        if stop == bytes.len() {
+            return end;
+        }
+        end = lay_escaped(room, end, bytes[stop]);
+        done = stop + 1;
+    }
+    end
+}
+
+/// A text of any bytes, where there is room for twice as many and for more.
+#[inline(never)]
+fn lay_far(room: &mut [u8], at: usize, text: &Txt) -> Option<usize>
     requires { at ≤ length room.old }
     ensures len { length room.new ≡ length room.old }
     ensures more { IfSome result (λ end. end + WIDE ≤ length room.new) }
@@ -107,15 +170,31 @@ fn lay_text(room: &mut [u8], at: usize, text: &Txt) -> Option<usize>
 {
     let bytes = text.as_str().as_bytes();
     let left = room.len() - at;
-    if left < WIDE || bytes.len() > left - WIDE {
+    if left < WIDE || bytes.len() > (left - WIDE) / 2 {
         return None;
     }
-    let end = lay_run(room, at, bytes);
-    blank_behind(room, end);
-    if first_stand(&room[at..], bytes.len()) {
-        Some(end)
-    } else {
-        None
+    if is_plain(bytes) {
+        return Some(lay_run(room, at, bytes));
+    }
+    Some(lay_runs(room, at, bytes))
+}
+
+/// A text, where there is room for it and for more.
+#[inline(always)]
+fn lay_text(room: &mut [u8], at: usize, text: &Txt, reach: Reach) -> Option<usize>
+    requires { at ≤ length room.old }
+    ensures len { length room.new ≡ length room.old }
+    ensures more { IfSome result (λ end. end + WIDE ≤ length room.new) }
+    ensures laid { IfSome result (λ end. take end room.new ≡ take at room.old ++ flat_map escaped (encode_utf8_all text.now)) }
+{
+    match reach {
+        Reach::Near => {
+            if room.len() - at < NEAR + WIDE {
+                return None;
+            }
+            lay_near(room, at, text.as_str().as_bytes())
+        }
+        Reach::Far => lay_far(room, at, text),
     }
 }
 
@@ -146,7 +225,7 @@ pub fn lay_end(room: &mut [u8], at: usize) -> usize
 
 /// A text as a value, with the line's end.
 #[inline(always)]
-fn lay_value(room: &mut [u8], at: usize, text: &Txt) -> Option<usize>
+fn lay_value(room: &mut [u8], at: usize, text: &Txt, reach: Reach) -> Option<usize>
     requires { at + 6 ≤ length room.old }
     ensures len { length room.new ≡ length room.old }
     ensures more { IfSome result (λ end. end ≤ length room.new) }
@@ -154,13 +233,19 @@ fn lay_value(room: &mut [u8], at: usize, text: &Txt) -> Option<usize>
 {
     let at = lay_three(room, at, b't', b'e', b'x');
     let at = lay_three(room, at, b't', b' ', b'"');
-    let end = lay_text(room, at, text)?;
+    let end = lay_text(room, at, text, reach)?;
     Some(lay_end(room, end))
 }
 
 /// A name behind a word, but for the quote that closes it.
 #[inline(always)]
-fn lay_name(room: &mut [u8], first: u8, second: u8, name: &NameRef<'_>) -> Option<usize>
+fn lay_name(
+    room: &mut [u8],
+    first: u8,
+    second: u8,
+    name: &NameRef<'_>,
+    reach: Reach,
+) -> Option<usize>
     requires { WIDE ≤ length room.old }
     ensures len { length room.new ≡ length room.old }
     ensures more { IfSome result (λ end. end + WIDE ≤ length room.new) }
@@ -168,13 +253,13 @@ fn lay_name(room: &mut [u8], first: u8, second: u8, name: &NameRef<'_>) -> Optio
 {
     let at = lay_three(room, 0, first, second, b' ');
     let at = lay_byte(room, at, b'"');
-    let end = lay_text(room, at, name.uri)?;
+    let end = lay_text(room, at, name.uri, reach)?;
     let at = lay_three(room, end, b'"', b' ', b'"');
-    let end = lay_text(room, at, name.local)?;
+    let end = lay_text(room, at, name.local, reach)?;
     match name.prefix {
         Some(prefix) => {
             let at = lay_three(room, end, b'"', b' ', b'"');
-            lay_text(room, at, prefix)
+            lay_text(room, at, prefix, Reach::Far)
         }
         None => Some(end),
     }
@@ -182,47 +267,64 @@ fn lay_name(room: &mut [u8], first: u8, second: u8, name: &NameRef<'_>) -> Optio
 
 /// The line of an element's beginning.
 #[inline(always)]
-fn lay_start(room: &mut [u8], name: &NameRef<'_>) -> Option<usize>
+fn lay_start(room: &mut [u8], name: &NameRef<'_>, reach: Reach) -> Option<usize>
     requires { WIDE ≤ length room.old }
     ensures len { length room.new ≡ length room.old }
     ensures more { IfSome result (λ end. end ≤ length room.new) }
     ensures laid { IfSome result (λ end. take end room.new ≡ codes "SE " ++ name_words (named name.now) ++ 10 ∷ []) }
 {
-    let end = lay_name(room, b'S', b'E', name)?;
+    let end = lay_name(room, b'S', b'E', name, reach)?;
     Some(lay_end(room, end))
 }
 
 /// The line of an attribute with a text.
 #[inline(always)]
-fn lay_attribute(room: &mut [u8], name: &NameRef<'_>, text: &Txt) -> Option<usize>
+fn lay_attribute(room: &mut [u8], name: &NameRef<'_>, text: &Txt, reach: Reach) -> Option<usize>
     requires { WIDE ≤ length room.old }
     ensures len { length room.new ≡ length room.old }
     ensures more { IfSome result (λ end. end ≤ length room.new) }
     ensures laid { IfSome result (λ end. take end room.new ≡ codes "AT " ++ name_words (named name.now) ++ 32 ∷ (codes "text " ++ quoted text.now) ++ 10 ∷ []) }
 {
-    let end = lay_name(room, b'A', b'T', name)?;
+    let end = lay_name(room, b'A', b'T', name, reach)?;
     let at = lay_byte(room, end, b'"');
     let at = lay_byte(room, at, b' ');
-    lay_value(room, at, text)
+    lay_value(room, at, text, reach)
 }
 
 /// The line of characters.
 #[inline(always)]
-fn lay_characters(room: &mut [u8], text: &Txt) -> Option<usize>
+fn lay_characters(room: &mut [u8], text: &Txt, reach: Reach) -> Option<usize>
     requires { WIDE ≤ length room.old }
     ensures len { length room.new ≡ length room.old }
     ensures more { IfSome result (λ end. end ≤ length room.new) }
     ensures laid { IfSome result (λ end. take end room.new ≡ codes "CH text " ++ quoted text.now ++ 10 ∷ []) }
 {
     let at = lay_three(room, 0, b'C', b'H', b' ');
-    lay_value(room, at, text)
+    lay_value(room, at, text, reach)
 }
 
-/// Lays the line of an event at the front of a room, and answers where it ends. There is none where the room is too small,
-/// or a text has what is escaped, or the event is none of the most frequent; what the room then holds is not told.
+/// The line of a frequent event whose texts are of this reach.
 #[inline(always)]
 #[tactic(auto, unfolding(crate::specs::Lines::line_of))]
-pub fn lay_event(room: &mut [u8], event: &EventRef<'_>) -> Option<usize>
+fn lay_frequent(room: &mut [u8], event: &EventRef<'_>, reach: Reach) -> Option<usize>
+    requires { WIDE ≤ length room.old }
+    ensures len { length room.new ≡ length room.old }
+    ensures within { IfSome result (λ end. end ≤ length room.new) }
+    ensures line { IfSome result (λ end. take end room.new ≡ line_of (shows event.now)) }
+{
+    match event {
+        EventRef::Se(name) => lay_start(room, name, reach),
+        EventRef::Ee => Some(lay_three(room, 0, b'E', b'E', b'\n')),
+        EventRef::At(name, ValRef::Text(text)) => lay_attribute(room, name, text, reach),
+        EventRef::Ch(ValRef::Text(text)) => lay_characters(room, text, reach),
+        _ => None,
+    }
+}
+
+/// The line of an event with a text that is not of few plain bytes, or with characters that are an integer, octets or a date.
+#[inline(never)]
+#[tactic(auto, unfolding(crate::specs::Lines::line_of))]
+fn lay_other(room: &mut [u8], event: &EventRef<'_>) -> Option<usize>
     ensures len { length room.new ≡ length room.old }
     ensures within { IfSome result (λ end. end ≤ length room.new) }
     ensures line { IfSome result (λ end. take end room.new ≡ line_of (shows event.now)) }
@@ -231,11 +333,23 @@ pub fn lay_event(room: &mut [u8], event: &EventRef<'_>) -> Option<usize>
         return None;
     }
     match event {
-        EventRef::Se(name) => lay_start(room, name),
-        EventRef::Ee => Some(lay_three(room, 0, b'E', b'E', b'\n')),
-        EventRef::At(name, ValRef::Text(text)) => lay_attribute(room, name, text),
-        EventRef::Ch(ValRef::Text(text)) => lay_characters(room, text),
         EventRef::Ch(ValRef::Any(value)) => lay_typed(room, value),
-        _ => None,
+        _ => lay_frequent(room, event, Reach::Far),
     }
+}
+
+/// Lays the line of an event at the front of a room, and answers where it ends. There is none where the room is too small,
+/// or the event is none of the most frequent; what the room then holds is not told.
+#[inline(always)]
+pub fn lay_event(room: &mut [u8], event: &EventRef<'_>) -> Option<usize>
+    ensures len { length room.new ≡ length room.old }
+    ensures within { IfSome result (λ end. end ≤ length room.new) }
+    ensures line { IfSome result (λ end. take end room.new ≡ line_of (shows event.now)) }
+{
+    if room.len() >= LINE {
+        if let Some(end) = lay_frequent(room, event, Reach::Near) {
+            return Some(end);
+        }
+    }
+    lay_other(room, event)
 }

@@ -25,8 +25,8 @@
 //! name "u" "local" "p"        a name: URI, local name, and the prefix where there is one
 //! ```
 //!
-//! Runs of characters that stand for themselves are copied at once. The most frequent lines, where their texts hold no
-//! others, are laid in a room that the caller has, with no test of capacity behind each part.
+//! Runs of characters that stand for themselves are copied at once. The most frequent lines are laid in a room that the
+//! caller has, with no test of capacity behind each part; texts of few bytes are tested while they are copied.
 #![tactic(auto)]
 
 mod cursor;

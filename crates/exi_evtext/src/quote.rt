@@ -9,6 +9,7 @@ ghost use Rattle.exi_evtext.specs.Lines.{also, escaped, name_words, quoted};
 use crate::run::run_width;
 use exi_names::{NameRef, Txt};
 use std::alloc::AllocError;
+use std::simd::prelude::*;
 
 /// What stands for a byte between quotes, where it may not stand for itself.
 fn escape(byte: u8) -> Option<&'static str>
@@ -58,11 +59,77 @@ pub fn few_stand(bytes: &[u8]) -> bool
     usize::from(standing) == bytes.len()
 }
 
+/// Whether sixteen bytes surely stand for themselves between quotes.
+#[inline(always)]
+fn lanes_stand(lanes: u8x16) -> bool
+    ensures { IsTrue result → flat_map escaped lanes ≡ lanes }
+{
+    let marks = lanes.simd_eq(u8x16::splat(b'"')) | lanes.simd_eq(u8x16::splat(b'\\'));
+    (marks | lanes.simd_lt(u8x16::splat(b' '))).to_bitmask() == 0
+}
+
+/// The same of eight.
+#[inline(always)]
+fn eight_lanes_stand(lanes: u8x8) -> bool
+    ensures { IsTrue result → flat_map escaped lanes ≡ lanes }
+{
+    lanes_stand(lanes.shuffle(
+        lanes,
+        [0, 1, 2, 3, 4, 5, 6, 7, 8, 9, 10, 11, 12, 13, 14, 15],
+    ))
+}
+
+/// Whether two to four bytes surely stand for themselves between quotes, looked at from both ends.
+#[inline(always)]
+pub fn twos_stand(bytes: &[u8]) -> bool
+    requires few { (2 ≤ length bytes.now) × (length bytes.now ≤ 4) }
+    ensures { IsTrue result → flat_map escaped bytes.now ≡ bytes.now }
+{
+    let front = u8x2::from_slice(bytes);
+    let back = u8x2::from_slice(&bytes[bytes.len() - 2..]);
+    let both: u8x4 = front.shuffle(back, [0, 1, 2, 3]);
+    eight_lanes_stand(both.shuffle(both, [0, 1, 2, 3, 4, 5, 6, 7]))
+}
+
+/// The same of four to eight.
+#[inline(always)]
+pub fn fours_stand(bytes: &[u8]) -> bool
+    requires few { (4 ≤ length bytes.now) × (length bytes.now ≤ 8) }
+    ensures { IsTrue result → flat_map escaped bytes.now ≡ bytes.now }
+{
+    let front = u8x4::from_slice(bytes);
+    let back = u8x4::from_slice(&bytes[bytes.len() - 4..]);
+    eight_lanes_stand(front.shuffle(back, [0, 1, 2, 3, 4, 5, 6, 7]))
+}
+
+/// The same of eight to sixteen.
+#[inline(always)]
+pub fn eights_stand(bytes: &[u8]) -> bool
+    requires few { (8 ≤ length bytes.now) × (length bytes.now ≤ 16) }
+    ensures { IsTrue result → flat_map escaped bytes.now ≡ bytes.now }
+{
+    let front = u8x8::from_slice(bytes);
+    let back = u8x8::from_slice(&bytes[bytes.len() - 8..]);
+    lanes_stand(front.shuffle(back, [0, 1, 2, 3, 4, 5, 6, 7, 8, 9, 10, 11, 12, 13, 14, 15]))
+}
+
+/// The same of sixteen to 32.
+#[inline(always)]
+pub fn sixteens_stand(bytes: &[u8]) -> bool
+    requires few { (16 ≤ length bytes.now) × (length bytes.now ≤ 32) }
+    ensures { IsTrue result → flat_map escaped bytes.now ≡ bytes.now }
+{
+    if !few_stand(&bytes[..16]) {
+        return false;
+    }
+    few_stand(&bytes[bytes.len() - 16..])
+}
+
 /// How many bytes are few.
 const FEW: usize = 16;
 
 /// Whether all bytes surely stand for themselves between quotes. The last few are looked at together, some of them once more.
-fn is_plain(bytes: &[u8]) -> bool
+pub fn is_plain(bytes: &[u8]) -> bool
     ensures { IsTrue result → flat_map escaped bytes.now ≡ bytes.now }
 {
     let count = bytes.len();
@@ -92,7 +159,7 @@ fn push_escaped(out: &mut String, text: &str) -> Result<(), AllocError>
 }
 
 /// The end of the bytes from a place on that stand for themselves.
-fn run_end(bytes: &[u8], from: usize) -> usize
+pub fn run_end(bytes: &[u8], from: usize) -> usize
     requires { from ≤ length bytes.now }
     ensures behind { from ≤ result }
     ensures within { result ≤ length bytes.now }
