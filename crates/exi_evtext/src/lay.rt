@@ -338,18 +338,29 @@ fn lay_other(room: &mut [u8], event: &EventRef<'_>) -> Option<usize>
     }
 }
 
+/// Lays the line of an event at the front of a room, as [`lay_event`] does, where the event is a frequent one and each of
+/// its texts has few bytes, of which none is escaped, and the room has 256 bytes or more. There is none for any other.
+#[inline(always)]
+pub fn lay_short(room: &mut [u8], event: &EventRef<'_>) -> Option<usize>
+    ensures len { length room.new ≡ length room.old }
+    ensures within { IfSome result (λ end. end ≤ length room.new) }
+    ensures line { IfSome result (λ end. take end room.new ≡ line_of (shows event.now)) }
+{
+    if room.len() < LINE {
+        return None;
+    }
+    lay_frequent(room, event, Reach::Near)
+}
+
 /// Lays the line of an event at the front of a room, and answers where it ends. There is none where the room is too small,
 /// or the event is none of the most frequent; what the room then holds is not told.
-#[inline(always)]
 pub fn lay_event(room: &mut [u8], event: &EventRef<'_>) -> Option<usize>
     ensures len { length room.new ≡ length room.old }
     ensures within { IfSome result (λ end. end ≤ length room.new) }
     ensures line { IfSome result (λ end. take end room.new ≡ line_of (shows event.now)) }
 {
-    if room.len() >= LINE {
-        if let Some(end) = lay_frequent(room, event, Reach::Near) {
-            return Some(end);
-        }
+    if let Some(end) = lay_short(room, event) {
+        return Some(end);
     }
     lay_other(room, event)
 }

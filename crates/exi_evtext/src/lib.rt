@@ -47,7 +47,7 @@ mod scalar;
 mod stop;
 mod value;
 
-pub use lay::lay_event;
+pub use lay::{lay_event, lay_short};
 pub use lines::EventLines;
 pub use parse::parse_events;
 pub use print::{print_event, push_event};

@@ -59,6 +59,20 @@ impl Elements {
         ensures ok { OnOk result (self.new ≡ element ∷ self.old) }
         ensures err { OnErr result (self.new ≡ self.old) }
     {
+        if self.items.len() < self.items.capacity() {
+            self.items.push_reserved(element);
+            return Ok(());
+        }
+        self.open_apart(element)
+    }
+
+    /// One more is open, where room for it is asked for.
+    #[cold]
+    #[inline(never)]
+    fn open_apart(&mut self, element: Element) -> Result<(), AllocError>
+        ensures ok { OnOk result (self.new ≡ element ∷ self.old) }
+        ensures err { OnErr result (self.new ≡ self.old) }
+    {
         self.items.push(element)?;
         Ok(())
     }

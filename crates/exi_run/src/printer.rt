@@ -5,7 +5,7 @@ ghost use Rattle.exi_names.specs.Shown.{shows};
 ghost use Rattle.exi_run.specs.Printing.{Prints, BreaksOff, PrintsEvent, PutsLine, prints_none, prints_more};
 ghost use Rattle.exi_run.specs.declared.form.Form.TheVariants as form;
 
-use exi_evtext::{lay_event, push_event};
+use exi_evtext::{lay_event, lay_short, push_event};
 use exi_names::{EventOut, EventRef, PushStop};
 use exi_ports::{Lay, Sink, SinkStop};
 
@@ -22,7 +22,22 @@ pub(crate) struct TextPrinter<'a, O: Sink> {
 
 impl<'a, O: Sink> TextPrinter<'a, O> {
     /// The line of an event goes to the sink.
+    #[inline(always)]
     fn print(&mut self, event: &EventRef<'_>) -> Result<(), PushStop>
+        ensures printed { PrintsEvent form.Text (shows event.now) result (O.taken self.old.out.now) (O.faults self.old.out.now) (O.taken self.new.out.now) (O.faults self.new.out.now) }
+        ensures same { self.new.out.ghost_name ≡ self.old.out.ghost_name }
+        ensures later { self.old.stops ≤ self.new.stops }
+        ensures stopped { IsErrOf result PushStop.Stopped → Rose self.old.stops self.new.stops }
+    {
+        if self.out.lay(&ShortLine { event }) {
+            return Ok(());
+        }
+        self.print_any(event)
+    }
+
+    /// The same, apart: the way of a short line keeps nothing for it.
+    #[inline(never)]
+    fn print_any(&mut self, event: &EventRef<'_>) -> Result<(), PushStop>
         ensures printed { PrintsEvent form.Text (shows event.now) result (O.taken self.old.out.now) (O.faults self.old.out.now) (O.taken self.new.out.now) (O.faults self.new.out.now) }
         ensures same { self.new.out.ghost_name ≡ self.old.out.ghost_name }
         ensures later { self.old.stops ≤ self.new.stops }
@@ -76,6 +91,24 @@ impl<'a> Lay for Line<'a> {
     #[inline(always)]
     fn lay(&self, room: &mut [u8]) -> Option<usize> {
         lay_event(room, self.event)
+    }
+}
+
+/// The short line of a frequent event, laid where it waits.
+#[derive(Drop)]
+struct ShortLine<'a> {
+    event: &'a EventRef<'a>,
+}
+
+impl<'a> Lay for ShortLine<'a> {
+    ghost use Rattle.exi_evtext.specs.Lines.{line_of};
+    ghost use Rattle.exi_names.specs.Shown.{shows};
+
+    ghost bytes = { λ l. line_of (shows l.event.now) };
+
+    #[inline(always)]
+    fn lay(&self, room: &mut [u8]) -> Option<usize> {
+        lay_short(room, self.event)
     }
 }
 
