@@ -1,9 +1,13 @@
 -- What is written, and what stands in the tables afterwards.
-use Rattle.std.proofs.Common.{◌≡◌, ℕ, ◌-◌, ◌<◌, ◌^◌, List, [], length, Option, Some, None, refl, sym, arith, inl, inr, Bool, ◌++◌, Result, Ok, Err, OnErr}
+use Rattle.std.proofs.Common.{◌≡◌, ℕ, ◌+◌, ◌-◌, ◌%◌, ◌<◌, ◌^◌, ◌∙◌, ap, List, [], ◌∷◌, length, Option, Some, None, refl, sym, arith, inl, inr, Bool, ◌++◌, Result, Ok, Err, OnErr}
 use Rattle.std.specs.Prelude.{IfSome}
 use Rattle.std.proofs.lemmas.List.{append-nil}
 use Rattle.std.proofs.lemmas.Option.{slice_get_within}
+use Rattle.std.proofs.Math.Nat.{div-eq_of_lt, mod-eq_of_lt}
+use Rattle.exi_bits.specs.Bits.{bits, number_bits}
+use Rattle.exi_bits.specs.Unsigned.{groups, shortest}
 use Rattle.exi_bits.specs.Widths.{width_for}
+use Rattle.exi_bits.proofs.BitLaws.{number_bits-add, one_byte, pow_up}
 use Rattle.exi_tables.specs.Growth.{NoneLonger}
 use Rattle.exi_tables.specs.Partitions.{IsName, Partitions, least_place, locals, prefixes, uris, with_local, with_uri}
 use Rattle.exi_tables.proofs.Least.{least_found}
@@ -20,6 +24,22 @@ use Rattle.exi_typed.proofs.NewSpaces.{local_ends, locals_in_context, prefixes_i
 -- a place below the count fits its width
 pub fits : (count place : ℕ) → place < count → place < 2 ^ width_for count
 fits count place lt = let h = width_covers count in omega arith
+
+pub wider : (w v : ℕ) → v < 2 ^ w → v < 2 ^ (w + 8)
+wider w v less = let up = pow_up w (w + 8) (omega arith) in omega (arith, less)
+
+zero_octet : shortest 0 ≡ 0 ∷ []
+unfolding groups
+zero_octet = refl
+
+-- behind an octet 0, as one number of both
+pub behind_zero : (w v : ℕ) → v < 2 ^ w → number_bits (w + 8) v ≡ bits (shortest 0) ++ number_bits w v
+behind_zero w v less =
+    let flip : w + 8 ≡ 8 + w = omega arith in
+    let all : v < 2 ^ (8 + w) = rw (← flip) (wider w v less) in
+    ap (λ (n : ℕ). number_bits n v) flip ∙ number_bits-add 8 w v all
+    ∙ ap (λ (n : ℕ). number_bits 8 n ++ number_bits w (v % 2 ^ w)) (div-eq_of_lt less) ∙ ap (λ (n : ℕ). number_bits 8 0 ++ number_bits w n) (mod-eq_of_lt less)
+    ∙ ap (λ (z : List Bool). z ++ number_bits w v) (sym (one_byte 0) ∙ ap bits (sym zero_octet))
 
 -- the least place of a text is below the count
 pub least_within : (texts : List (List ℕ)) (text : List ℕ) (o : Option ℕ) → o ≡ least_place texts text → IfSome o (λ i. i < length texts)

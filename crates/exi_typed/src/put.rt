@@ -1,6 +1,7 @@
 ghost use Rattle.std.specs.Prelude.{◌≡◌, ◌+◌, ◌++◌, ◌<◌, ◌≤◌, ◌^◌, IfSome, IsTrue, OnOk, OnErr};
 ghost use Rattle.std.specs.Option.{option_copied};
-ghost use Rattle.exi_bits.specs.Bits.{number};
+ghost use Rattle.exi_bits.specs.Bits.{bits, number};
+ghost use Rattle.exi_bits.specs.Unsigned.{shortest};
 ghost use Rattle.exi_bits.specs.Widths.{width_for};
 ghost use Rattle.exi_bits.specs.Written.{IsWholeBytes};
 ghost use Rattle.exi_items.specs.Fronts.{HoldsFront};
@@ -21,6 +22,23 @@ pub fn put_place(out: &mut BitOut, place: u64, count: u64, align: Align) -> Resu
     ensures aligned { IsWholeBytes align out.new }
 {
     out.put(place, bits_for(count), align)
+}
+
+/// Adds an octet 0 and a place among so many. One number of both is written where nothing is aligned and it is no
+/// wider than 64 bits.
+pub fn put_known(out: &mut BitOut, place: u64, count: u64, align: Align) -> Result<(), AllocError>
+    requires within { place < count }
+    requires aligned { IsWholeBytes align out.old }
+    ensures ok { OnOk result (out.new ≡ out.old ++ (bits (shortest 0) ++ number (width_for count) align place)) }
+    ensures err { OnErr result (HoldsFront out.old (bits (shortest 0) ++ number (width_for count) align place) out.new) }
+    ensures aligned { IsWholeBytes align out.new }
+{
+    let width = bits_for(count);
+    if align == Align::Bits && width <= 56 {
+        return out.put(place, width + 8, Align::Bits);
+    }
+    out.unsigned(0)?;
+    put_place(out, place, count, align)
 }
 
 /// Writes a literal: its length in characters, and its characters (EXI 1.0, section 7.1.10). Each has to be an XML
@@ -109,7 +127,5 @@ pub fn put_listed(
     let Some(place) = place else {
         return put_spelled(alloc, out, text, 1, None, align);
     };
-    out.unsigned(0)?;
-    put_place(out, u64::from(place), u64::from(count), align)?;
-    Ok(())
+    put_known(out, u64::from(place), u64::from(count), align)
 }

@@ -12,7 +12,7 @@ ghost use Rattle.exi_typed.specs.ReadStates.{MayHaveUri};
 ghost use Rattle.exi_typed.specs.Items.{IsTabled};
 ghost use Rattle.exi_typed.specs.Written.{after_item, after_string, is_xml_value, item_bits, own_place, string_bits};
 
-use crate::put::{put_place, put_spelled};
+use crate::put::{put_known, put_place, put_spelled};
 use crate::write_names::write_name;
 use exi_bits::{Align, BitOut};
 use exi_names::{Alphabet, Datatype, NameId, Txt, Val};
@@ -71,9 +71,7 @@ pub fn write_string<T: Tables>(
 {
     if let Some(place) = own_place(tables, name, text) {
         let count = tables.name_values(name);
-        out.unsigned(0)?;
-        put_place(out, u64::from(place), u64::from(count), align)?;
-        return Ok(());
+        return put_known(out, u64::from(place), u64::from(count), align);
     }
     if let Some(place) = value_place(tables, text) {
         let count = tables.values();
