@@ -321,10 +321,11 @@ fn lay_frequent(room: &mut [u8], event: &EventRef<'_>, reach: Reach) -> Option<u
     }
 }
 
-/// The line of an event with a text that is not of few plain bytes, or with characters that are an integer, octets or a date.
+/// Lays the line of an event at the front of a room, and answers where it ends. There is none where the room is too small,
+/// or the event is none of the most frequent; what the room then holds is not told.
 #[inline(never)]
 #[tactic(auto, unfolding(crate::specs::Lines::line_of))]
-fn lay_other(room: &mut [u8], event: &EventRef<'_>) -> Option<usize>
+pub fn lay_event(room: &mut [u8], event: &EventRef<'_>) -> Option<usize>
     ensures len { length room.new ≡ length room.old }
     ensures within { IfSome result (λ end. end ≤ length room.new) }
     ensures line { IfSome result (λ end. take end room.new ≡ line_of (shows event.now)) }
@@ -350,17 +351,4 @@ pub fn lay_short(room: &mut [u8], event: &EventRef<'_>) -> Option<usize>
         return None;
     }
     lay_frequent(room, event, Reach::Near)
-}
-
-/// Lays the line of an event at the front of a room, and answers where it ends. There is none where the room is too small,
-/// or the event is none of the most frequent; what the room then holds is not told.
-pub fn lay_event(room: &mut [u8], event: &EventRef<'_>) -> Option<usize>
-    ensures len { length room.new ≡ length room.old }
-    ensures within { IfSome result (λ end. end ≤ length room.new) }
-    ensures line { IfSome result (λ end. take end room.new ≡ line_of (shows event.now)) }
-{
-    if let Some(end) = lay_short(room, event) {
-        return Some(end);
-    }
-    lay_other(room, event)
 }
