@@ -14,7 +14,7 @@ use indexmap::IndexMap;
 use std::alloc::{AllocError, Global};
 use std::marker::Model;
 
-/// How many of the latest productions are compared with a name before it is looked up by hash: for few that is less work.
+/// How many productions are compared with a name one by one. Among more it is looked up by hash.
 const COMPARED: u32 = 8;
 
 /// A name by which a place is kept.
@@ -101,11 +101,14 @@ impl LearnedList {
         self.items[self.items.len() - 1 - code as usize]
     }
 
-    /// The code of the production of a name, the least where there are several. The latest few are compared one by one.
+    /// The code of the production of a name, the least where there are several. Where there are few they are compared one by one.
     #[inline(never)]
     fn code_of_name(&self, name: NameId, attribute: bool) -> Option<u32>
         ensures { result ≡ first_place (is_named name attribute) self.now }
     {
+        if self.len() > COMPARED {
+            return self.kept_code(name, attribute);
+        }
         for code in 0..COMPARED {
             match self.at(code) {
                 Some(production) => {

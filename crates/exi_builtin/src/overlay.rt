@@ -205,7 +205,7 @@ impl Overlay {
 
     /// The code of a production in a state (EXI 1.0, section 6.2), the least where it was learned more than
     /// once, and none where the state does not have it. The number of the state has to be one that
-    /// [`Overlay::grammar`] gave. Of what was learned, the latest few are looked at, and no memory is taken.
+    /// [`Overlay::grammar`] gave. What was learned is walked only where it is little, and no memory is taken.
     #[inline(always)]
     pub fn code_of(&self, room: Room, production: Learnable, options: &Options) -> Option<Code>
         requires { IsRoom self.now room }
