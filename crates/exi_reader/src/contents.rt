@@ -41,6 +41,7 @@ use crate::parts::{
 };
 use crate::rule::Telling;
 use crate::stepper::Stepper;
+use exi_bits::Stop;
 use exi_builtin::Learned;
 use exi_names::{Datatype, EventOut, EventRef};
 use exi_tables::Tables;
@@ -244,7 +245,7 @@ impl<'a, T: Tables + Drop> Stepper<'a, T> {
         learn(&mut self.overlay, &self.elements, self.outer, Learned::Ch)?;
         self.after_start = false;
         go_to(&mut self.elements, &mut self.outer, to);
-        let value = typed_value(
+        let read = typed_value(
             self.alloc,
             self.book,
             &mut self.input,
@@ -252,10 +253,17 @@ impl<'a, T: Tables + Drop> Stepper<'a, T> {
             name,
             &mut self.tables,
             &mut self.meter,
-        )?;
-        alone.refuse(bit)?;
-        see_characters(&value, out)?;
-        Ok(None)
+        );
+        // A value is large: it is looked at where it was answered.
+        match &read {
+            Ok(value) => {
+                alone.refuse(bit)?;
+                see_characters(value, out)?;
+                Ok(None)
+            }
+            Err(Stop::Fault(fault)) => Err(Halt::Fault(*fault)),
+            Err(Stop::Memory) => Err(Halt::Memory),
+        }
     }
 
     /// EE.

@@ -7,12 +7,12 @@ use Rattle.exi_reader.specs.Plans.{characters_plan}
 use Rattle.exi_reader.proofs.StepParts.{made_by}
 use Rattle.exi_reader.proofs.stepper.Stepper.typed_characters.Goals as goal
 
-pub returns-clause-hands : goal.returns-clause-hands
-returns-clause-hands g c = (
-  Some (event.ch (seen c.in_ok-value.value)),
+pub returns-in-Ok-clause-hands : goal.returns-in-Ok-clause-hands
+returns-in-Ok-clause-hands g c = (
+  Some (event.ch (seen c.in-Ok.value)),
   rw (← c.self.view_is, c.go_to.ensures.elements, c.go_to.ensures.outer, c.in_ok-learn.ensures.ok)
-      (made_by _ _ (characters_plan c.self.inside.book.now (alone_of c.args.alone) c.self.inside.elements (represented c.args.datatype.now) (leading_to c.args.to)) _ (seen c.in_ok-value.value) _
-      (rw (c.innermost-name.ensures) at c.in_ok-value.ensures.read)
-      c.in_ok-refuse.ensures),
-  c.in_ok-see_characters.ensures.ok,
+      (made_by _ _ (characters_plan c.self.inside.book.now (alone_of c.args.alone) c.self.inside.elements (represented c.args.datatype.now) (leading_to c.args.to)) _ (seen c.in-Ok.value) _
+      (rw (c.in-Ok.is, c.innermost-name.ensures) at c.typed_value-read.ensures.read)
+      c.in_ok-refuse-in-Ok.ensures),
+  c.in_ok-see_characters-in-Ok.ensures.ok,
 )
