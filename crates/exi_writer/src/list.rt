@@ -31,6 +31,7 @@ fn fault_at(event: u64, stop: PutStop) -> WriteFault
 }
 
 /// Writes one event of a list, and goes into the fragment that it begins.
+#[inline(always)]
 fn put_one<T: Tables + Drop, L: Ledger>(
     writer: &mut Writer<'_, T>,
     event: &Event,
