@@ -77,12 +77,11 @@ pub fn add_plain(input: &mut BitIn<'_>, text: &mut Txt, most: u64) -> Result<u64
     let Some(word) = input.take(64, Align::Bits) else {
         return Ok(0);
     };
-    let all = word.to_be_bytes();
+    let octets = word.to_be_bytes();
     if most >= 8 && is_plain_word(word) {
-        text.push_ascii(&all)?;
+        text.push_ascii(&octets)?;
         return Ok(8);
     }
-    let octets = word.to_be_bytes();
     let run = plain_front(&octets, most.min(7) as usize);
     let behind = input.at();
     input.go_to_bit(behind - (8 - run as u64) * 8);

@@ -222,7 +222,9 @@ fn codes_added(input: &mut BitIn<'_>, text: &mut Txt, count: u64) -> bool
     ensures bytes { input.new.bytes ≡ input.old.bytes }
     ensures phase { input.new.place % 8 ≡ input.old.place % 8 }
 {
-    // A few of them may take more than an octet.
+    // A text is kept as bytes of UTF-8, two or more for a character that is not ASCII. With a sixteenth more
+    // than an octet each, a text with a few of them does not grow, which would copy it. The room is not given
+    // back: the text keeps it.
     let room = count.saturating_add(count / 16);
     let Ok(()) = text.reserve(room as usize) else {
         return false;
@@ -236,8 +238,9 @@ fn codes_added(input: &mut BitIn<'_>, text: &mut Txt, count: u64) -> bool
     others_added(input, text, count - run)
 }
 
-/// The characters by their code points, charged once they are read. None where that way meets a stop of any
-/// kind, or where they surely do not fit the bits that are left; nothing moves and nothing is charged then.
+/// Charges the characters, and reads them by their code points. None where the meter does not take them, where
+/// they surely do not fit the bits that are left, or where that way meets a stop of any kind; nothing moves and
+/// nothing is charged then.
 #[tactic(auto, unfolding(exi_items::specs::Charges::text_charge))]
 #[inline(always)]
 fn plain_chars(alloc: Global, input: &mut BitIn<'_>, count: u128, meter: &mut Meter) -> Option<Txt>
@@ -247,15 +250,17 @@ fn plain_chars(alloc: Global, input: &mut BitIn<'_>, count: u128, meter: &mut Me
     ensures bytes { input.new.bytes ≡ input.old.bytes }
     ensures phase { input.new.place % 8 ≡ input.old.place % 8 }
 {
-    if count > u128::from(input.left() / 8) {
+    let before = *meter;
+    if count > u128::from(input.left() / 8) || !meter.text(count) {
         return None;
     }
     let start = input.at();
     let mut text = Txt::new(alloc);
-    if codes_added(input, &mut text, count as u64) && meter.text(count) {
+    if codes_added(input, &mut text, count as u64) {
         return Some(text);
     }
     input.go_to_bit(start);
+    *meter = before;
     None
 }
 

@@ -11,17 +11,17 @@ returns-in_default-clause-read c = rw c.in_default.ensures.read.1 (none_read c.a
 
 pub push_ascii-requires : goal.push_ascii-requires
 push_ascii-requires c =
-    let w = word_begins 8 c.in-Some.word c.to_be_bytes-all.result c.args.input.now c.take.new.self (omega arith) c.in-Some.ensures.read c.to_be_bytes-all.ensures (word_octets_plain c.in-Some.word c.to_be_bytes-all.result (omega (arith, c.in-Some.ensures.below)) c.to_be_bytes-all.ensures (sym c.is_plain_word.ensures ∙ c.if-is_plain_word.true)) in
-    record { ascii = rw (all_eight c.in-Some.word c.to_be_bytes-all.result c.to_be_bytes-all.ensures) at w.ascii }
+    let w = word_begins 8 c.in-Some.word c.to_be_bytes-octets.result c.args.input.now c.take.new.self (omega arith) c.in-Some.ensures.read c.to_be_bytes-octets.ensures (word_octets_plain c.in-Some.word c.to_be_bytes-octets.result (omega (arith, c.in-Some.ensures.below)) c.to_be_bytes-octets.ensures (sym c.is_plain_word.ensures ∙ c.if-is_plain_word.true)) in
+    record { ascii = rw (all_eight c.in-Some.word c.to_be_bytes-octets.result c.to_be_bytes-octets.ensures) at w.ascii }
 
 pub returns-then-is_plain_word-clause-text : goal.returns-then-is_plain_word-clause-text
 returns-then-is_plain_word-clause-text c =
-    let w = word_begins 8 c.in-Some.word c.to_be_bytes-all.result c.args.input.now c.take.new.self (omega arith) c.in-Some.ensures.read c.to_be_bytes-all.ensures (word_octets_plain c.in-Some.word c.to_be_bytes-all.result (omega (arith, c.in-Some.ensures.below)) c.to_be_bytes-all.ensures (sym c.is_plain_word.ensures ∙ c.if-is_plain_word.true)) in
-    c.in_ok-push_ascii.ensures.ok ∙ ap (λ (os : List ℕ). c.args.text.now ++ os) (sym (all_eight c.in-Some.word c.to_be_bytes-all.result c.to_be_bytes-all.ensures) ∙ w.text)
+    let w = word_begins 8 c.in-Some.word c.to_be_bytes-octets.result c.args.input.now c.take.new.self (omega arith) c.in-Some.ensures.read c.to_be_bytes-octets.ensures (word_octets_plain c.in-Some.word c.to_be_bytes-octets.result (omega (arith, c.in-Some.ensures.below)) c.to_be_bytes-octets.ensures (sym c.is_plain_word.ensures ∙ c.if-is_plain_word.true)) in
+    c.in_ok-push_ascii.ensures.ok ∙ ap (λ (os : List ℕ). c.args.text.now ++ os) (sym (all_eight c.in-Some.word c.to_be_bytes-octets.result c.to_be_bytes-octets.ensures) ∙ w.text)
 
 pub returns-then-is_plain_word-clause-read : goal.returns-then-is_plain_word-clause-read
 returns-then-is_plain_word-clause-read c =
-    let w = word_begins 8 c.in-Some.word c.to_be_bytes-all.result c.args.input.now c.take.new.self (omega arith) c.in-Some.ensures.read c.to_be_bytes-all.ensures (word_octets_plain c.in-Some.word c.to_be_bytes-all.result (omega (arith, c.in-Some.ensures.below)) c.to_be_bytes-all.ensures (sym c.is_plain_word.ensures ∙ c.if-is_plain_word.true)) in
+    let w = word_begins 8 c.in-Some.word c.to_be_bytes-octets.result c.args.input.now c.take.new.self (omega arith) c.in-Some.ensures.read c.to_be_bytes-octets.ensures (word_octets_plain c.in-Some.word c.to_be_bytes-octets.result (omega (arith, c.in-Some.ensures.below)) c.to_be_bytes-octets.ensures (sym c.is_plain_word.ensures ∙ c.if-is_plain_word.true)) in
     whole_read c.args.input.now c.take.new.self w.read c.in-Some.ensures.place
 
 pub go_to_bit-requires : goal.go_to_bit-requires
