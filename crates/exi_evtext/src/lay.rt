@@ -7,7 +7,7 @@ ghost use Rattle.exi_evtext.specs.Lines.{escaped, line_of, name_words, quoted};
 
 use crate::lay_value::lay_typed;
 use crate::quote::{
-    eights_stand, few_stand, fours_stand, is_plain, run_end, sixteens_stand, twos_stand,
+    eights_stand, escape, few_stand, fours_stand, is_plain, run_end, sixteens_stand, twos_stand,
 };
 use exi_names::{EventRef, NameRef, Txt, ValRef};
 use std::simd::prelude::*;
@@ -18,7 +18,7 @@ const WIDE: usize = 16;
 /// How many bytes a text of few has at most.
 const NEAR: usize = 32;
 
-/// More bytes than the line of a frequent event takes whose texts have few each.
+/// More bytes than the line of a frequent event takes whose texts, those of its name and its prefix too, have few each.
 const LINE: usize = 256;
 
 /// Which texts a line may have.
@@ -127,15 +127,10 @@ fn lay_escaped(room: &mut [u8], at: usize, byte: u8) -> usize
     ensures within { (at ≤ result) × (result ≤ at + 2) }
     ensures laid { take result room.new ≡ take at room.old ++ escaped byte }
 {
-    let letter = match byte {
-        b'"' | b'\\' => byte,
-        b'\n' => b'n',
-        b'\r' => b'r',
-        b'\t' => b't',
-        _ => return lay_byte(room, at, byte),
-    };
-    let at = lay_byte(room, at, b'\\');
-    lay_byte(room, at, letter)
+    match escape(byte) {
+        Some(text) => lay_bytes(room, at, text.as_bytes()),
+        None => lay_byte(room, at, byte),
+    }
 }
 
 /// Bytes between quotes, those that stand for themselves in runs.
@@ -259,7 +254,7 @@ fn lay_name(
     match name.prefix {
         Some(prefix) => {
             let at = lay_three(room, end, b'"', b' ', b'"');
-            lay_text(room, at, prefix, Reach::Far)
+            lay_text(room, at, prefix, reach)
         }
         None => Some(end),
     }
@@ -317,12 +312,23 @@ fn lay_frequent(room: &mut [u8], event: &EventRef<'_>, reach: Reach) -> Option<u
         EventRef::Ee => Some(lay_three(room, 0, b'E', b'E', b'\n')),
         EventRef::At(name, ValRef::Text(text)) => lay_attribute(room, name, text, reach),
         EventRef::Ch(ValRef::Text(text)) => lay_characters(room, text, reach),
-        _ => None,
+        EventRef::Sd
+        | EventRef::Ed
+        | EventRef::At(_, ValRef::Any(_))
+        | EventRef::Ch(ValRef::Any(_))
+        | EventRef::Ns { .. }
+        | EventRef::Sc { .. }
+        | EventRef::Cm(_)
+        | EventRef::Pi { .. }
+        | EventRef::Dt { .. }
+        | EventRef::Er(_) => None,
     }
 }
 
 /// Lays the line of an event at the front of a room, and answers where it ends. There is none where the room is too small,
-/// or the event is none of the most frequent; what the room then holds is not told.
+/// or the event is none of the most frequent; what the room then holds is not told. A text or octets want room for twice
+/// their bytes and some more, as if each took two in the line: where there is less there is no answer, even if the line
+/// would fit.
 #[inline(never)]
 #[tactic(auto, unfolding(crate::specs::Lines::line_of))]
 pub fn lay_event(room: &mut [u8], event: &EventRef<'_>) -> Option<usize>
@@ -333,14 +339,15 @@ pub fn lay_event(room: &mut [u8], event: &EventRef<'_>) -> Option<usize>
     if room.len() < WIDE {
         return None;
     }
-    match event {
-        EventRef::Ch(ValRef::Any(value)) => lay_typed(room, value),
-        _ => lay_frequent(room, event, Reach::Far),
+    if let EventRef::Ch(ValRef::Any(value)) = event {
+        return lay_typed(room, value);
     }
+    lay_frequent(room, event, Reach::Far)
 }
 
-/// Lays the line of an event at the front of a room, as [`lay_event`] does, where the event is a frequent one and each of
-/// its texts has few bytes, of which none is escaped, and the room has 256 bytes or more. There is none for any other.
+/// Lays the line of an event at the front of a room, as [`lay_event`] does, where the event is a frequent one that has no
+/// value but a text, each of its texts has at most 32 bytes, none of them below 32 or escaped, and the room has 256 bytes or
+/// more. There is none for any other.
 #[inline(always)]
 pub fn lay_short(room: &mut [u8], event: &EventRef<'_>) -> Option<usize>
     ensures len { length room.new ≡ length room.old }

@@ -1,6 +1,6 @@
 //! Texts and names between quotes.
 
-ghost use Rattle.std.specs.Prelude.{◌≡◌, ◌<◌, ◌≤◌, ◌++◌, [], ◌∷◌, IsTrue, OnOk, OnErr, OnSome, MatchOption, length, slice_range, string_bytes};
+ghost use Rattle.std.specs.Prelude.{◌≡◌, ◌<◌, ◌≤◌, ◌++◌, [], ◌∷◌, IfSome, IsTrue, OnOk, OnErr, OnSome, MatchOption, length, slice_range, string_bytes};
 ghost use Rattle.std.specs.List.{flat_map};
 ghost use Rattle.exi_names.specs.Shown.{named};
 ghost use Rattle.exi_evtext.specs.Kept.{Keeps};
@@ -12,8 +12,10 @@ use std::alloc::AllocError;
 use std::simd::prelude::*;
 
 /// What stands for a byte between quotes, where it may not stand for itself.
-fn escape(byte: u8) -> Option<&'static str>
+#[inline(always)]
+pub fn escape(byte: u8) -> Option<&'static str>
     ensures text { MatchOption result (escaped byte ≡ byte ∷ []) (λ text. escaped byte ≡ text.now) }
+    ensures two { IfSome result (λ text. length text.now ≡ 2) }
     ensures ascii { OnSome result (byte < 128) }
 {
     match byte {
