@@ -1,11 +1,11 @@
-ghost use Rattle.std.specs.Prelude.{◌≡◌, ◌≤◌, None, IsErrOf, option_copied};
+ghost use Rattle.std.specs.Prelude.{◌≡◌, ◌≤◌, None, IsErrOf};
 ghost use Rattle.exi_names.specs.Events.{Rose};
 ghost use Rattle.exi_names.specs.Datatypes as datatype;
 ghost use Rattle.exi_names.specs.Datatypes.{represented};
-ghost use Rattle.exi_reader.specs.Handing.{HandsAny, HasLevels, HasNames, HasRoom, IsSteady, OnFault, alone_of, making, rule_in, telling_of, terminal_in, valuing_in};
+ghost use Rattle.exi_reader.specs.Handing.{HandsAny, HasLevels, HasNames, HasRoom, IsSteady, OnFault, alone_of, making, rule_in, telling_of};
 ghost use Rattle.exi_reader.specs.OneEvent.{followed, moved_limit, one};
 ghost use Rattle.exi_reader.specs.Plans.{alone_in, nowhere, plan_on};
-ghost use Rattle.exi_reader.specs.Rules.{attribute, built_in_terminal, characters, element, end_element};
+ghost use Rattle.exi_reader.specs.Rules.{attribute, built_in_terminal, characters, element, end_element, untyped};
 ghost use Rattle.exi_reader.specs.Configurations.{built_in, rules_of};
 ghost use Rattle.exi_builtin.specs.Learning.{IsRoom, state_behind};
 ghost use Rattle.exi_reader.specs.Stacks.{HaveForm};
@@ -94,7 +94,8 @@ impl<'a, T: Tables + Drop> Stepper<'a, T> {
 
     /// What stands behind an event's code, with what is asked and charged before. Answers the byte of a fragment that
     /// begins.
-    #[inline(always)]
+    #[cold]
+    #[inline(never)]
     fn follow<E: EventOut>(
         &mut self,
         bit: u64,
@@ -127,32 +128,6 @@ impl<'a, T: Tables + Drop> Stepper<'a, T> {
         }
     }
 
-    /// [`follow`](Stepper::follow), apart from the ways of frequent events.
-    #[cold]
-    #[inline(never)]
-    fn follow_apart<E: EventOut>(
-        &mut self,
-        bit: u64,
-        alone: Alone,
-        rule: Rule<'_>,
-        out: &mut E,
-    ) -> Result<Option<u64>, Halt>
-        requires room { HasRoom self.old.config }
-        requires levels { HasLevels self.old.config }
-        requires names { HasNames self.old.config (rule_in rule).on }
-        requires forms { HaveForm self.old.config.elements }
-        ensures hands { HandsAny E.took E.broke result self.new
-            (followed self.old.bytes bit (plan_on self.old.setting (alone_of alone) self.old.config (rule_in rule.entry) (rule_in rule.entry).on) self.old.config) out.old out.new }
-        ensures setting { self.new.setting ≡ self.old.setting }
-        ensures bytes { self.new.bytes ≡ self.old.bytes }
-        ensures root { OnFault result (self.new.config.root ≡ self.old.config.root) }
-        ensures same { E.same out.old out.new }
-        ensures later { E.stops out.old ≤ E.stops out.new }
-        ensures stopped { IsErrOf result Halt.Stopped → Rose (E.stops out.old) (E.stops out.new) }
-    {
-        self.follow(bit, alone, rule, out)
-    }
-
     /// [`follow`](Stepper::follow), for an event of a kind that is seldom. The rule is copied, so that those of other
     /// kinds need no memory.
     #[inline(always)]
@@ -176,42 +151,10 @@ impl<'a, T: Tables + Drop> Stepper<'a, T> {
         ensures later { E.stops out.old ≤ E.stops out.new }
         ensures stopped { IsErrOf result Halt.Stopped → Rose (E.stops out.old) (E.stops out.new) }
     {
-        match self.follow_apart(bit, alone, rule.copied(), out) {
+        match self.follow(bit, alone, rule.copied(), out) {
             Ok(fragment) => Ok(fragment),
             Err(halt) => Err(halt),
         }
-    }
-
-    /// [`follow`](Stepper::follow), for an event of a kind that is seldom and neither opens a grammar nor has a datatype.
-    #[inline(always)]
-    fn follow_plain<E: EventOut>(
-        &mut self,
-        bit: u64,
-        alone: Alone,
-        on: Content,
-        to: u32,
-        out: &mut E,
-    ) -> Result<Option<u64>, Halt>
-        requires room { HasRoom self.old.config }
-        requires levels { HasLevels self.old.config }
-        requires names { HasNames self.old.config (terminal_in on None) }
-        requires forms { HaveForm self.old.config.elements }
-        ensures hands { HandsAny E.took E.broke result self.new
-            (followed self.old.bytes bit (plan_on self.old.setting (alone_of alone) self.old.config (record { on = terminal_in on None; to = to; inner = None }) (terminal_in on None)) self.old.config) out.old out.new }
-        ensures setting { self.new.setting ≡ self.old.setting }
-        ensures bytes { self.new.bytes ≡ self.old.bytes }
-        ensures root { OnFault result (self.new.config.root ≡ self.old.config.root) }
-        ensures same { E.same out.old out.new }
-        ensures later { E.stops out.old ≤ E.stops out.new }
-        ensures stopped { IsErrOf result Halt.Stopped → Rose (E.stops out.old) (E.stops out.new) }
-    {
-        let rule = Rule {
-            on,
-            to,
-            inner: None,
-            datatype: None,
-        };
-        self.follow_seldom(bit, alone, rule, out)
     }
 
     /// [`follow`](Stepper::follow), for an element's start.
@@ -219,7 +162,6 @@ impl<'a, T: Tables + Drop> Stepper<'a, T> {
     fn follow_element<E: EventOut>(
         &mut self,
         bit: u64,
-        alone: Alone,
         telling: Telling,
         to: u32,
         inner: Option<u32>,
@@ -230,7 +172,7 @@ impl<'a, T: Tables + Drop> Stepper<'a, T> {
         requires names { HasNames self.old.config (element (telling_of telling)) }
         requires forms { HaveForm self.old.config.elements }
         ensures hands { HandsAny E.took E.broke result self.new
-            (followed self.old.bytes bit (plan_on self.old.setting (alone_of alone) self.old.config (record { on = element (telling_of telling); to = to; inner = inner }) (element (telling_of telling))) self.old.config) out.old out.new }
+            (followed self.old.bytes bit (plan_on self.old.setting nowhere self.old.config (record { on = element (telling_of telling); to = to; inner = inner }) (element (telling_of telling))) self.old.config) out.old out.new }
         ensures setting { self.new.setting ≡ self.old.setting }
         ensures bytes { self.new.bytes ≡ self.old.bytes }
         ensures root { OnFault result (self.new.config.root ≡ self.old.config.root) }
@@ -238,11 +180,11 @@ impl<'a, T: Tables + Drop> Stepper<'a, T> {
         ensures later { E.stops out.old ≤ E.stops out.new }
         ensures stopped { IsErrOf result Halt.Stopped → Rose (E.stops out.old) (E.stops out.new) }
     {
-        let charges = Charges::of(Content::Element(telling), alone, self.after_start);
+        let charges = Charges::of(Content::Element(telling), Alone::Nowhere, self.after_start);
         if let Err(fault) = charges.pay(&mut self.meter, bit) {
             return Err(Halt::Fault(fault));
         }
-        match self.element(bit, alone, telling, to, inner, out) {
+        match self.element(bit, Alone::Nowhere, telling, to, inner, out) {
             Ok(fragment) => Ok(fragment),
             Err(Halt::Fault(fault)) => Err(halt_at_event(bit, fault)),
             Err(Halt::Memory) => Err(Halt::Memory),
@@ -255,19 +197,16 @@ impl<'a, T: Tables + Drop> Stepper<'a, T> {
     fn follow_attribute<E: EventOut>(
         &mut self,
         bit: u64,
-        alone: Alone,
         telling: Telling,
-        valuing: Valuing,
-        datatype: Option<&Datatype>,
         to: u32,
         out: &mut E,
     ) -> Result<Option<u64>, Halt>
         requires room { HasRoom self.old.config }
         requires levels { HasLevels self.old.config }
-        requires names { HasNames self.old.config (attribute (telling_of telling) (valuing_in valuing (option_copied datatype))) }
+        requires names { HasNames self.old.config (attribute (telling_of telling) untyped) }
         requires forms { HaveForm self.old.config.elements }
         ensures hands { HandsAny E.took E.broke result self.new
-            (followed self.old.bytes bit (plan_on self.old.setting (alone_of alone) self.old.config (record { on = attribute (telling_of telling) (valuing_in valuing (option_copied datatype.entry)); to = to; inner = None }) (attribute (telling_of telling) (valuing_in valuing (option_copied datatype.entry)))) self.old.config) out.old out.new }
+            (followed self.old.bytes bit (plan_on self.old.setting nowhere self.old.config (record { on = attribute (telling_of telling) untyped; to = to; inner = None }) (attribute (telling_of telling) untyped)) self.old.config) out.old out.new }
         ensures setting { self.new.setting ≡ self.old.setting }
         ensures bytes { self.new.bytes ≡ self.old.bytes }
         ensures root { OnFault result (self.new.config.root ≡ self.old.config.root) }
@@ -276,14 +215,22 @@ impl<'a, T: Tables + Drop> Stepper<'a, T> {
         ensures stopped { IsErrOf result Halt.Stopped → Rose (E.stops out.old) (E.stops out.new) }
     {
         let charges = Charges::of(
-            Content::Attribute(telling, valuing),
-            alone,
+            Content::Attribute(telling, Valuing::Untyped),
+            Alone::Nowhere,
             self.after_start,
         );
         if let Err(fault) = charges.pay(&mut self.meter, bit) {
             return Err(Halt::Fault(fault));
         }
-        match self.attribute(bit, alone, telling, valuing, datatype, to, out) {
+        match self.attribute(
+            bit,
+            Alone::Nowhere,
+            telling,
+            Valuing::Untyped,
+            None,
+            to,
+            out,
+        ) {
             Ok(fragment) => Ok(fragment),
             Err(Halt::Fault(fault)) => Err(halt_at_event(bit, fault)),
             Err(Halt::Memory) => Err(Halt::Memory),
@@ -296,7 +243,6 @@ impl<'a, T: Tables + Drop> Stepper<'a, T> {
     fn follow_characters<E: EventOut>(
         &mut self,
         bit: u64,
-        alone: Alone,
         to: u32,
         out: &mut E,
     ) -> Result<Option<u64>, Halt>
@@ -305,7 +251,7 @@ impl<'a, T: Tables + Drop> Stepper<'a, T> {
         requires names { HasNames self.old.config (characters datatype.text) }
         requires forms { HaveForm self.old.config.elements }
         ensures hands { HandsAny E.took E.broke result self.new
-            (followed self.old.bytes bit (plan_on self.old.setting (alone_of alone) self.old.config (record { on = characters datatype.text; to = to; inner = None }) (characters datatype.text)) self.old.config) out.old out.new }
+            (followed self.old.bytes bit (plan_on self.old.setting nowhere self.old.config (record { on = characters datatype.text; to = to; inner = None }) (characters datatype.text)) self.old.config) out.old out.new }
         ensures setting { self.new.setting ≡ self.old.setting }
         ensures bytes { self.new.bytes ≡ self.old.bytes }
         ensures root { OnFault result (self.new.config.root ≡ self.old.config.root) }
@@ -313,11 +259,11 @@ impl<'a, T: Tables + Drop> Stepper<'a, T> {
         ensures later { E.stops out.old ≤ E.stops out.new }
         ensures stopped { IsErrOf result Halt.Stopped → Rose (E.stops out.old) (E.stops out.new) }
     {
-        let charges = Charges::of(Content::Characters, alone, self.after_start);
+        let charges = Charges::of(Content::Characters, Alone::Nowhere, self.after_start);
         if let Err(fault) = charges.pay(&mut self.meter, bit) {
             return Err(Halt::Fault(fault));
         }
-        match self.characters(bit, alone, to, out) {
+        match self.characters(bit, Alone::Nowhere, to, out) {
             Ok(fragment) => Ok(fragment),
             Err(Halt::Fault(fault)) => Err(halt_at_event(bit, fault)),
             Err(Halt::Memory) => Err(Halt::Memory),
@@ -330,7 +276,6 @@ impl<'a, T: Tables + Drop> Stepper<'a, T> {
     fn follow_typed<E: EventOut>(
         &mut self,
         bit: u64,
-        alone: Alone,
         datatype: &Datatype,
         to: u32,
         out: &mut E,
@@ -340,7 +285,7 @@ impl<'a, T: Tables + Drop> Stepper<'a, T> {
         requires names { HasNames self.old.config (characters (represented datatype.now)) }
         requires forms { HaveForm self.old.config.elements }
         ensures hands { HandsAny E.took E.broke result self.new
-            (followed self.old.bytes bit (plan_on self.old.setting (alone_of alone) self.old.config (record { on = characters (represented datatype.now); to = to; inner = None }) (characters (represented datatype.now))) self.old.config) out.old out.new }
+            (followed self.old.bytes bit (plan_on self.old.setting nowhere self.old.config (record { on = characters (represented datatype.now); to = to; inner = None }) (characters (represented datatype.now))) self.old.config) out.old out.new }
         ensures setting { self.new.setting ≡ self.old.setting }
         ensures bytes { self.new.bytes ≡ self.old.bytes }
         ensures root { OnFault result (self.new.config.root ≡ self.old.config.root) }
@@ -348,11 +293,11 @@ impl<'a, T: Tables + Drop> Stepper<'a, T> {
         ensures later { E.stops out.old ≤ E.stops out.new }
         ensures stopped { IsErrOf result Halt.Stopped → Rose (E.stops out.old) (E.stops out.new) }
     {
-        let charges = Charges::of(Content::Characters, alone, self.after_start);
+        let charges = Charges::of(Content::Characters, Alone::Nowhere, self.after_start);
         if let Err(fault) = charges.pay(&mut self.meter, bit) {
             return Err(Halt::Fault(fault));
         }
-        match self.typed_characters(bit, alone, datatype, to, out) {
+        match self.typed_characters(bit, Alone::Nowhere, datatype, to, out) {
             Ok(fragment) => Ok(fragment),
             Err(Halt::Fault(fault)) => Err(halt_at_event(bit, fault)),
             Err(Halt::Memory) => Err(Halt::Memory),
@@ -365,7 +310,6 @@ impl<'a, T: Tables + Drop> Stepper<'a, T> {
     fn follow_end<E: EventOut>(
         &mut self,
         bit: u64,
-        alone: Alone,
         to: u32,
         out: &mut E,
     ) -> Result<Option<u64>, Halt>
@@ -374,7 +318,7 @@ impl<'a, T: Tables + Drop> Stepper<'a, T> {
         requires names { HasNames self.old.config (end_element) }
         requires forms { HaveForm self.old.config.elements }
         ensures hands { HandsAny E.took E.broke result self.new
-            (followed self.old.bytes bit (plan_on self.old.setting (alone_of alone) self.old.config (record { on = end_element; to = to; inner = None }) (end_element)) self.old.config) out.old out.new }
+            (followed self.old.bytes bit (plan_on self.old.setting nowhere self.old.config (record { on = end_element; to = to; inner = None }) (end_element)) self.old.config) out.old out.new }
         ensures setting { self.new.setting ≡ self.old.setting }
         ensures bytes { self.new.bytes ≡ self.old.bytes }
         ensures root { OnFault result (self.new.config.root ≡ self.old.config.root) }
@@ -382,11 +326,11 @@ impl<'a, T: Tables + Drop> Stepper<'a, T> {
         ensures later { E.stops out.old ≤ E.stops out.new }
         ensures stopped { IsErrOf result Halt.Stopped → Rose (E.stops out.old) (E.stops out.new) }
     {
-        let charges = Charges::of(Content::EndElement, alone, self.after_start);
+        let charges = Charges::of(Content::EndElement, Alone::Nowhere, self.after_start);
         if let Err(fault) = charges.pay(&mut self.meter, bit) {
             return Err(Halt::Fault(fault));
         }
-        match self.end_element(bit, alone, out) {
+        match self.end_element(bit, Alone::Nowhere, out) {
             Ok(fragment) => Ok(fragment),
             Err(Halt::Fault(fault)) => Err(halt_at_event(bit, fault)),
             Err(Halt::Memory) => Err(Halt::Memory),
@@ -425,39 +369,27 @@ impl<'a, T: Tables + Drop> Stepper<'a, T> {
         }
         match rule.on {
             Content::Element(telling) => {
-                self.follow_element(bit, alone, telling, rule.to, rule.inner, out)
+                self.follow_element(bit, telling, rule.to, rule.inner, out)
             }
             Content::Attribute(telling, Valuing::Untyped) => {
-                self.follow_attribute(bit, alone, telling, Valuing::Untyped, None, rule.to, out)
+                self.follow_attribute(bit, telling, rule.to, out)
             }
             Content::Attribute(_, Valuing::Typed | Valuing::ByName) => {
                 self.follow_seldom(bit, alone, rule, out)
             }
             Content::Characters => match rule.datatype {
-                None => self.follow_characters(bit, alone, rule.to, out),
-                Some(datatype) => self.follow_typed(bit, alone, datatype, rule.to, out),
+                None => self.follow_characters(bit, rule.to, out),
+                Some(datatype) => self.follow_typed(bit, datatype, rule.to, out),
             },
-            Content::EndElement => self.follow_end(bit, alone, rule.to, out),
-            Content::StartDocument => {
-                self.follow_plain(bit, alone, Content::StartDocument, rule.to, out)
-            }
-            Content::EndDocument => {
-                self.follow_plain(bit, alone, Content::EndDocument, rule.to, out)
-            }
-            Content::Declaration => {
-                self.follow_plain(bit, alone, Content::Declaration, rule.to, out)
-            }
-            Content::SelfContained => {
-                self.follow_plain(bit, alone, Content::SelfContained, rule.to, out)
-            }
-            Content::Comment => { self.follow_plain(bit, alone, Content::Comment, rule.to, out) }
-            Content::Instruction => {
-                self.follow_plain(bit, alone, Content::Instruction, rule.to, out)
-            }
-            Content::DocumentType => {
-                self.follow_plain(bit, alone, Content::DocumentType, rule.to, out)
-            }
-            Content::Entity => { self.follow_plain(bit, alone, Content::Entity, rule.to, out) }
+            Content::EndElement => self.follow_end(bit, rule.to, out),
+            Content::StartDocument
+            | Content::EndDocument
+            | Content::Declaration
+            | Content::SelfContained
+            | Content::Comment
+            | Content::Instruction
+            | Content::DocumentType
+            | Content::Entity => self.follow_seldom(bit, alone, rule, out),
         }
     }
 
@@ -487,22 +419,14 @@ impl<'a, T: Tables + Drop> Stepper<'a, T> {
         let to = state_behind(room, production);
         match production {
             Learnable::Known(name, false) => {
-                self.follow_element(bit, Alone::Nowhere, Telling::Known(name), to, None, out)
+                self.follow_element(bit, Telling::Known(name), to, None, out)
             }
             Learnable::Known(name, true) => {
                 let telling = Telling::Known(name);
-                self.follow_attribute(
-                    bit,
-                    Alone::Nowhere,
-                    telling,
-                    Valuing::Untyped,
-                    None,
-                    to,
-                    out,
-                )
+                self.follow_attribute(bit, telling, to, out)
             }
-            Learnable::Ch(_) => self.follow_characters(bit, Alone::Nowhere, to, out),
-            Learnable::Ee(_) => self.follow_end(bit, Alone::Nowhere, to, out),
+            Learnable::Ch(_) => self.follow_characters(bit, to, out),
+            Learnable::Ee(_) => self.follow_end(bit, to, out),
             Learnable::SeAny
             | Learnable::AtAny
             | Learnable::Ed
@@ -578,12 +502,11 @@ impl<'a, T: Tables + Drop> Stepper<'a, T> {
         ensures stopped { IsErrOf result Halt.Stopped → Rose (E.stops out.old) (E.stops out.new) }
     {
         let bit = self.input.at();
-        match self.elements.innermost() {
-            Some(element) => match element.state {
-                State::BuiltIn(room) => self.built_in_step(bit, room, out),
-                State::Informed { .. } => self.any_step(bit, out),
-            },
-            None => self.any_step(bit, out),
+        if let Some(element) = self.elements.innermost() {
+            if let State::BuiltIn(room) = element.state {
+                return self.built_in_step(bit, room, out);
+            }
         }
+        self.any_step(bit, out)
     }
 }

@@ -1,49 +1,49 @@
 use Rattle.std.proofs.Common.{◌∙◌, None}
-use Rattle.exi_reader.specs.Handing.{alone_of, telling_of, valuing_in}
-use Rattle.std.specs.Option.{option_copied}
-use Rattle.exi_reader.specs.Rules.{attribute}
+use Rattle.exi_reader.specs.Handing.{telling_of}
+use Rattle.exi_reader.specs.Rules.{attribute, untyped}
+use Rattle.exi_reader.specs.Plans.{nowhere}
 use Rattle.exi_reader.proofs.Stepping.{follow_forms, follow_names, follow_paid, follow_room, follow_unpaid, told_stands}
 use Rattle.exi_reader.proofs.Handed.{hands_fault, hands_memory, hands_ok, hands_stopped}
 use Rattle.exi_reader.proofs.stepper.Stepper.follow_attribute.Goals as goal
 
 pub returns-in-Err-clause-hands : goal.returns-in-Err-clause-hands
 returns-in-Err-clause-hands g c = (
-  follow_unpaid c.args.self.now (record { on = attribute (telling_of c.args.telling) (valuing_in c.args.valuing (option_copied c.args.datatype)); to = c.args.to; inner = None }) c.args.bit (alone_of c.args.alone) _ _ c.self.view_is (c.of-charges.ensures) _ c.in-Err.ensures,
+  follow_unpaid c.args.self.now (record { on = attribute (telling_of c.args.telling) untyped; to = c.args.to; inner = None }) c.args.bit nowhere _ _ c.self.view_is (c.of-charges.ensures) _ c.in-Err.ensures,
   g.met.E.EventOut.none c.args.out.now,
 )
 
 pub attribute-requires-clause-few : goal.attribute-requires-clause-few
-attribute-requires-clause-few g c = (follow_room c.args.self.now (record { on = attribute (telling_of c.args.telling) (valuing_in c.args.valuing (option_copied c.args.datatype)); to = c.args.to; inner = None }) c.args.bit (alone_of c.args.alone) _ _ c.self.view_is (c.of-charges.ensures) _ c.in_default.ensures c.requires.room).few
+attribute-requires-clause-few g c = (follow_room c.args.self.now (record { on = attribute (telling_of c.args.telling) untyped; to = c.args.to; inner = None }) c.args.bit nowhere _ _ c.self.view_is (c.of-charges.ensures) _ c.in_default.ensures c.requires.room).few
 
 pub attribute-requires-clause-roomy : goal.attribute-requires-clause-roomy
-attribute-requires-clause-roomy g c = (follow_room c.args.self.now (record { on = attribute (telling_of c.args.telling) (valuing_in c.args.valuing (option_copied c.args.datatype)); to = c.args.to; inner = None }) c.args.bit (alone_of c.args.alone) _ _ c.self.view_is (c.of-charges.ensures) _ c.in_default.ensures c.requires.room).roomy
+attribute-requires-clause-roomy g c = (follow_room c.args.self.now (record { on = attribute (telling_of c.args.telling) untyped; to = c.args.to; inner = None }) c.args.bit nowhere _ _ c.self.view_is (c.of-charges.ensures) _ c.in_default.ensures c.requires.room).roomy
 
 pub attribute-requires-clause-known : goal.attribute-requires-clause-known
-attribute-requires-clause-known g c = told_stands c.args.telling _ (follow_names c.args.self.now (record { on = attribute (telling_of c.args.telling) (valuing_in c.args.valuing (option_copied c.args.datatype)); to = c.args.to; inner = None }) c.args.bit (alone_of c.args.alone) _ _ c.self.view_is (c.of-charges.ensures) c.pay.new.meter c.requires.names)
+attribute-requires-clause-known g c = told_stands c.args.telling _ (follow_names c.args.self.now (record { on = attribute (telling_of c.args.telling) untyped; to = c.args.to; inner = None }) c.args.bit nowhere _ _ c.self.view_is (c.of-charges.ensures) c.pay.new.meter c.requires.names)
 
 pub attribute-requires-clause-learns : goal.attribute-requires-clause-learns
-attribute-requires-clause-learns g c = (follow_room c.args.self.now (record { on = attribute (telling_of c.args.telling) (valuing_in c.args.valuing (option_copied c.args.datatype)); to = c.args.to; inner = None }) c.args.bit (alone_of c.args.alone) _ _ c.self.view_is (c.of-charges.ensures) _ c.in_default.ensures c.requires.room).learns
+attribute-requires-clause-learns g c = (follow_room c.args.self.now (record { on = attribute (telling_of c.args.telling) untyped; to = c.args.to; inner = None }) c.args.bit nowhere _ _ c.self.view_is (c.of-charges.ensures) _ c.in_default.ensures c.requires.room).learns
 
 pub attribute-requires-clause-forms : goal.attribute-requires-clause-forms
-attribute-requires-clause-forms g c = follow_forms c.args.self.now (record { on = attribute (telling_of c.args.telling) (valuing_in c.args.valuing (option_copied c.args.datatype)); to = c.args.to; inner = None }) c.args.bit (alone_of c.args.alone) _ _ c.self.view_is (c.of-charges.ensures) c.pay.new.meter c.requires.forms
+attribute-requires-clause-forms g c = follow_forms c.args.self.now (record { on = attribute (telling_of c.args.telling) untyped; to = c.args.to; inner = None }) c.args.bit nowhere _ _ c.self.view_is (c.of-charges.ensures) c.pay.new.meter c.requires.forms
 
 pub returns-in-Ok-clause-hands : goal.returns-in-Ok-clause-hands
 returns-in-Ok-clause-hands g c =
-    hands_ok g.E.EventOut.took g.E.EventOut.broke _ _ _ (follow_paid c.args.self.now (record { on = attribute (telling_of c.args.telling) (valuing_in c.args.valuing (option_copied c.args.datatype)); to = c.args.to; inner = None }) c.args.bit (alone_of c.args.alone) _ _ c.self.view_is (c.of-charges.ensures) _ c.in_default.ensures)
+    hands_ok g.E.EventOut.took g.E.EventOut.broke _ _ _ (follow_paid c.args.self.now (record { on = attribute (telling_of c.args.telling) untyped; to = c.args.to; inner = None }) c.args.bit nowhere _ _ c.self.view_is (c.of-charges.ensures) _ c.in_default.ensures)
     _ _ c.in-Ok.fragment c.attribute.new.self c.in-Ok.ensures.hands
 
 pub returns-in-Err-Fault-clause-hands : goal.returns-in-Err-Fault-clause-hands
 returns-in-Err-Fault-clause-hands g c =
     rw (c.halt_at_event.ensures)
-    (hands_fault g.E.EventOut.took g.E.EventOut.broke _ _ _ (follow_paid c.args.self.now (record { on = attribute (telling_of c.args.telling) (valuing_in c.args.valuing (option_copied c.args.datatype)); to = c.args.to; inner = None }) c.args.bit (alone_of c.args.alone) _ _ c.self.view_is (c.of-charges.ensures) _ c.in_default.ensures)
+    (hands_fault g.E.EventOut.took g.E.EventOut.broke _ _ _ (follow_paid c.args.self.now (record { on = attribute (telling_of c.args.telling) untyped; to = c.args.to; inner = None }) c.args.bit nowhere _ _ c.self.view_is (c.of-charges.ensures) _ c.in_default.ensures)
     _ _ c.in-Err-Fault.fault c.attribute.new.self.config (rw c.in-Err-Fault.field-0-is at c.in-Err-Fault.ensures.hands))
 
 pub returns-in-Err-Memory-clause-hands : goal.returns-in-Err-Memory-clause-hands
 returns-in-Err-Memory-clause-hands g c =
-    hands_memory g.E.EventOut.took g.E.EventOut.broke _ _ _ (follow_paid c.args.self.now (record { on = attribute (telling_of c.args.telling) (valuing_in c.args.valuing (option_copied c.args.datatype)); to = c.args.to; inner = None }) c.args.bit (alone_of c.args.alone) _ _ c.self.view_is (c.of-charges.ensures) _ c.in_default.ensures)
+    hands_memory g.E.EventOut.took g.E.EventOut.broke _ _ _ (follow_paid c.args.self.now (record { on = attribute (telling_of c.args.telling) untyped; to = c.args.to; inner = None }) c.args.bit nowhere _ _ c.self.view_is (c.of-charges.ensures) _ c.in_default.ensures)
     _ _ c.attribute.new.self.config (rw c.in-Err-Memory.field-0-is at c.in-Err-Memory.ensures.hands)
 
 pub returns-in-Err-Stopped-clause-hands : goal.returns-in-Err-Stopped-clause-hands
 returns-in-Err-Stopped-clause-hands g c =
-    hands_stopped g.E.EventOut.took g.E.EventOut.broke _ _ _ (follow_paid c.args.self.now (record { on = attribute (telling_of c.args.telling) (valuing_in c.args.valuing (option_copied c.args.datatype)); to = c.args.to; inner = None }) c.args.bit (alone_of c.args.alone) _ _ c.self.view_is (c.of-charges.ensures) _ c.in_default.ensures)
+    hands_stopped g.E.EventOut.took g.E.EventOut.broke _ _ _ (follow_paid c.args.self.now (record { on = attribute (telling_of c.args.telling) untyped; to = c.args.to; inner = None }) c.args.bit nowhere _ _ c.self.view_is (c.of-charges.ensures) _ c.in_default.ensures)
     _ _ c.attribute.new.self.config (rw c.in-Err-Stopped.field-0-is at c.in-Err-Stopped.ensures.hands)

@@ -1,39 +1,39 @@
 use Rattle.std.proofs.Common.{◌∙◌, None}
-use Rattle.exi_reader.specs.Handing.{alone_of}
 use Rattle.exi_reader.specs.Rules.{end_element}
+use Rattle.exi_reader.specs.Plans.{nowhere}
 use Rattle.exi_reader.proofs.Stepping.{follow_levels, follow_paid, follow_room, follow_unpaid}
 use Rattle.exi_reader.proofs.Handed.{hands_fault, hands_memory, hands_ok, hands_stopped}
 use Rattle.exi_reader.proofs.stepper.Stepper.follow_end.Goals as goal
 
 pub returns-in-Err-clause-hands : goal.returns-in-Err-clause-hands
 returns-in-Err-clause-hands g c = (
-  follow_unpaid c.args.self.now (record { on = end_element; to = c.args.to; inner = None }) c.args.bit (alone_of c.args.alone) _ _ c.self.view_is (c.of-charges.ensures) _ c.in-Err.ensures,
+  follow_unpaid c.args.self.now (record { on = end_element; to = c.args.to; inner = None }) c.args.bit nowhere _ _ c.self.view_is (c.of-charges.ensures) _ c.in-Err.ensures,
   g.met.E.EventOut.none c.args.out.now,
 )
 
 pub end_element-requires-clause-learns : goal.end_element-requires-clause-learns
-end_element-requires-clause-learns g c = (follow_room c.args.self.now (record { on = end_element; to = c.args.to; inner = None }) c.args.bit (alone_of c.args.alone) _ _ c.self.view_is (c.of-charges.ensures) _ c.in_default.ensures c.requires.room).learns
+end_element-requires-clause-learns g c = (follow_room c.args.self.now (record { on = end_element; to = c.args.to; inner = None }) c.args.bit nowhere _ _ c.self.view_is (c.of-charges.ensures) _ c.in_default.ensures c.requires.room).learns
 
 pub end_element-requires-clause-level : goal.end_element-requires-clause-level
-end_element-requires-clause-level g c = (follow_levels c.args.self.now (record { on = end_element; to = c.args.to; inner = None }) c.args.bit (alone_of c.args.alone) _ _ c.self.view_is (c.of-charges.ensures) _ c.in_default.ensures c.requires.levels).inside
+end_element-requires-clause-level g c = (follow_levels c.args.self.now (record { on = end_element; to = c.args.to; inner = None }) c.args.bit nowhere _ _ c.self.view_is (c.of-charges.ensures) _ c.in_default.ensures c.requires.levels).inside
 
 pub returns-in-Ok-clause-hands : goal.returns-in-Ok-clause-hands
 returns-in-Ok-clause-hands g c =
-    hands_ok g.E.EventOut.took g.E.EventOut.broke _ _ _ (follow_paid c.args.self.now (record { on = end_element; to = c.args.to; inner = None }) c.args.bit (alone_of c.args.alone) _ _ c.self.view_is (c.of-charges.ensures) _ c.in_default.ensures)
+    hands_ok g.E.EventOut.took g.E.EventOut.broke _ _ _ (follow_paid c.args.self.now (record { on = end_element; to = c.args.to; inner = None }) c.args.bit nowhere _ _ c.self.view_is (c.of-charges.ensures) _ c.in_default.ensures)
     _ _ c.in-Ok.fragment c.end_element.new.self c.in-Ok.ensures.hands
 
 pub returns-in-Err-Fault-clause-hands : goal.returns-in-Err-Fault-clause-hands
 returns-in-Err-Fault-clause-hands g c =
     rw (c.halt_at_event.ensures)
-    (hands_fault g.E.EventOut.took g.E.EventOut.broke _ _ _ (follow_paid c.args.self.now (record { on = end_element; to = c.args.to; inner = None }) c.args.bit (alone_of c.args.alone) _ _ c.self.view_is (c.of-charges.ensures) _ c.in_default.ensures)
+    (hands_fault g.E.EventOut.took g.E.EventOut.broke _ _ _ (follow_paid c.args.self.now (record { on = end_element; to = c.args.to; inner = None }) c.args.bit nowhere _ _ c.self.view_is (c.of-charges.ensures) _ c.in_default.ensures)
     _ _ c.in-Err-Fault.fault c.end_element.new.self.config (rw c.in-Err-Fault.field-0-is at c.in-Err-Fault.ensures.hands))
 
 pub returns-in-Err-Memory-clause-hands : goal.returns-in-Err-Memory-clause-hands
 returns-in-Err-Memory-clause-hands g c =
-    hands_memory g.E.EventOut.took g.E.EventOut.broke _ _ _ (follow_paid c.args.self.now (record { on = end_element; to = c.args.to; inner = None }) c.args.bit (alone_of c.args.alone) _ _ c.self.view_is (c.of-charges.ensures) _ c.in_default.ensures)
+    hands_memory g.E.EventOut.took g.E.EventOut.broke _ _ _ (follow_paid c.args.self.now (record { on = end_element; to = c.args.to; inner = None }) c.args.bit nowhere _ _ c.self.view_is (c.of-charges.ensures) _ c.in_default.ensures)
     _ _ c.end_element.new.self.config (rw c.in-Err-Memory.field-0-is at c.in-Err-Memory.ensures.hands)
 
 pub returns-in-Err-Stopped-clause-hands : goal.returns-in-Err-Stopped-clause-hands
 returns-in-Err-Stopped-clause-hands g c =
-    hands_stopped g.E.EventOut.took g.E.EventOut.broke _ _ _ (follow_paid c.args.self.now (record { on = end_element; to = c.args.to; inner = None }) c.args.bit (alone_of c.args.alone) _ _ c.self.view_is (c.of-charges.ensures) _ c.in_default.ensures)
+    hands_stopped g.E.EventOut.took g.E.EventOut.broke _ _ _ (follow_paid c.args.self.now (record { on = end_element; to = c.args.to; inner = None }) c.args.bit nowhere _ _ c.self.view_is (c.of-charges.ensures) _ c.in_default.ensures)
     _ _ c.end_element.new.self.config (rw c.in-Err-Stopped.field-0-is at c.in-Err-Stopped.ensures.hands)
