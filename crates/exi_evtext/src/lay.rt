@@ -21,14 +21,9 @@ const NEAR: usize = 32;
 /// More bytes than the line of a frequent event takes whose texts, those of its name and its prefix too, have few each.
 const LINE: usize = 256;
 
-/// Which texts a line may have.
-#[derive(Clone, Copy, Debug)]
-enum Reach {
-    /// Those of few bytes that stand for themselves.
-    Near,
-    /// All.
-    Far,
-}
+/// The reach of a line with any texts; [`NEAR`] is that of one whose texts have few bytes. Each reach has functions of its own,
+/// which are called once and so taken in line.
+const FAR: usize = 0;
 
 /// A byte at a place of a room; the answer is the place behind it.
 #[inline(always)]
@@ -176,20 +171,19 @@ fn lay_far(room: &mut [u8], at: usize, text: &Txt) -> Option<usize>
 
 /// A text, where there is room for it and for more.
 #[inline(always)]
-fn lay_text(room: &mut [u8], at: usize, text: &Txt, reach: Reach) -> Option<usize>
+fn lay_text<const REACH: usize>(room: &mut [u8], at: usize, text: &Txt) -> Option<usize>
     requires { at ≤ length room.old }
     ensures len { length room.new ≡ length room.old }
     ensures more { IfSome result (λ end. end + WIDE ≤ length room.new) }
     ensures laid { IfSome result (λ end. take end room.new ≡ take at room.old ++ flat_map escaped (encode_utf8_all text.now)) }
 {
-    match reach {
-        Reach::Near => {
-            if room.len() - at < NEAR + WIDE {
-                return None;
-            }
-            lay_near(room, at, text.as_str().as_bytes())
+    if REACH == NEAR {
+        if room.len() - at < NEAR + WIDE {
+            return None;
         }
-        Reach::Far => lay_far(room, at, text),
+        lay_near(room, at, text.as_str().as_bytes())
+    } else {
+        lay_far(room, at, text)
     }
 }
 
@@ -220,7 +214,7 @@ pub fn lay_end(room: &mut [u8], at: usize) -> usize
 
 /// A text as a value, with the line's end.
 #[inline(always)]
-fn lay_value(room: &mut [u8], at: usize, text: &Txt, reach: Reach) -> Option<usize>
+fn lay_value<const REACH: usize>(room: &mut [u8], at: usize, text: &Txt) -> Option<usize>
     requires { at + 6 ≤ length room.old }
     ensures len { length room.new ≡ length room.old }
     ensures more { IfSome result (λ end. end ≤ length room.new) }
@@ -228,18 +222,17 @@ fn lay_value(room: &mut [u8], at: usize, text: &Txt, reach: Reach) -> Option<usi
 {
     let at = lay_three(room, at, b't', b'e', b'x');
     let at = lay_three(room, at, b't', b' ', b'"');
-    let end = lay_text(room, at, text, reach)?;
+    let end = lay_text::<REACH>(room, at, text)?;
     Some(lay_end(room, end))
 }
 
 /// A name behind a word, but for the quote that closes it.
 #[inline(always)]
-fn lay_name(
+fn lay_name<const REACH: usize>(
     room: &mut [u8],
     first: u8,
     second: u8,
     name: &NameRef<'_>,
-    reach: Reach,
 ) -> Option<usize>
     requires { WIDE ≤ length room.old }
     ensures len { length room.new ≡ length room.old }
@@ -248,13 +241,13 @@ fn lay_name(
 {
     let at = lay_three(room, 0, first, second, b' ');
     let at = lay_byte(room, at, b'"');
-    let end = lay_text(room, at, name.uri, reach)?;
+    let end = lay_text::<REACH>(room, at, name.uri)?;
     let at = lay_three(room, end, b'"', b' ', b'"');
-    let end = lay_text(room, at, name.local, reach)?;
+    let end = lay_text::<REACH>(room, at, name.local)?;
     match name.prefix {
         Some(prefix) => {
             let at = lay_three(room, end, b'"', b' ', b'"');
-            lay_text(room, at, prefix, reach)
+            lay_text::<REACH>(room, at, prefix)
         }
         None => Some(end),
     }
@@ -262,56 +255,60 @@ fn lay_name(
 
 /// The line of an element's beginning.
 #[inline(always)]
-fn lay_start(room: &mut [u8], name: &NameRef<'_>, reach: Reach) -> Option<usize>
+fn lay_start<const REACH: usize>(room: &mut [u8], name: &NameRef<'_>) -> Option<usize>
     requires { WIDE ≤ length room.old }
     ensures len { length room.new ≡ length room.old }
     ensures more { IfSome result (λ end. end ≤ length room.new) }
     ensures laid { IfSome result (λ end. take end room.new ≡ codes "SE " ++ name_words (named name.now) ++ 10 ∷ []) }
 {
-    let end = lay_name(room, b'S', b'E', name, reach)?;
+    let end = lay_name::<REACH>(room, b'S', b'E', name)?;
     Some(lay_end(room, end))
 }
 
 /// The line of an attribute with a text.
 #[inline(always)]
-fn lay_attribute(room: &mut [u8], name: &NameRef<'_>, text: &Txt, reach: Reach) -> Option<usize>
+fn lay_attribute<const REACH: usize>(
+    room: &mut [u8],
+    name: &NameRef<'_>,
+    text: &Txt,
+) -> Option<usize>
     requires { WIDE ≤ length room.old }
     ensures len { length room.new ≡ length room.old }
     ensures more { IfSome result (λ end. end ≤ length room.new) }
     ensures laid { IfSome result (λ end. take end room.new ≡ codes "AT " ++ name_words (named name.now) ++ 32 ∷ (codes "text " ++ quoted text.now) ++ 10 ∷ []) }
 {
-    let end = lay_name(room, b'A', b'T', name, reach)?;
+    let end = lay_name::<REACH>(room, b'A', b'T', name)?;
     let at = lay_byte(room, end, b'"');
     let at = lay_byte(room, at, b' ');
-    lay_value(room, at, text, reach)
+    lay_value::<REACH>(room, at, text)
 }
 
 /// The line of characters.
 #[inline(always)]
-fn lay_characters(room: &mut [u8], text: &Txt, reach: Reach) -> Option<usize>
+fn lay_characters<const REACH: usize>(room: &mut [u8], text: &Txt) -> Option<usize>
     requires { WIDE ≤ length room.old }
     ensures len { length room.new ≡ length room.old }
     ensures more { IfSome result (λ end. end ≤ length room.new) }
     ensures laid { IfSome result (λ end. take end room.new ≡ codes "CH text " ++ quoted text.now ++ 10 ∷ []) }
 {
     let at = lay_three(room, 0, b'C', b'H', b' ');
-    lay_value(room, at, text, reach)
+    lay_value::<REACH>(room, at, text)
 }
 
 /// The line of a frequent event whose texts are of this reach.
 #[inline(always)]
 #[tactic(auto, unfolding(crate::specs::Lines::line_of))]
-fn lay_frequent(room: &mut [u8], event: &EventRef<'_>, reach: Reach) -> Option<usize>
+fn lay_frequent<const REACH: usize>(room: &mut [u8], event: &EventRef<'_>) -> Option<usize>
     requires { WIDE ≤ length room.old }
     ensures len { length room.new ≡ length room.old }
     ensures within { IfSome result (λ end. end ≤ length room.new) }
     ensures line { IfSome result (λ end. take end room.new ≡ line_of (shows event.now)) }
 {
     match event {
-        EventRef::Se(name) => lay_start(room, name, reach),
+        EventRef::Se(name) => lay_start::<REACH>(room, name),
         EventRef::Ee => Some(lay_three(room, 0, b'E', b'E', b'\n')),
-        EventRef::At(name, ValRef::Text(text)) => lay_attribute(room, name, text, reach),
-        EventRef::Ch(ValRef::Text(text)) => lay_characters(room, text, reach),
+        EventRef::At(name, ValRef::Text(text)) => lay_attribute::<REACH>(room, name, text),
+        EventRef::Ch(ValRef::Text(text)) => lay_characters::<REACH>(room, text),
         EventRef::Sd
         | EventRef::Ed
         | EventRef::At(_, ValRef::Any(_))
@@ -342,7 +339,7 @@ pub fn lay_event(room: &mut [u8], event: &EventRef<'_>) -> Option<usize>
     if let EventRef::Ch(ValRef::Any(value)) = event {
         return lay_typed(room, value);
     }
-    lay_frequent(room, event, Reach::Far)
+    lay_frequent::<FAR>(room, event)
 }
 
 /// Lays the line of an event at the front of a room, as [`lay_event`] does, where the event is a frequent one that has no
@@ -357,5 +354,5 @@ pub fn lay_short(room: &mut [u8], event: &EventRef<'_>) -> Option<usize>
     if room.len() < LINE {
         return None;
     }
-    lay_frequent(room, event, Reach::Near)
+    lay_frequent::<NEAR>(room, event)
 }
