@@ -18,7 +18,7 @@ const WIDE: usize = 16;
 /// How many bytes a text of few has at most.
 const NEAR: usize = 32;
 
-/// More bytes than the line of a frequent event takes whose texts, those of its name and its prefix too, have few each.
+/// More bytes than the line of a frequent event takes whose name has no prefix and whose texts have few bytes each.
 const LINE: usize = 256;
 
 /// The reach of a line with any texts; [`NEAR`] is that of one whose texts have few bytes. Each reach has functions of its own,
@@ -226,6 +226,18 @@ fn lay_value<const REACH: usize>(room: &mut [u8], at: usize, text: &Txt) -> Opti
     Some(lay_end(room, end))
 }
 
+/// A prefix behind a local name, but for the quote that closes it. Few names have one, so it stands apart.
+#[inline(never)]
+fn lay_prefix(room: &mut [u8], at: usize, prefix: &Txt) -> Option<usize>
+    requires { at + WIDE ≤ length room.old }
+    ensures len { length room.new ≡ length room.old }
+    ensures more { IfSome result (λ end. end + WIDE ≤ length room.new) }
+    ensures laid { IfSome result (λ end. take end room.new ≡ take at room.old ++ (34 ∷ 32 ∷ 34 ∷ flat_map escaped (encode_utf8_all prefix.now))) }
+{
+    let at = lay_three(room, at, b'"', b' ', b'"');
+    lay_text::<FAR>(room, at, prefix)
+}
+
 /// A name behind a word, but for the quote that closes it.
 #[inline(always)]
 fn lay_name<const REACH: usize>(
@@ -245,10 +257,7 @@ fn lay_name<const REACH: usize>(
     let at = lay_three(room, end, b'"', b' ', b'"');
     let end = lay_text::<REACH>(room, at, name.local)?;
     match name.prefix {
-        Some(prefix) => {
-            let at = lay_three(room, end, b'"', b' ', b'"');
-            lay_text::<REACH>(room, at, prefix)
-        }
+        Some(prefix) => lay_prefix(room, end, prefix),
         None => Some(end),
     }
 }
@@ -343,8 +352,8 @@ pub fn lay_event(room: &mut [u8], event: &EventRef<'_>) -> Option<usize>
 }
 
 /// Lays the line of an event at the front of a room, as [`lay_event`] does, where the event is a frequent one that has no
-/// value but a text, each of its texts has at most 32 bytes, none of them below 32 or escaped, and the room has 256 bytes or
-/// more. There is none for any other.
+/// value but a text, each of its texts but a prefix has at most 32 bytes, none of them below 32 or escaped, and the room has
+/// 256 bytes or more. There is none for any other.
 #[inline(always)]
 pub fn lay_short(room: &mut [u8], event: &EventRef<'_>) -> Option<usize>
     ensures len { length room.new ≡ length room.old }
