@@ -7,24 +7,12 @@ ghost use Rattle.exi_items.specs.Fronts.{HoldsFront};
 ghost use Rattle.exi_names.specs.Seen.{seen};
 ghost use Rattle.exi_scalar.specs.Scalars.{IsBinary, after_count, binary_at, binary_bits};
 
+use crate::short::long_unsigned;
 use exi_bits::{Align, BitIn, BitOut, Fault, Stop};
 use exi_items::charge_text;
 use exi_meter::Meter;
 use exi_names::{Octets, Val};
 use std::alloc::{AllocError, Global};
-
-/// The number of octets where it takes several octets itself.
-#[inline(always)]
-fn long_count(input: &mut BitIn<'_>) -> Result<u128, Fault>
-    ensures read { Reads (λ x. x) result input.old input.new (unsigned_at input.old) }
-    ensures bytes { input.new.bytes ≡ input.old.bytes }
-    ensures phase { input.new.place % 8 ≡ input.old.place % 8 }
-{
-    match input.unsigned() {
-        Ok(count) => Ok(count),
-        Err(fault) => Err(fault),
-    }
-}
 
 /// The number of octets, which most often takes one octet itself.
 #[inline(always)]
@@ -36,7 +24,7 @@ fn count_of(input: &mut BitIn<'_>) -> Result<u128, Fault>
     if let Some(count) = input.one_octet() {
         return Ok(u128::from(count));
     }
-    long_count(input)
+    long_unsigned(input)
 }
 
 /// Reads a Binary. After an `Err` the place is anything.

@@ -1,5 +1,6 @@
 //! Values of the datatypes Binary, Boolean, Decimal, Float and Integer, read and written (EXI 1.0,
-//! sections 7.1.1 to 7.1.5).
+//! sections 7.1.1 to 7.1.5). An Unsigned Integer is read too, one of at most three octets as one word
+//! (section 7.1.6).
 //!
 //! Each is made of n-bit numbers and Unsigned Integers, one behind the other. `u` is an Unsigned Integer:
 //!

@@ -38,7 +38,7 @@ fn short_unsigned(input: &mut BitIn<'_>) -> Option<u64>
 
 /// Takes an Unsigned Integer octet by octet, with its answer in a room that is made on this way alone.
 #[inline(always)]
-fn long_unsigned(input: &mut BitIn<'_>) -> Result<u128, Fault>
+pub fn long_unsigned(input: &mut BitIn<'_>) -> Result<u128, Fault>
     ensures read { Reads (λ x. x) result input.old input.new (unsigned_at input.old) }
     ensures bytes { input.new.bytes ≡ input.old.bytes }
     ensures phase { input.new.place % 8 ≡ input.old.place % 8 }
