@@ -205,12 +205,6 @@ drop_there [] i x e = absurd (none-some x e)
 drop_there (y ∷ ys) zero x e = cc
 drop_there (y ∷ ys) (suc i) x e = drop_there ys i x e
 
-pub drop_past : {X : Type 0} (xs : List X) (i : ℕ) → slice_get xs i ≡ None → drop i xs ≡ []
-drop_past [] zero e = refl
-drop_past [] (suc i) e = refl
-drop_past (y ∷ ys) zero e = absurd (none-some y (sym e))
-drop_past (y ∷ ys) (suc i) e = drop_past ys i e
-
 pub behind_found : {X : Type 0} (test : X → Bool) (xs : List X) (i : ℕ) (x : X) (all : Option ℕ) → slice_get xs i ≡ Some x → test x ≡ true → all ≡ option_map (λ k. i + k) (first_place test (drop i xs)) → all ≡ Some i
 behind_found test xs i x all there passes e =
     let same : i + 0 ≡ i = omega arith in
@@ -225,8 +219,8 @@ behind_on test xs i x all there passes e =
     by None = refl
     by (Some k) = let same : i + suc k ≡ i + 1 + k = omega arith in ap Some same
 
-pub behind_end : {X : Type 0} (test : X → Bool) (xs : List X) (i : ℕ) (all : Option ℕ) → slice_get xs i ≡ None → all ≡ option_map (λ k. i + k) (first_place test (drop i xs)) → all ≡ None
-behind_end test xs i all past e = e ∙ ap (λ ys. option_map (λ k. i + k) (first_place test ys)) (drop_past xs i past)
+pub behind_past : {X : Type 0} (test : X → Bool) (xs : List X) (i : ℕ) (all : Option ℕ) → length xs ≤ i → all ≡ option_map (λ k. i + k) (first_place test (drop i xs)) → all ≡ None
+behind_past test xs i all past e = e ∙ ap (λ ys. option_map (λ k. i + k) (first_place test ys)) (drop_all i xs past)
 
 -- ---- the least code
 abbrev pub earlier : {X : Type 0} → Option X → Option X → Option X

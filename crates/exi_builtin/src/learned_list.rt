@@ -109,17 +109,12 @@ impl LearnedList {
         if self.len() > COMPARED {
             return self.kept_code(name, attribute);
         }
-        for code in 0..COMPARED {
-            match self.at(code) {
-                Some(production) => {
-                    if is_named(name, attribute, production) {
-                        return Some(code);
-                    }
-                }
-                None => return None,
+        for code in 0..self.len() {
+            if is_named(name, attribute, self.learned_at(code)) {
+                return Some(code);
             }
         }
-        self.kept_code(name, attribute)
+        None
     }
 
     /// The code of the production of a name, by the place that is kept for it.

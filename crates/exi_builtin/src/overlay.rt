@@ -42,8 +42,8 @@ use std::marker::Model;
 /// What the built-in grammars learned in one body or one self-contained fragment (EXI 1.0, sections
 /// 8.4.2 and 8.4.3).
 ///
-/// A contract sees it as a `Learning`. No call walks all learned productions, but [`Overlay::codes`]; a call
-/// that answers an error leaves it as it was.
+/// A contract sees it as a `Learning`. No call but [`Overlay::codes`] looks at more than eight learned productions;
+/// a call that answers an error leaves it as it was.
 #[derive(Drop)]
 pub struct Overlay {
     alloc: Global,
@@ -205,7 +205,8 @@ impl Overlay {
 
     /// The code of a production in a state (EXI 1.0, section 6.2), the least where it was learned more than
     /// once, and none where the state does not have it. The number of the state has to be one that
-    /// [`Overlay::grammar`] gave. What was learned is walked only where it is little, and no memory is taken.
+    /// [`Overlay::grammar`] gave. At most eight learned productions are looked at; among more the name is looked
+    /// up by hash. No memory is taken.
     #[inline(always)]
     pub fn code_of(&self, room: Room, production: Learnable, options: &Options) -> Option<Code>
         requires { IsRoom self.now room }
