@@ -41,6 +41,7 @@
 //!                                  ListTables    PlaceTables     HashTables
 //! a text by its place              one step      one step        one step
 //! a value by its own place         all values    a few indices   a few indices
+//! a name's own partition           all names     by hash         by hash
 //! a URI, local name, prefix        all texts     by hash         by hash
 //! a value's text                   all values    all values      by hash
 //! ```
