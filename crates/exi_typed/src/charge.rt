@@ -1,4 +1,4 @@
-ghost use Rattle.std.specs.Prelude.{◌≡◌, ◌<◌, Ok, Err, None, Some, IfNone, IfSome, length, MatchResult};
+ghost use Rattle.std.specs.Prelude.{◌≡◌, ◌<◌, Ok, Err, None, Some, IfNone, IfSome, IsErr, length, MatchResult};
 ghost use Rattle.std.specs.Option.{option_copied};
 ghost use Rattle.exi_bits.specs.Bits.{IsAligned};
 ghost use Rattle.exi_bits.specs.Unsigned.{below_at};
@@ -30,6 +30,7 @@ pub fn place_below(input: &mut BitIn<'_>, count: u64, align: Align) -> Option<u6
     requires aligned { IsAligned align input.old }
     ensures read { IfSome result (λ place. below_at count align kind.BadPlace input.old ≡ Ok (place, input.new)) }
     ensures below { IfSome result (λ place. place < count) }
+    ensures none { IfNone result (IsErr (below_at count align kind.BadPlace input.old)) }
     ensures place { IfNone result (input.new ≡ input.old) }
     ensures bytes { input.new.bytes ≡ input.old.bytes }
     ensures aligned { IsAligned align input.new }

@@ -1,4 +1,4 @@
-ghost use Rattle.std.specs.Prelude.{◌≡◌, ◌^◌, Ok, IfErr, IfNone, IfSome, OnErr};
+ghost use Rattle.std.specs.Prelude.{◌≡◌, ◌^◌, Ok, IfErr, IfNone, IfSome, IsErr, OnErr};
 ghost use Rattle.std.specs.Option.{option_copied};
 ghost use Rattle.exi_bits.specs.Bits.{IsAligned};
 ghost use Rattle.exi_items.specs.Charges.{Charges, after_text, meter_after};
@@ -78,6 +78,7 @@ fn own_text<'a, T: Tables>(
     requires name { IsName (T.held tables.now) name }
     requires aligned { IsAligned align input.old }
     ensures read { IfSome result (λ t. hit_at align (own_values (T.held tables.now) name) (read_state input.old meter.old (T.held tables.now)) ≡ Ok (t.now, read_state input.new meter.new (T.held tables.now))) }
+    ensures none { IfNone result (IsErr (hit_at align (own_values (T.held tables.now) name) (read_state input.old meter.old (T.held tables.now)))) }
     ensures place { IfNone result (input.new ≡ input.old) }
     ensures meter { IfNone result (meter.new ≡ meter.old) }
     ensures bytes { input.new.bytes ≡ input.old.bytes }
@@ -137,6 +138,7 @@ fn any_text<'a, T: Tables>(
 ) -> Option<&'a Txt>
     requires aligned { IsAligned align input.old }
     ensures read { IfSome result (λ t. hit_at align (listed (values (T.held tables.now))) (read_state input.old meter.old (T.held tables.now)) ≡ Ok (t.now, read_state input.new meter.new (T.held tables.now))) }
+    ensures none { IfNone result (IsErr (hit_at align (listed (values (T.held tables.now))) (read_state input.old meter.old (T.held tables.now)))) }
     ensures place { IfNone result (input.new ≡ input.old) }
     ensures meter { IfNone result (meter.new ≡ meter.old) }
     ensures bytes { input.new.bytes ≡ input.old.bytes }
