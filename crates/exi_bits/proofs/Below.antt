@@ -1,5 +1,5 @@
 -- Numbers below a count.
-use Rattle.std.proofs.Common.{◌≡◌, ℕ, ◌+◌, ◌*◌, ◌^◌, ◌<◌, ◌≤◌, Bool, true, false, cond, ltb, List, ◌++◌, Option, Some, None, Result, Ok, Err, add-zero, refl, sym, ap, ◌∙◌, subst, arith}
+use Rattle.std.proofs.Common.{◌≡◌, ℕ, ◌*◌, ◌^◌, ◌<◌, ◌≤◌, Bool, true, false, cond, ltb, List, ◌++◌, Option, Some, None, Result, Ok, add-zero, refl, ap, subst, arith}
 use Rattle.std.proofs.lemmas.Bool.{lt-ltb, ltb-true, le-ltb}
 use Rattle.exi_bits.specs.declared.align.Align.{Align}
 use Rattle.exi_bits.specs.declared.align.Align.TheVariants as align
@@ -17,6 +17,12 @@ pub below_one : (count : ℕ) (a : Align) (k : Kind) (s : Spot) → count ≡ 1 
 unfolding below_at field_at number_at width_from value_of le_value
 below_one count align.Bits k s one = rw (one, le-ltb (left s) 0 (omega arith)) (ap (λ (place : ℕ). Ok (0, record { bytes = s.bytes; place = place })) (add-zero s.place))
 below_one count align.Bytes k s one = rw (one, le-ltb (left s) 0 (omega arith)) (ap (λ (place : ℕ). Ok (0, record { bytes = s.bytes; place = place })) (add-zero s.place))
+
+-- and nothing is below 0
+pub below_none : (count : ℕ) (a : Align) (k : Kind) (s : Spot) → count ≡ 0 → below_at count a k s ≡ fault_at k s
+unfolding below_at field_at number_at width_from value_of le_value
+below_none count align.Bits k s none = rw (none, le-ltb (left s) 0 (omega arith)) refl
+below_none count align.Bytes k s none = rw (none, le-ltb (left s) 0 (omega arith)) refl
 
 abbrev given : ℕ × Spot → Result (ℕ × Spot) Fault
 given p = Ok p

@@ -1,6 +1,6 @@
 -- Octets, one after another.
-use Rattle.std.proofs.Common.{◌≡◌, ℕ, zero, suc, ◌+◌, ◌*◌, ◌-◌, ◌/◌, ◌%◌, ◌^◌, ◌<◌, ◌≤◌, Bool, List, [], ◌∷◌, ◌++◌, length, get_or, take, drop, Some, None, Ok, Err, add-zero, refl, sym, ap, ◌∙◌, subst, append_assoc, inl, inr, arith}
-use Rattle.std.proofs.lemmas.List.{append-nil, length-append, length-take, length-drop, take-append-drop, drop-drop, take-take, drop-take, take_at, drop_at, get_or-drop}
+use Rattle.std.proofs.Common.{◌≡◌, ℕ, zero, suc, ◌+◌, ◌*◌, ◌/◌, ◌%◌, ◌^◌, ◌<◌, ◌≤◌, Bool, List, [], ◌∷◌, ◌++◌, length, take, drop, Ok, Err, add-zero, refl, sym, ap, ◌∙◌, subst, inl, inr, arith}
+use Rattle.std.proofs.lemmas.List.{length-take, length-drop, take-append-drop, drop-drop, take-take, drop-take, take_at, drop_at, get_or-drop}
 use Rattle.std.proofs.lemmas.Bool.{cases_lt, lt-ltb, le-ltb}
 use Rattle.std.proofs.lemmas.Nat.{be_bytes_8}
 use Rattle.std.specs.Int.{w64, to_be_bytes}
@@ -9,7 +9,7 @@ use Rattle.exi_bits.specs.declared.fault.Kind.TheVariants as kind
 use Rattle.exi_bits.specs.Bits.{Spot, IsBytes, at_bit, bits, left, moved, number_at, number_bits, octets_of, rest, value_of}
 use Rattle.exi_bits.specs.Repeat.{octets_at, times}
 use Rattle.exi_bits.specs.Unsigned.{fault_at, field_at}
-use Rattle.exi_bits.proofs.BitLaws.{bits-drop, number_bits-value_of, pow_up, value_of_below, value_of-number_bits, length-bits, length-number_bits}
+use Rattle.exi_bits.proofs.BitLaws.{bits-drop, number_bits-value_of, pow_up, value_of_below, value_of-number_bits, length-number_bits}
 use Rattle.exi_bits.proofs.WordLaws.{eight_value}
 
 -- ---- octets of bits

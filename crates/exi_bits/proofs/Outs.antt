@@ -1,6 +1,6 @@
 -- Bits that are added to bits.
-use Rattle.std.proofs.Common.{◌≡◌, ℕ, suc, ◌+◌, ◌*◌, ◌-◌, ◌/◌, ◌%◌, ◌^◌, ◌<◌, ◌≤◌, Bool, false, List, [], ◌∷◌, ◌++◌, length, take, get_or, refl, sym, ap, ◌∙◌, subst, append_assoc, arith, bit_and}
-use Rattle.std.proofs.lemmas.List.{length-append, length-take, length-replicate, take_at, take_all, take_more, append-nil}
+use Rattle.std.proofs.Common.{◌≡◌, ℕ, suc, ◌+◌, ◌*◌, ◌-◌, ◌/◌, ◌%◌, ◌^◌, ◌<◌, ◌≤◌, Bool, false, List, [], ◌∷◌, ◌++◌, length, take, refl, sym, ap, ◌∙◌, subst, append_assoc, arith, bit_and}
+use Rattle.std.proofs.lemmas.List.{length-append, length-take, length-replicate, take_at, take_all, append-nil}
 use Rattle.std.proofs.lemmas.Nat.{pow-add, pow_pos, mod_below, shr_high, mod_low, shr_below, mul-add-lt, shl_below, one_shl, and_mask}
 use Rattle.std.proofs.Math.Nat.{mul_comm}
 use Rattle.std.proofs.lemmas.Bool.{lt-ltb, le-ltb}
@@ -126,21 +126,6 @@ octet_whole bs old sp o z e = (
   whole_is bs sp z ∙ ap bits e ∙ bits-append old (o ∷ []) ∙ rw (one_byte o, whole_is old sp z) refl,
   subst (λ (k : ℕ). IsPadded bs k) (sym z) (pad_keeps bs),
 )
-
--- octets, one after another
-octets_next : (bs : List ℕ) (i : ℕ) → i < length bs → bits (take (i + 1) bs) ≡ bits (take i bs) ++ number_bits 8 (get_or bs i 0)
-octets_next bs i lt = ap bits (take_more bs i 0 lt) ∙ bits-append (take i bs) (get_or bs i 0 ∷ []) ∙ ap (λ (t : List Bool). bits (take i bs) ++ t) (one_byte (get_or bs i 0))
-
-pub octets_none : (text : List Bool) → text ≡ text ++ bits []
-unfolding bits
-octets_none text = sym (append-nil text)
-
-pub octets_more : (old now next : List Bool) (bs : List ℕ) (i o : ℕ) → i < length bs → o ≡ get_or bs i 0 → now ≡ old ++ bits (take i bs) → next ≡ now ++ number_bits 8 o → next ≡ old ++ bits (take (i + 1) bs)
-octets_more old now next bs i o lt is so_far e =
-    rw (e, so_far, is, octets_next bs i lt) (append_assoc old (bits (take i bs)) (number_bits 8 (get_or bs i 0)))
-
-pub octets_all : (old now : List Bool) (bs : List ℕ) (i : ℕ) → length bs ≤ i → now ≡ old ++ bits (take i bs) → now ≡ old ++ bits bs
-octets_all old now bs i le so_far = so_far ∙ ap (λ (t : List ℕ). old ++ bits t) (take_all i bs le)
 
 -- ---- groups of seven bits
 pub group_next : (text : List Bool) (total : List Bool) (i rest : ℕ) → i < 18 → 128 ≤ rest → text ++ bits (groups (18 - i) rest) ≡ total → (text ++ number_bits 8 (rest % 128 + 128)) ++ bits (groups (18 - (i + 1)) (rest / 128)) ≡ total

@@ -1,9 +1,9 @@
 -- The least width of a count.
-use Rattle.std.proofs.Common.{◌≡◌, ℕ, zero, suc, ◌+◌, ◌-◌, ◌^◌, ◌<◌, ◌≤◌, ◌⊎◌, inl, inr, add-zero, refl, sym, ap, ◌∙◌, subst, arith}
+use Rattle.std.proofs.Common.{◌≡◌, ℕ, zero, suc, ◌+◌, ◌*◌, ◌-◌, ◌^◌, ◌<◌, ◌≤◌, inl, inr, add-zero, sym, ◌∙◌, subst, arith}
 use Rattle.std.proofs.lemmas.Bool.{le-leb, lt-leb, cases_lt}
 use Rattle.std.proofs.Common.{lit<}
 use Rattle.std.proofs.Math.Nat.{pow-succ'}
-use Rattle.std.proofs.lemmas.Nat.{leading_top}
+use Rattle.std.proofs.lemmas.Nat.{leading_top, pow_pos}
 use Rattle.std.specs.Int.Count.{count_leading_zeros}
 use Rattle.exi_bits.proofs.BitLaws.{pow_up}
 use Rattle.exi_bits.specs.Widths.{width_from, width_for}
@@ -38,6 +38,22 @@ width_many count many fits =
     let w : 64 - count_leading_zeros 64 (count - 1) ≡ suc t.0 = omega (arith, t.1) in
     let short : suc t.0 ≤ count = omega (arith, t.2, below_self t.0) in
     w ∙ sym (width_found count 0 (suc t.0) count (λ k less. below_power t.0 k count (omega arith) (omega (arith, t.2))) (omega (arith, t.3)) (omega arith) (omega arith))
+
+-- the same in twice the count and none less, also for one thing
+pub width_twice : (count : ℕ) → 0 < count → 2 * count - 1 < 2 ^ 64 → 63 - count_leading_zeros 64 (2 * count - 1) ≡ width_for count
+width_twice count some fits =
+    let t = leading_top 64 (2 * count - 1) (omega arith) fits in
+    let w : 63 - count_leading_zeros 64 (2 * count - 1) ≡ t.0 = omega (arith, t.1) in
+    let twice : 2 ^ suc t.0 ≡ 2 * 2 ^ t.0 = pow-succ' 2 t.0 in
+    let holds : count ≤ 2 ^ t.0 = omega (arith, t.2, t.3) in
+    w ∙ sym (width_found count 0 t.0 count (λ k less. below_twice k t.0 count less (omega (arith, t.2))) holds (omega arith) (short t.0 count (omega (arith, t.2))))
+  where
+    below_twice : (k w count : ℕ) → k < w → 2 ^ w ≤ 2 * count - 1 → 2 ^ k < count
+    below_twice k w count less le = let p : 2 ^ suc k ≤ 2 ^ w = pow_up (suc k) w (omega arith) in let e : 2 ^ suc k ≡ 2 * 2 ^ k = pow-succ' 2 k in let some : 0 < 2 ^ k = pow_pos k in omega arith
+
+    short : (w count : ℕ) → 2 ^ w ≤ 2 * count - 1 → w ≤ 0 + count
+    short zero count le = omega arith
+    short (suc w) count le = let h = below_self w in let e : 2 ^ suc w ≡ 2 * 2 ^ w = pow-succ' 2 w in omega arith
 
 -- of the numbers from this one on the least that holds the count is found, if one that is tried does
 least_from : (tries n count : ℕ) → ((k : ℕ) → k < n → 2 ^ k < count) → count ≤ 2 ^ (n + tries) → (count ≤ 2 ^ width_from tries n count) × ((k : ℕ) → k < width_from tries n count → 2 ^ k < count)

@@ -1,10 +1,10 @@
 -- Words: eight bytes at a time.
-use Rattle.std.proofs.Common.{◌≡◌, ℕ, zero, suc, ◌+◌, ◌*◌, ◌-◌, ◌/◌, ◌%◌, ◌^◌, ◌<◌, ◌≤◌, Bool, List, [], ◌∷◌, ◌++◌, length, get_or, take, drop, refl, sym, ap, ◌∙◌, subst, append_assoc, inl, inr, add-zero, arith, bit_and}
-use Rattle.std.proofs.lemmas.List.{length-append, length-take, length-drop, take-append-drop, take_at, drop_at, take-take, drop-take, drop-drop, drop_more, get_or-drop, get_or-take}
-use Rattle.std.proofs.lemmas.Nat.{pow-add, shr_high, mod_low, and_mask, be_bytes_8}
-use Rattle.std.specs.Int.{w64, from_be_bytes, from_le_bytes, to_be_bytes}
-use Rattle.exi_bits.specs.Bits.{bits, number_bits, value_of, le_value, octets_of}
-use Rattle.exi_bits.proofs.BitLaws.{length-bits, length-number_bits, bits-append, bits-take, bits-drop, gathered_more, middle_of, number_bits-value_of, value_of-append, value_of_below, value_of-number_bits, one_byte, le_value_below, part_fits}
+use Rattle.std.proofs.Common.{◌≡◌, ℕ, zero, suc, ◌+◌, ◌*◌, ◌-◌, ◌/◌, ◌%◌, ◌^◌, ◌<◌, ◌≤◌, Bool, List, [], ◌∷◌, ◌++◌, length, get_or, take, drop, refl, sym, ap, ◌∙◌, subst, add-zero, arith, bit_and}
+use Rattle.std.proofs.lemmas.List.{length-take, length-drop, take-append-drop, take-take, drop-take, drop-drop, drop_more, get_or-drop, take_all}
+use Rattle.std.proofs.lemmas.Nat.{pow-add, shr_high, mod_low, and_mask, shl_below, shl-shr, shr-shr}
+use Rattle.std.specs.Int.{w64, from_be_bytes, from_le_bytes}
+use Rattle.exi_bits.specs.Bits.{bits, number_bits, value_of, le_value}
+use Rattle.exi_bits.proofs.BitLaws.{length-bits, bits-take, bits-drop, gathered_more, middle_of, value_of-append, value_of_below, value_of-number_bits, le_value_below, part_fits}
 
 -- so many bytes from i + k on, as they are read
 abbrev reads : List ℕ → ℕ → ℕ → ℕ → List ℕ
@@ -111,6 +111,48 @@ first_bits xs w n le long =
     let parts : value_of (take n xs) ≡ value_of (take w (take n xs)) * 2 ^ (n - w) + value_of (drop w (take n xs)) =
     ap value_of (sym (take-append-drop w (take n xs))) ∙ value_of-append front back ∙ ap (λ (k : ℕ). value_of (take w (take n xs)) * 2 ^ k + value_of (drop w (take n xs))) len in
     ap (λ (x : ℕ). x / 2 ^ (n - w)) parts ∙ shr_high (value_of front) (n - w) (value_of back) below ∙ ap value_of same
+
+-- the first bits of a word that was moved up
+moved_up : (xs : List Bool) (o w : ℕ) → o + w ≤ 64 → w ≤ 63 → length xs ≡ 64 → value_of xs * 2 ^ o % 2 ^ 64 / 2 ^ 1 / 2 ^ (63 - w) ≡ value_of (take w (drop o xs))
+moved_up xs o w le some len =
+    let a : ℕ = value_of (take o xs) in
+    let b : ℕ = value_of (drop o xs) in
+    let size : length (drop o xs) ≡ 64 - o = omega (arith, length-drop o xs) in
+    let below : value_of (drop o xs) < 2 ^ (64 - o) = subst (λ (k : ℕ). value_of (drop o xs) < 2 ^ k) size (value_of_below (drop o xs)) in
+    let whole : 64 - o + o ≡ 64 = omega arith in
+    let parts : value_of xs ≡ a * 2 ^ (64 - o) + b =
+    ap value_of (sym (take-append-drop o xs)) ∙ value_of-append (take o xs) (drop o xs) ∙ ap (λ (k : ℕ). a * 2 ^ k + b) size in
+    let power : 2 ^ (64 - o) * 2 ^ o ≡ 2 ^ 64 = sym (pow-add 2 (64 - o) o) ∙ ap (λ (k : ℕ). 2 ^ k) whole in
+    let up : value_of xs * 2 ^ o ≡ a * 2 ^ 64 + b * 2 ^ o =
+    ap (λ (x : ℕ). x * 2 ^ o) parts ∙ spread a (2 ^ (64 - o)) b (2 ^ o) ∙ ap (λ (p : ℕ). a * p + b * 2 ^ o) power in
+    let fits : b * 2 ^ o < 2 ^ 64 = subst (λ (k : ℕ). b * 2 ^ o < 2 ^ k) whole (shl_below b (64 - o) o below) in
+    let low : value_of xs * 2 ^ o % 2 ^ 64 ≡ b * 2 ^ o = ap (λ (x : ℕ). x % 2 ^ 64) up ∙ mod_low a 64 (b * 2 ^ o) fits in
+    let shift : 1 + (63 - w) ≡ o + (64 - o - w) = omega arith in
+    let down : b * 2 ^ o / 2 ^ 1 / 2 ^ (63 - w) ≡ b / 2 ^ (64 - o - w) =
+    shr-shr (b * 2 ^ o) 1 (63 - w) ∙ ap (λ (k : ℕ). b * 2 ^ o / 2 ^ k) shift ∙ sym (shr-shr (b * 2 ^ o) o (64 - o - w)) ∙ ap (λ (x : ℕ). x / 2 ^ (64 - o - w)) (shl-shr b o) in
+    let all : take (64 - o) (drop o xs) ≡ drop o xs = take_all (64 - o) (drop o xs) (omega arith) in
+    ap (λ (x : ℕ). x / 2 ^ 1 / 2 ^ (63 - w)) low ∙ down
+    ∙ ap (λ (t : List Bool). value_of t / 2 ^ (64 - o - w)) (sym all) ∙ first_bits (drop o xs) w (64 - o) (omega arith) (omega arith)
+  where
+    spread : (a p b q : ℕ) → (a * p + b) * q ≡ a * (p * q) + b * q
+    spread a p b q = grind arith
+
+-- eight bytes hold 57 bits at any bit of the first
+pub quick_is : (bs : List ℕ) (place width : ℕ) → width ≤ 57 → place / 8 + 8 ≤ length bs
+    → value_of (bits (take 8 (drop (place / 8) bs))) * 2 ^ (place % 8) % 2 ^ 64 / 2 ^ 1 / 2 ^ (63 - width) ≡ value_of (take width (drop place (bits bs)))
+quick_is bs place width narrow le =
+    let o : ℕ = place % 8 in
+    let start : List Bool = drop (8 * (place / 8)) (bits bs) in
+    let eight : length (bits (take 8 (drop (place / 8) bs))) ≡ 64 = omega (arith, length-bits (take 8 (drop (place / 8) bs)), length-take 8 (drop (place / 8) bs), length-drop (place / 8) bs) in
+    let inside : bits (take 8 (drop (place / 8) bs)) ≡ take 64 (drop (8 * (place / 8)) (bits bs)) =
+    sym (ap (λ (t : List Bool). take 64 t) (bits-drop (place / 8) bs (omega arith)) ∙ bits-take 8 (drop (place / 8) bs) (omega (arith, length-drop (place / 8) bs))) in
+    let e : 64 ≡ place % 8 + (64 - place % 8) = omega arith in
+    let spot : 8 * (place / 8) + place % 8 ≡ place = omega arith in
+    moved_up (bits (take 8 (drop (place / 8) bs))) (place % 8) width (omega arith) (omega arith) eight
+    ∙ ap (λ (t : List Bool). value_of (take width (drop o t))) (inside ∙ ap (λ (q : ℕ). take q start) e)
+    ∙ ap (λ (t : List Bool). value_of (take width t)) (drop-take o (64 - o) start)
+    ∙ ap value_of (take-take width (64 - o) (drop o start) (omega arith))
+    ∙ ap (λ (t : List Bool). value_of (take width t)) (drop-drop (place % 8) (8 * (place / 8)) (bits bs) ∙ ap (λ (q : ℕ). drop q (bits bs)) spot)
 
 -- ---- the low bytes of a word
 pub low_mask : (count : ℕ) → 1 ≤ count → count ≤ 8 → 18446744073709551615 / 2 ^ (64 - 8 * count) ≡ 2 ^ (8 * count) - 1

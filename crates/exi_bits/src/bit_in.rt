@@ -7,7 +7,7 @@ ghost use Rattle.exi_bits.specs.declared.align.Align.TheVariants as align;
 use crate::align::Align;
 use crate::fault::{Fault, Kind, Stop};
 use crate::widths::bits_for;
-use crate::words::{bits_at, bytes_at, narrow_at, octets_from, with_group};
+use crate::words::{bits_in, bytes_at, octets_from, with_group};
 use std::alloc::Global;
 use std::marker::Model;
 
@@ -74,10 +74,9 @@ impl<'a> BitIn<'a> {
     {
         match align {
             Align::Bits => {
-                if self.left() < u64::from(width) {
+                let Some(value) = bits_in(self.bytes, self.place, width) else {
                     return None;
-                }
-                let value = bits_at(self.bytes, self.place, width);
+                };
                 self.place += u64::from(width);
                 Some(value)
             }
@@ -118,20 +117,14 @@ impl<'a> BitIn<'a> {
         self.place = byte * 8;
     }
 
-    /// Takes eight bits, which lie in one byte or in two.
-    #[tactic(auto, unfolding(crate::specs::Bits::number_at))]
+    /// Takes eight bits.
     #[inline(always)]
     fn octet(&mut self) -> Option<u64>
         ensures read { Takes result self.old self.new (number_at 8 align.Bits self.old) }
         ensures below { IfSome result (λ v. v < 256) }
         ensures place { MatchOption result (self.new ≡ self.old) (λ _. self.new ≡ moved self.old 8) }
     {
-        if self.left() < 8 {
-            return None;
-        }
-        let value = narrow_at(self.bytes, self.place, 8);
-        self.place += 8;
-        Some(value)
+        self.take(8, Align::Bits)
     }
 
     /// Takes an Unsigned Integer of one octet (EXI 1.0, section 7.1.6) at any bit: the most frequent spelling of a
@@ -283,8 +276,13 @@ impl<'a> BitIn<'a> {
         ensures bytes { self.new.bytes ≡ self.old.bytes }
         ensures aligned { IsAligned align self.new }
     {
-        if count == 1 {
-            return Ok(0);
+        if count <= 1 {
+            // a number of no bits
+            if count == 1 {
+                return Ok(0);
+            }
+            let bit = self.at();
+            return Err(Fault { kind, bit });
         }
         self.one_of(count, align, kind)
     }

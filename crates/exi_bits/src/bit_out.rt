@@ -4,7 +4,7 @@ ghost use Rattle.exi_bits.specs.Unsigned.{shortest};
 ghost use Rattle.exi_bits.specs.Written.{zeros, written, padded, IsPadded, IsWholeBytes};
 
 use crate::align::Align;
-use crate::words::word_at;
+use crate::words::{gathered_few, word_at};
 use std::alloc::{AllocError, Global};
 use std::marker::Model;
 
@@ -50,6 +50,27 @@ fn push_bits(bytes: &mut Vec<u8>, value: u64, width: u32) -> u32
     }
     bytes.push_reserved((rest << (8 - left)) as u8);
     8 - left
+}
+
+/// The same by one word, which is less work where there are many bits. Answers how many 0 bits.
+#[inline]
+fn push_word(bytes: &mut Vec<u8>, value: u64, width: u32) -> u32
+    requires fits { value < 2 ^ width }
+    requires narrow { width ≤ 64 }
+    requires room { vec_len bytes.old + 8 ≤ vec_capacity bytes.old }
+    ensures bits { bits bytes.new.items ≡ bits bytes.old.items ++ number_bits width value ++ zeros result }
+    ensures spare { result < 8 }
+{
+    if width == 0 {
+        return 0;
+    }
+    let count = (width + 7) / 8;
+    let end = bytes.len() + count as usize;
+    let word = value << (64 - width);
+    // there is room for all of the word, of which the number's bytes stay
+    bytes.extend_from_slice(&word.to_be_bytes()).unwrap();
+    bytes.truncate(end);
+    count * 8 - width
 }
 
 /// Adds a number to a last byte that has room for it.
@@ -101,18 +122,6 @@ fn push_octet(bytes: &mut Vec<u8>, spare: u32, octet: u8)
     }
 }
 
-/// Octets behind bits that end in a part of a byte, one after another.
-fn push_each(bytes: &mut Vec<u8>, spare: u32, octets: &[u8])
-    requires padded { IsPadded bytes.old.items spare }
-    requires room { vec_len bytes.old + length octets.now ≤ vec_capacity bytes.old }
-    ensures padded { IsPadded bytes.new.items spare }
-    ensures bits { written bytes.new.items spare ≡ written bytes.old.items spare ++ bits octets.now }
-{
-    for octet in octets {
-        push_octet(bytes, spare, *octet);
-    }
-}
-
 /// Octets, eight at a time, behind whole bytes and so many bits of a number that fill no byte yet. Each
 /// eight leave their last bits, as many, to the next. Answers the number of those that are left.
 fn push_words(bytes: &mut Vec<u8>, behind: u32, first: u64, octets: &[u8]) -> u64
@@ -136,10 +145,10 @@ fn push_words(bytes: &mut Vec<u8>, behind: u32, first: u64, octets: &[u8]) -> u6
     tail
 }
 
-/// Octets behind bits that end in a part of a byte: words, and then the octets that are left.
+/// Octets behind bits that end in a part of a byte: words, and then the octets that are left as one number.
 fn push_octets(bytes: &mut Vec<u8>, spare: u32, octets: &[u8])
     requires padded { IsPadded bytes.old.items spare }
-    requires room { vec_len bytes.old + length octets.now ≤ vec_capacity bytes.old }
+    requires room { vec_len bytes.old + length octets.now + 8 ≤ vec_capacity bytes.old }
     ensures padded { IsPadded bytes.new.items spare }
     ensures bits { written bytes.new.items spare ≡ written bytes.old.items spare ++ bits octets.now }
 {
@@ -151,8 +160,10 @@ fn push_octets(bytes: &mut Vec<u8>, spare: u32, octets: &[u8])
     let front = octets.len() / 8 * 8;
     if let Some(last) = bytes.pop() {
         let tail = push_words(bytes, 8 - spare, u64::from(last >> spare), &octets[..front]);
-        bytes.push_reserved((tail << spare) as u8);
-        push_each(bytes, spare, &octets[front..]);
+        let rest = &octets[front..];
+        let width = 8 * rest.len() as u32;
+        let all = tail * (1u64 << width) + gathered_few(rest);
+        push_word(bytes, all, 8 - spare + width);
     }
 }
 
@@ -274,7 +285,8 @@ impl BitOut {
         ensures err { OnErr result (self.new ≡ self.old) }
         ensures phase { length self.new % 8 ≡ length self.old % 8 }
     {
-        self.bytes.reserve(octets.len())?;
+        // and for a whole word where the last of them are written
+        self.bytes.reserve(octets.len() + 8)?;
         push_octets(&mut self.bytes, self.spare, octets);
         Ok(())
     }

@@ -8,8 +8,12 @@ pub fn bits_for(count: u64) -> u32
     ensures width { result ≡ width_for count }
     ensures narrow { result ≤ 64 }
 {
-    if count <= 1 {
+    if count == 0 {
         return 0;
+    }
+    if count < 1 << 32 {
+        // one bit more than count - 1 has, also where that is 0
+        return u64::BITS - 1 - (2 * count - 1).leading_zeros();
     }
     u64::BITS - (count - 1).leading_zeros()
 }

@@ -6,6 +6,7 @@ ghost use Rattle.exi_items.specs.Fronts.{HoldsFront};
 ghost use Rattle.exi_names.specs.Seen.{seen};
 ghost use Rattle.exi_scalar.specs.Scalars.{IsDecimal, decimal_at, decimal_bits};
 
+use crate::short::read_unsigned;
 use crate::signed::{put_bit, read_bit};
 use exi_bits::{Align, BitIn, BitOut, Fault};
 use exi_names::Val;
@@ -20,8 +21,8 @@ fn decimal_parts(input: &mut BitIn<'_>, align: Align) -> Result<Val, Fault>
     ensures aligned { IsAligned align input.new }
 {
     let minus = read_bit(input, align)?;
-    let whole = input.unsigned()?;
-    let back = input.unsigned()?;
+    let whole = read_unsigned(input)?;
+    let back = read_unsigned(input)?;
     Ok(Val::Dec { minus, whole, back })
 }
 

@@ -1,4 +1,4 @@
-use Rattle.std.proofs.Common.{◌≡◌, ◌-◌, ◌+◌, ◌/◌, drop, ◌<◌, ◌^◌, ◌*◌, arith, sym, ◌∙◌, length}
+use Rattle.std.proofs.Common.{◌≡◌, ◌-◌, ◌+◌, ◌/◌, drop, ◌*◌, arith, sym, ◌∙◌}
 use Rattle.exi_bits.specs.Bits.{bits}
 use Rattle.exi_bits.proofs.BitLaws.{length-bits, value_below_at}
 use Rattle.exi_bits.proofs.OctetLaws.{copied_octets, next_octet, next_word, octets_none}

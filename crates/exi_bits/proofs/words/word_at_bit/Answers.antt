@@ -1,4 +1,4 @@
-use Rattle.std.proofs.Common.{◌≡◌, ◌+◌, ◌*◌, ◌-◌, ◌/◌, ◌%◌, ◌^◌, ◌<◌, get_or, take, drop, arith, refl}
+use Rattle.std.proofs.Common.{◌≡◌, ◌+◌, ◌*◌, ◌-◌, ◌/◌, ◌%◌, ◌^◌, take, drop, arith}
 use Rattle.exi_bits.specs.Bits.{bits, value_of}
 use Rattle.exi_bits.proofs.BitLaws.{value_below_at}
 use Rattle.exi_bits.proofs.WordLaws.{word_at_bit_is}

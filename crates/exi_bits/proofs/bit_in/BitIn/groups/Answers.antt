@@ -1,7 +1,6 @@
 use Rattle.std.proofs.Common.{◌*◌, arith, ap, refl, ◌∙◌}
 use Rattle.exi_bits.specs.declared.fault.Kind.TheVariants as kind
 use Rattle.exi_bits.specs.Bits.{Spot}
-use Rattle.exi_bits.specs.Unsigned.{groups_at}
 use Rattle.exi_bits.proofs.Groups.{behind_is, ends_short, ends_wide, goes_on, last_group, narrow_err, too_wide_at, with_first}
 use Rattle.exi_bits.proofs.bit_in.BitIn.groups.Goals as goal
 

@@ -1,5 +1,5 @@
-use Rattle.std.proofs.Common.{ℕ, ◌≡◌, ◌+◌, ◌*◌, ◌≤◌, ◌<◌, Ok, arith, ap, refl, ◌∙◌}
-use Rattle.exi_bits.specs.Bits.{at_bit, left}
+use Rattle.std.proofs.Common.{◌≡◌, ◌*◌, ◌≤◌, ◌<◌, arith, refl, ◌∙◌}
+use Rattle.exi_bits.specs.Bits.{left}
 use Rattle.exi_bits.proofs.OctetLaws.{octets_read, octets_short}
 use Rattle.exi_bits.proofs.bit_in.BitIn.octets.Goals as goal
 

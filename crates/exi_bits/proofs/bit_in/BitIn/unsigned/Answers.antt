@@ -1,4 +1,4 @@
-use Rattle.std.proofs.Common.{ap, refl, ◌∙◌, ◌≡◌}
+use Rattle.std.proofs.Common.{ap, refl, ◌∙◌}
 use Rattle.exi_bits.specs.Bits.{Spot}
 use Rattle.exi_bits.proofs.Groups.{at_start, more_octets, no_octet, one_octet}
 use Rattle.exi_bits.proofs.bit_in.BitIn.unsigned.Goals as goal
