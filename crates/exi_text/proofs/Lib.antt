@@ -1,5 +1,6 @@
 pub mod Sets
 mod Codes
+mod Rooms
 mod Runs
 mod ShortCodes
 mod WordTests

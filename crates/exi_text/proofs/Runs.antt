@@ -210,7 +210,7 @@ run_on {X} read (suc n) m s t xs h =
     one_more : (p : X × Spot) (q : List X × Spot) → suc n + m ≡ suc (n + m) → read s ≡ given p → times read (n + m) p.1 ≡ with_front q.0 (times read m q.1) → times read (suc n + m) s ≡ with_front (p.0 ∷ q.0) (times read m q.1)
     one_more p q k one again = rw (k, one, again) (cons_front p.0 q.0 (times read m q.1))
 
-two_fronts : {X : Type 0} (front xs : List X) (r : Result (List X × Spot) Fault) → with_front front (with_front xs r) ≡ with_front (front ++ xs) r
+pub two_fronts : {X : Type 0} (front xs : List X) (r : Result (List X × Spot) Fault) → with_front front (with_front xs r) ≡ with_front (front ++ xs) r
 two_fronts {X} front xs (Ok more) = ap (λ (ys : List X). Ok (ys, more.1)) (simp append_assoc)
 two_fronts front xs (Err f) = refl
 

@@ -1,8 +1,9 @@
 -- A word's octets, looked at all at once.
-use Rattle.std.proofs.Common.{◌≡◌, ℕ, zero, suc, ◌+◌, ◌*◌, ◌-◌, ◌/◌, ◌%◌, ◌^◌, ◌<◌, ◌≤◌, Bool, true, false, ◌||◌, List, get_or, take, refl, sym, ap, ◌∙◌, subst, arith}
-use Rattle.std.specs.Int.{w64, to_be_bytes}
-use Rattle.std.proofs.lemmas.Bool.{and_parts, eqb-true, le-leb}
-use Rattle.std.proofs.lemmas.Nat.{shr-shr}
+use Rattle.std.proofs.Common.{◌≡◌, ℕ, zero, suc, ◌+◌, ◌*◌, ◌-◌, ◌/◌, ◌%◌, ◌^◌, ◌<◌, ◌≤◌, inl, inr, Bool, true, false, ◌||◌, List, length, get_or, take, drop, length-take-le, refl, sym, ap, ◌∙◌, subst, arith}
+use Rattle.std.specs.Int.{w64, from_be_bytes, to_be_bytes}
+use Rattle.std.proofs.lemmas.Bool.{and_parts, cases_lt, eqb-true, le-leb}
+use Rattle.std.proofs.lemmas.List.{get_or-drop, get_or-take, get_or_past, length-drop}
+use Rattle.std.proofs.lemmas.Nat.{be_bytes_8, shr-shr}
 use Rattle.exi_names.specs.Characters.{between}
 use Rattle.exi_text.specs.Literals.{is_plain}
 use Rattle.exi_text.specs.Words.{is_plain_word, no_tops}
@@ -128,3 +129,15 @@ fill_is w (suc (suc (suc (suc (suc zero))))) fits some few = (omega arith, omega
 fill_is w (suc (suc (suc (suc (suc (suc zero)))))) fits some few = (omega arith, omega arith)
 fill_is w (suc (suc (suc (suc (suc (suc (suc zero))))))) fits some few = (omega arith, omega arith)
 fill_is w (suc (suc (suc (suc (suc (suc (suc (suc n)))))))) fits some few = absurd (omega arith)
+
+-- ---- eight octets among others
+pub eight_are_plain : (all os : List ℕ) (at v : ℕ) → at + 8 ≤ length all → v < 18446744073709551616 → ((i : ℕ) → get_or all i 0 < 256) → os ≡ take 8 (drop at all) → v ≡ from_be_bytes w64 os → is_plain_word v ≡ true → (i : ℕ) → at ≤ i → i < at + 8 → is_plain (get_or all i 0) ≡ true
+eight_are_plain all os at v within fits bytes part word h i le lt =
+    let len : length os ≡ 8 = ap length part ∙ length-take-le 8 (drop at all) (omega (arith, length-drop at all, within)) in
+    let each : (j : ℕ) → j < 8 → get_or os j 0 ≡ get_or all (at + j) 0 = λ j few. ap (λ (x : List ℕ). get_or x j 0) part ∙ get_or-take 8 (drop at all) j 0 few ∙ get_or-drop at all j 0 in
+    let same : to_be_bytes w64 v ≡ os = be_bytes_8 os v len (λ j. elim (cases_lt j 8) [
+      | inl few ↦ let e = each j few in let b = bytes (at + j) in omega (arith, e, b)
+      | inr past ↦ let e : get_or os j 0 ≡ 0 = get_or_past os j 0 (omega (arith, len, past)) in omega (arith, e)
+    ]) word in
+    let k : at + (i - at) ≡ i = omega arith in
+    ap (λ (n : ℕ). is_plain (get_or all n 0)) (sym k) ∙ ap is_plain (sym (each (i - at) (omega (arith, lt, le)))) ∙ word_octets_plain v os fits (sym same) h (i - at) (omega (arith, lt, le))

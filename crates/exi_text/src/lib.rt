@@ -19,16 +19,17 @@
 //!      +-------+-------+---------------+
 //! ```
 //!
-//! The characters of a text are decoded in one pass, straight into it, with room for as many as the bits
-//! that are left can hold, and for a few longer ones. Those of ASCII, an octet each, are taken eight at
-//! once, as a word, and written by runs. A set's characters are decoded at most once a call, and not at
-//! all where they are ASCII alone: a place is one step to its character, and a character is found by
-//! binary search.
+//! The characters of a text are decoded in one pass, with room for as many as the bits that are left can
+//! hold, and for a few longer ones. Those of ASCII, an octet each, are taken eight at once, as a word, and
+//! written by runs. What is read is laid side by side as UTF-8 in a few octets apart, which are added to the
+//! text together. A set's characters are decoded at most once a call, and not at all where they are ASCII
+//! alone: a place is one step to its character, and a character is found by binary search.
 #![tactic(auto)]
 
 pub mod laws;
 mod plain;
 mod read;
+mod room;
 mod set;
 mod word;
 mod write;

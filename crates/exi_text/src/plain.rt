@@ -1,4 +1,4 @@
-ghost use Rattle.std.specs.Prelude.{◌≡◌, ℕ, ◌++◌, ◌%◌, ◌<◌, ◌≤◌, IfOk, IsTrue, true, not, OnOk, length, get_or, position, take};
+ghost use Rattle.std.specs.Prelude.{◌≡◌, ℕ, ◌+◌, ◌++◌, ◌%◌, ◌<◌, ◌≤◌, IsTrue, Ok, true, not, length, get_or, position, take};
 ghost use Rattle.std.specs.Int.{to_be_bytes, w64};
 ghost use Rattle.std.specs.Str.{IsAscii};
 ghost use Rattle.exi_bits.specs.Bits.{octets_of, rest};
@@ -6,10 +6,9 @@ ghost use Rattle.exi_bits.specs.Repeat.{times};
 ghost use Rattle.exi_names.specs.Characters.{between};
 ghost use Rattle.exi_text.specs.Literals.{code_at, is_plain};
 
-use crate::word::{filled, is_plain_word};
+use crate::room::lay;
+use crate::word::{filled, front_of, is_plain_word};
 use exi_bits::{Align, BitIn};
-use exi_names::Txt;
-use std::alloc::AllocError;
 
 /// The place of the first octet that is not surely plain.
 fn other_place(octets: &[u8]) -> Option<usize>
@@ -20,8 +19,35 @@ fn other_place(octets: &[u8]) -> Option<usize>
         .position(|octet| !matches!(*octet, 0x20..=0x7F))
 }
 
+/// Whether the eight octets at a place are surely plain, by one test.
+#[inline(always)]
+fn eight_plain(octets: &[u8], at: usize) -> bool
+    requires { at + 8 ≤ length octets.now }
+    ensures { IsTrue result → (i : ℕ) → at ≤ i → i < at + 8 → is_plain (get_or octets.now i 0) ≡ true }
+{
+    let mut eight = [0u8; 8];
+    eight.copy_from_slice(&octets[at..at + 8]);
+    is_plain_word(u64::from_be_bytes(eight))
+}
+
+/// Whether a few octets are surely plain: words of eight, of which the last ends where they end.
+#[inline(always)]
+fn few_plain(octets: &[u8]) -> bool
+    requires { 8 ≤ length octets.now }
+    ensures { IsTrue result → (i : ℕ) → i < length octets.now → is_plain (get_or octets.now i 0) ≡ true }
+{
+    let mut at = 0;
+    while octets.len() - at > 8 {
+        if !eight_plain(octets, at) {
+            return false;
+        }
+        at += 8;
+    }
+    eight_plain(octets, octets.len() - 8)
+}
+
 /// Whether all octets are surely plain, looked at many at once: none of them ends the search.
-pub fn all_plain(octets: &[u8]) -> bool
+fn many_plain(octets: &[u8]) -> bool
     ensures { IsTrue result → (i : ℕ) → i < length octets.now → is_plain (get_or octets.now i 0) ≡ true }
 {
     let mut all = true;
@@ -31,110 +57,81 @@ pub fn all_plain(octets: &[u8]) -> bool
     all
 }
 
-/// How many surely plain octets there are in a word before any other, at most so many.
+/// Whether all octets are surely plain.
 #[inline(always)]
-fn plain_front(octets: &[u8; 8], most: usize) -> usize
+pub fn all_plain(octets: &[u8]) -> bool
+    ensures { IsTrue result → (i : ℕ) → i < length octets.now → is_plain (get_or octets.now i 0) ≡ true }
+{
+    if octets.len() >= 8 && octets.len() < 32 {
+        return few_plain(octets);
+    }
+    many_plain(octets)
+}
+
+/// How many surely plain octets there are in a word before any other, at most so many, looked at one by one.
+#[cold]
+#[inline(never)]
+fn plain_front(word: u64, most: u32) -> u32
     ensures few { result ≤ most }
-    ensures within { result ≤ length octets.now }
-    ensures plain { (i : ℕ) → i < result → is_plain (get_or octets.now i 0) ≡ true }
+    ensures plain { (i : ℕ) → i < result → is_plain (get_or (to_be_bytes w64 word) i 0) ≡ true }
 {
-    match other_place(octets) {
-        Some(place) => place.min(most),
-        None => octets.len().min(most),
+    let octets = word.to_be_bytes();
+    let most = most as usize;
+    match other_place(&octets) {
+        Some(place) => place.min(most) as u32,
+        None => octets.len().min(most) as u32,
     }
 }
 
-/// Adds the first octets of a word, which are ASCII and not all. Each number of them is a copy of known length.
+/// How many surely plain octets there are in a word before any other, at most so many and seven. Where all that are
+/// asked for are plain, or the quick look at the word is right, a test of all of them at once tells it; the look is
+/// right but for a few control characters.
 #[inline(always)]
-fn push_front(text: &mut Txt, octets: &[u8; 8], run: usize) -> Result<(), AllocError>
-    requires few { run < 8 }
-    requires ascii { IsAscii (take run octets.now) }
-    ensures ok { OnOk result (text.new ≡ text.old ++ take run octets.now) }
+fn plain_run(word: u64, most: u64) -> u32
+    requires some { 0 < most }
+    ensures few { result ≤ most }
+    ensures part { result < 8 }
+    ensures plain { (i : ℕ) → i < result → is_plain (get_or (to_be_bytes w64 word) i 0) ≡ true }
 {
-    match run {
-        0 => Ok(()),
-        1 => text.push_ascii(&octets[..1]),
-        2 => text.push_ascii(&octets[..2]),
-        3 => text.push_ascii(&octets[..3]),
-        4 => text.push_ascii(&octets[..4]),
-        5 => text.push_ascii(&octets[..5]),
-        6 => text.push_ascii(&octets[..6]),
-        _ => text.push_ascii(&octets[..7]),
+    let most = most.min(8) as u32;
+    if most < 8 && is_plain_word(filled(word, most)) {
+        return most;
     }
+    let run = front_of(word).min(most).min(7);
+    if run == 0 {
+        return 0;
+    }
+    if is_plain_word(filled(word, run)) {
+        return run;
+    }
+    plain_front(word, most.min(7))
 }
 
-/// Adds plain characters that stand at the place, and answers how many: at most eight, which a word holds,
-/// and at most so many. None where the word does not surely begin with one, or fewer bits than a word has are
-/// left. After an `Err` the place is anything.
+/// Lays plain characters that stand at the place into a room, and answers how many: at most eight, which a word holds,
+/// and at most so many. None where the word does not surely begin with one, or fewer bits than a word has are left.
+/// Behind them the room may change.
 #[inline(always)]
-pub fn add_plain(input: &mut BitIn<'_>, text: &mut Txt, most: u64) -> Result<u64, AllocError>
-    ensures few { IfOk result (λ n. n ≤ most) }
-    ensures text { IfOk result (λ n. text.new ≡ text.old ++ octets_of n (rest input.old)) }
-    ensures read { IfOk result (λ n. times code_at n input.old ≡ Ok (octets_of n (rest input.old), input.new)) }
+pub fn lay_plain(input: &mut BitIn<'_>, room: &mut [u8], at: usize, most: u64) -> u64
+    requires room { at + 8 ≤ length room.old }
+    requires some { 0 < most }
+    ensures few { result ≤ most }
+    ensures word { result ≤ 8 }
+    ensures laid { take (at + result) room.new ≡ take at room.old ++ octets_of result (rest input.old) }
+    ensures ascii { IsAscii (octets_of result (rest input.old)) }
+    ensures read { times code_at result input.old ≡ Ok (octets_of result (rest input.old), input.new) }
+    ensures len { length room.new ≡ length room.old }
     ensures bytes { input.new.bytes ≡ input.old.bytes }
     ensures phase { input.new.place % 8 ≡ input.old.place % 8 }
 {
     let Some(word) = input.take(64, Align::Bits) else {
-        return Ok(0);
+        return 0;
     };
-    let octets = word.to_be_bytes();
+    lay(room, at, &word.to_be_bytes());
     if most >= 8 && is_plain_word(word) {
-        text.push_ascii(&octets)?;
-        return Ok(8);
+        return 8;
     }
-    let run = plain_front(&octets, most.min(7) as usize);
+    let run = u64::from(plain_run(word, most));
     let behind = input.at();
-    input.go_to_bit(behind - (8 - run as u64) * 8);
-    push_front(text, &octets, run)?;
-    Ok(run as u64)
-}
-
-/// Adds the eight characters that stand at the place where each is surely plain, and answers how many: eight
-/// or none. After an `Err` the place is anything.
-#[inline(always)]
-pub fn add_word(input: &mut BitIn<'_>, text: &mut Txt) -> Result<u64, AllocError>
-    ensures few { IfOk result (λ n. n ≤ 8) }
-    ensures text { IfOk result (λ n. text.new ≡ text.old ++ octets_of n (rest input.old)) }
-    ensures read { IfOk result (λ n. times code_at n input.old ≡ Ok (octets_of n (rest input.old), input.new)) }
-    ensures bytes { input.new.bytes ≡ input.old.bytes }
-    ensures phase { input.new.place % 8 ≡ input.old.place % 8 }
-{
-    let start = input.at();
-    let Some(word) = input.take(64, Align::Bits) else {
-        return Ok(0);
-    };
-    let octets = word.to_be_bytes();
-    if !is_plain_word(word) {
-        input.go_to_bit(start);
-        return Ok(0);
-    }
-    text.push_ascii(&octets)?;
-    Ok(8)
-}
-
-/// Adds so many characters that stand at the place, fewer than eight, where each is surely plain, and answers
-/// how many: so many or none. After an `Err` the place is anything.
-#[inline(always)]
-pub fn add_few(input: &mut BitIn<'_>, text: &mut Txt, most: u32) -> Result<u64, AllocError>
-    requires some { 1 ≤ most }
-    requires few { most < 8 }
-    ensures few { IfOk result (λ n. n ≤ most) }
-    ensures text { IfOk result (λ n. text.new ≡ text.old ++ octets_of n (rest input.old)) }
-    ensures read { IfOk result (λ n. times code_at n input.old ≡ Ok (octets_of n (rest input.old), input.new)) }
-    ensures bytes { input.new.bytes ≡ input.old.bytes }
-    ensures phase { input.new.place % 8 ≡ input.old.place % 8 }
-{
-    let start = input.at();
-    let Some(word) = input.take(64, Align::Bits) else {
-        return Ok(0);
-    };
-    let octets = word.to_be_bytes();
-    if !is_plain_word(filled(word, most)) {
-        input.go_to_bit(start);
-        return Ok(0);
-    }
-    let behind = input.at();
-    input.go_to_bit(behind - (8 - u64::from(most)) * 8);
-    push_front(text, &octets, most as usize)?;
-    Ok(u64::from(most))
+    input.go_to_bit(behind - (8 - run) * 8);
+    run
 }

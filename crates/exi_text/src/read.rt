@@ -1,18 +1,21 @@
-ghost use Rattle.std.specs.Prelude.{◌≡◌, ◌-◌, ◌%◌, ◌<◌, ◌≤◌, [], IfOk, IfErr, IfNone, IfSome, MatchOption, Ok, OnErr, option_copied};
+ghost use Rattle.std.specs.Prelude.{◌≡◌, ◌+◌, ◌-◌, ◌%◌, ◌<◌, ◌≤◌, [], length, take, IfOk, IfErr, IfNone, IfSome, MatchOption, Ok, OnErr, option_copied};
 ghost use Rattle.std.specs.Bool.{OnTrue};
+ghost use Rattle.std.specs.Str.{IsAscii, IsUtf8, chars};
 ghost use Rattle.exi_bits.specs.Bits.{IsAligned};
 ghost use Rattle.exi_bits.specs.Unsigned.{Reads, ReadsSome, Stops, StopsAs};
 ghost use Rattle.exi_bits.specs.Repeat.{times, with_front};
 ghost use Rattle.exi_items.specs.Charges.{Charges, after_text, meter_after, text_charge};
 ghost use Rattle.exi_text.specs.Literals.{code_at, in_set_at, chars_at};
 
-use crate::plain::{add_few, add_plain, add_word};
+use crate::plain::lay_plain;
+use crate::room::{lay_char, push_room};
 use crate::set::Set;
 use exi_bits::{Align, BitIn, Fault, Kind, Stop};
 use exi_items::charge_text;
 use exi_meter::Meter;
 use exi_names::{Alphabet, Txt, xml_char};
 use std::alloc::{AllocError, Global};
+use std::mem::replace;
 
 /// A character whose code point takes an octet, two or three, all in the word that stands at the place.
 /// None where it takes more, is no XML character, or fewer bits than a word has are left; nothing moves then.
@@ -28,21 +31,21 @@ fn short_code(input: &mut BitIn<'_>) -> Option<char>
     };
     let behind = input.at();
     let octets = word.to_be_bytes();
-    let first = u128::from(octets[0]);
-    let second = u128::from(octets[1]);
-    let third = u128::from(octets[2]);
+    let first = u64::from(octets[0]);
+    let second = u64::from(octets[1]);
+    let third = u64::from(octets[2]);
     if first < 128 {
-        if let Some(c) = xml_char(first) {
+        if let Some(c) = xml_char(u128::from(first)) {
             input.go_to_bit(behind - 56);
             return Some(c);
         }
     } else if second < 128 {
-        if let Some(c) = xml_char(first - 128 + 128 * second) {
+        if let Some(c) = xml_char(u128::from(first - 128 + 128 * second)) {
             input.go_to_bit(behind - 48);
             return Some(c);
         }
     } else if third < 128 {
-        if let Some(c) = xml_char(first - 128 + 128 * (second - 128 + 128 * third)) {
+        if let Some(c) = xml_char(u128::from(first - 128 + 128 * (second - 128 + 128 * third))) {
             input.go_to_bit(behind - 40);
             return Some(c);
         }
@@ -128,6 +131,122 @@ fn add_codes(input: &mut BitIn<'_>, text: &mut Txt, most: u128) -> Result<u128, 
     Ok(most)
 }
 
+/// What was laid into a room: where it ends, and how many characters they are.
+#[derive(Clone, Copy)]
+struct Laid {
+    end: usize,
+    count: u64,
+}
+
+/// Lays plain characters into a room, a word at a time, as long as there are any and a word fits, and answers how many:
+/// at most so many. Behind them the room may change.
+#[inline(always)]
+fn lay_run(input: &mut BitIn<'_>, room: &mut [u8], at: usize, most: u64) -> u64
+    requires room { at + 8 ≤ length room.old }
+    requires utf8 { IsUtf8 (take at room.old) }
+    ensures few { result ≤ most }
+    ensures end { at + result ≤ length room.old }
+    ensures utf8 { IsUtf8 (take (at + result) room.new) }
+    ensures ascii { IsAscii (take at room.old) → IsAscii (take (at + result) room.new) }
+    ensures read { with_front (chars (take (at + result) room.new)) (times code_at (most - result) input.new) ≡ with_front (chars (take at room.old)) (times code_at most input.old) }
+    ensures len { length room.new ≡ length room.old }
+    ensures bytes { input.new.bytes ≡ input.old.bytes }
+    ensures phase { input.new.place % 8 ≡ input.old.place % 8 }
+{
+    let room_left = (room.len() - at - 7) as u64;
+    let words = room_left.min(most.saturating_sub(7));
+    let mut count = 0;
+    let mut last = 8;
+    while last == 8 && count < words {
+        last = lay_plain(input, room, at + count as usize, 8);
+        count += last;
+    }
+    if last < 8 || count >= room_left || count == most {
+        return count;
+    }
+    count + lay_plain(input, room, at + count as usize, most - count)
+}
+
+/// Lays characters into a room, at most so many: plain ones, and one behind them that takes three octets at most.
+/// None where there is no such one, or no word is left. Behind them the room may change.
+#[inline(always)]
+fn lay_both(input: &mut BitIn<'_>, room: &mut [u8], at: usize, most: u64) -> Laid
+    requires room { at + 12 ≤ length room.old }
+    requires utf8 { IsUtf8 (take at room.old) }
+    ensures few { result.count ≤ most }
+    ensures end { result.end ≤ length room.old }
+    ensures utf8 { IsUtf8 (take result.end room.new) }
+    ensures read { with_front (chars (take result.end room.new)) (times code_at (most - result.count) input.new) ≡ with_front (chars (take at room.old)) (times code_at most input.old) }
+    ensures len { length room.new ≡ length room.old }
+    ensures bytes { input.new.bytes ≡ input.old.bytes }
+    ensures phase { input.new.place % 8 ≡ input.old.place % 8 }
+{
+    let run = lay_run(input, room, at, most);
+    let end = at + run as usize;
+    if run == most || room.len() - end < 4 {
+        return Laid { end, count: run };
+    }
+    match short_code(input) {
+        Some(c) => Laid {
+            end: lay_char(room, end, c),
+            count: run + 1,
+        },
+        None => Laid { end, count: run },
+    }
+}
+
+/// Lays characters into a room, at most so many, as long as there are any that [`lay_both`] lays, or until it is nearly
+/// full. Behind them the room may change.
+#[inline(always)]
+fn lay_here(input: &mut BitIn<'_>, room: &mut [u8], most: u64) -> Laid
+    requires room { 12 ≤ length room.old }
+    ensures few { result.count ≤ most }
+    ensures end { result.end ≤ length room.old }
+    ensures utf8 { IsUtf8 (take result.end room.new) }
+    ensures read { with_front (chars (take result.end room.new)) (times code_at (most - result.count) input.new) ≡ times code_at most input.old }
+    ensures len { length room.new ≡ length room.old }
+    ensures bytes { input.new.bytes ≡ input.old.bytes }
+    ensures phase { input.new.place % 8 ≡ input.old.place % 8 }
+{
+    let mut end = 0;
+    let mut left = most;
+    let mut last = 1;
+    while last > 0 && left > 0 && room.len() - end >= 12 {
+        let laid = lay_both(input, room, end, left);
+        last = laid.count;
+        left -= last;
+        end = laid.end;
+    }
+    Laid {
+        end,
+        count: most - left,
+    }
+}
+
+/// No octets.
+const NONE: &[u8] = &[];
+
+/// Lays characters into a room as [`lay_here`] does. The input is a local meanwhile, whose place needs no memory.
+#[inline(always)]
+fn lay_some(input: &mut BitIn<'_>, room: &mut [u8], most: u64) -> Laid
+    requires room { 12 ≤ length room.old }
+    ensures few { result.count ≤ most }
+    ensures end { result.end ≤ length room.old }
+    ensures utf8 { IsUtf8 (take result.end room.new) }
+    ensures read { with_front (chars (take result.end room.new)) (times code_at (most - result.count) input.new) ≡ times code_at most input.old }
+    ensures len { length room.new ≡ length room.old }
+    ensures bytes { input.new.bytes ≡ input.old.bytes }
+    ensures phase { input.new.place % 8 ≡ input.old.place % 8 }
+{
+    let mut here = replace(input, BitIn::new(NONE));
+    let laid = lay_here(&mut here, room, most);
+    *input = here;
+    laid
+}
+
+/// How many octets of UTF-8 are laid side by side before they are added to a text.
+const MIXED: usize = 256;
+
 /// Adds characters by their code points as long as each takes three octets at most and a word is left, and
 /// answers how many: at most so many. After an `Err` the place is anything.
 #[inline(always)]
@@ -142,16 +261,13 @@ fn add_short(input: &mut BitIn<'_>, text: &mut Txt, most: u128) -> Result<u64, A
     }
     let count = most as u64;
     let mut left = count;
-    while left > 0 {
-        let run = add_plain(input, text, left)?;
-        left -= run;
-        if run < 8 && left > 0 {
-            let Some(c) = short_code(input) else {
-                return Ok(count - left);
-            };
-            text.push(c)?;
-            left -= 1;
-        }
+    let mut room = [0u8; MIXED];
+    let mut last = 1;
+    while last > 0 && left > 0 {
+        let laid = lay_some(input, &mut room, left);
+        push_room(text, &room, laid.end)?;
+        last = laid.count;
+        left -= last;
     }
     Ok(count - left)
 }
@@ -190,6 +306,9 @@ fn others_added(input: &mut BitIn<'_>, text: &mut Txt, count: u64) -> bool
     }
 }
 
+/// How many octets of plain characters are laid side by side before they are added to a text.
+const PLAIN: usize = 64;
+
 /// Adds characters of an octet each from the place on, and answers how many: at most so many. After an `Err`
 /// the place is anything.
 #[inline(always)]
@@ -200,15 +319,12 @@ fn add_run(input: &mut BitIn<'_>, text: &mut Txt, most: u64) -> Result<u64, Allo
     ensures phase { input.new.place % 8 ≡ input.old.place % 8 }
 {
     let mut left = most;
-    while left >= 8 {
-        let run = add_word(input, text)?;
-        if run == 0 {
-            return Ok(most - left);
-        }
+    let mut room = [0u8; PLAIN];
+    let mut run = PLAIN as u64;
+    while run > PLAIN as u64 - 8 && left > 0 {
+        run = lay_run(input, &mut room, 0, left);
+        text.push_ascii(&room[..run as usize])?;
         left -= run;
-    }
-    if left > 0 {
-        left -= add_few(input, text, left as u32)?;
     }
     Ok(most - left)
 }

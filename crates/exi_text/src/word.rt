@@ -34,3 +34,12 @@ pub fn filled(word: u64, most: u32) -> u64
     let others = 64 - 8 * most;
     (word >> others << others) + (0x2020202020202020u64 >> (8 * most))
 }
+
+/// How many octets of a word come before the first that is surely not plain, at most eight, as a quick look has it: an
+/// octet above 7F has its top bit, and one below 20 has it where it is taken from 9F. What an octet takes away from the
+/// one before it can make that look wrong for a control character, so the answer is to be tested.
+#[inline(always)]
+pub fn front_of(word: u64) -> u32 {
+    let tops = (word | 0x9F9F9F9F9F9F9F9Fu64.wrapping_sub(word)) & 0x8080808080808080;
+    tops.leading_zeros() / 8
+}

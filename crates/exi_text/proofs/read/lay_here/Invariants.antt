@@ -1,0 +1,19 @@
+use Rattle.std.proofs.Common.{◌≡◌, ◌+◌, ◌≤◌, ◌%◌, length, take}
+use Rattle.std.specs.Str.{IsUtf8, chars}
+use Rattle.exi_bits.specs.Repeat.{times, with_front}
+use Rattle.exi_text.specs.Literals.{code_at}
+use Rattle.exi_text.proofs.read.lay_here.Given as goal
+
+abbrev pub invariant-loop-last : goal.invariant-loop-last
+invariant-loop-last l = record {
+  so_far : with_front (chars (take l.end l.room)) (times code_at l.left l.input) ≡ times code_at l.most l.fn.input;
+  utf8 : IsUtf8 (take l.end l.room);
+  end : l.end ≤ length l.room;
+  len : length l.room ≡ length l.fn.room;
+  within : l.left ≤ l.most;
+  bytes : l.input.bytes ≡ l.fn.input.bytes;
+  phase : l.input.place % 8 ≡ l.fn.input.place % 8;
+}
+
+abbrev pub decreases-loop-last : goal.decreases-loop-last
+decreases-loop-last l = l.left + l.last
