@@ -62,7 +62,7 @@ two_digits_told least most n low high few =
 two_digits_front : (least most n : ℕ) (rest : List ℕ) → least ≤ n → n ≤ most → n < 100 → two_digits_at least most (padded 2 n ++ rest) ≡ some (n, rest)
 two_digits_front least most n rest low high few = rw (padded_two n few) (ap (option_map (λ (k : ℕ). (k, rest))) (two_digits_told least most n low high few))
 
-two_digits_back : (least most tens ones n : ℕ) → two_digits_of least most tens ones ≡ some n → (tens ∷ ones ∷ [] ≡ padded 2 n) × (least ≤ n) × (n ≤ most)
+pub two_digits_back : (least most tens ones n : ℕ) → two_digits_of least most tens ones ≡ some n → (tens ∷ ones ∷ [] ≡ padded 2 n) × (least ≤ n) × (n ≤ most)
 unfolding two_digits_of
 two_digits_back least most tens ones n e =
     let g = cond_some_of (is_digit tens && is_digit ones) (within least most ((tens - 48) * 10 + (ones - 48))) n e in
@@ -78,6 +78,16 @@ two_digits_back least most tens ones n e =
     let r : 48 + n % 10 ≡ ones = omega arith in
     let few : n < 100 = omega arith in
     (rw (padded_two n few, q, r) refl, omega arith, omega arith)
+
+pub two_digits_number : (least most tens ones n : ℕ) → two_digits_of least most tens ones ≡ some n → (is_digit tens ≡ true) × (is_digit ones ≡ true) × (n ≡ (tens - 48) * 10 + (ones - 48)) × (n ≤ most)
+unfolding two_digits_of
+two_digits_number least most tens ones n e =
+    let g = cond_some_of (is_digit tens && is_digit ones) (within least most ((tens - 48) * 10 + (ones - 48))) n e in
+    let d = and_parts (is_digit tens) (is_digit ones) g.0 in
+    let w = cond_some (leb least ((tens - 48) * 10 + (ones - 48)) && leb ((tens - 48) * 10 + (ones - 48)) most) ((tens - 48) * 10 + (ones - 48)) n g.1 in
+    let b = and_parts (leb least ((tens - 48) * 10 + (ones - 48))) (leb ((tens - 48) * 10 + (ones - 48)) most) w.0 in
+    let high = leb-true ((tens - 48) * 10 + (ones - 48)) most b.1 in
+    (d.0, d.1, sym w.1, omega (arith, high, w.1))
 
 pub two_at_back : (least most n : ℕ) (text rest : List ℕ) → two_digits_at least most text ≡ some (n, rest) → (text ≡ padded 2 n ++ rest) × (least ≤ n) × (n ≤ most)
 two_at_back least most n [] rest e = absurd cc

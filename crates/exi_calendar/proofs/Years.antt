@@ -137,7 +137,7 @@ padded_back c (d ∷ ds) all low =
           no_zeros (length (c ∷ d ∷ ds)) (number_of (c ∷ d ∷ ds)) (c ∷ d ∷ ds) (decimal_back (c ∷ d ∷ ds) all (omega arith) (λ e. absurd (other e)) low) (omega arith)
     ]
 
-padded_4 : (ds : List ℕ) → all_digits ds ≡ true → is_long_enough ds ≡ true → number_of ds < 2 ^ 64 → padded 4 (number_of ds) ≡ ds
+pub padded_4 : (ds : List ℕ) → all_digits ds ≡ true → is_long_enough ds ≡ true → number_of ds < 2 ^ 64 → padded 4 (number_of ds) ≡ ds
 padded_4 [] all long low = absurd cc
 padded_4 (c ∷ cs) all long low =
     elim (cases_Bool (eqb (length (c ∷ cs)) 4)) [

@@ -4,8 +4,9 @@ use Rattle.std.specs.Prelude.{◌≡◌, Option, Some, None, option_and_then, op
 use Rattle.std.specs.Borrow.{Bor}
 use Rattle.exi_names.specs.declared.moment.Moment.{Moment}
 use Rattle.exi_names.specs.declared.moment.MomentKind.{MomentKind}
+use Rattle.exi_names.specs.declared.moment.MomentKind.TheVariants as form
 use Rattle.exi_digits.specs.Digits.{back_in, has_any, is_digit, number_in}
-use Rattle.exi_calendar.specs.Parts.{colon, hyphen, layout, letter_z, no_mark, one_mark, plus, point}
+use Rattle.exi_calendar.specs.Parts.{colon, hyphen, layout, letter_t, letter_z, no_mark, one_mark, plus, point}
 
 -- one after another, as far as there is something
 infixl 10 ◌>>=◌
@@ -120,3 +121,17 @@ moment_value k text = do
   fraction ← fraction_at (layout k).second second.1
   zone ← zone_of fraction.1
   Some (record { kind = k; year = year.0; month = month.0; day = day.0; hour = hour.0; minute = minute.0; second = second.0; fraction = fraction.0; zone = zone })
+
+-- ---- dates with a time at their most frequent
+-- the marks of `YYYY-MM-DDThh:mm:ssZ`, at their places
+pub record HasMarks (text : List ℕ) : Type 0 where
+  pub month : slice_index text 4 ≡ hyphen
+  pub day : slice_index text 7 ≡ hyphen
+  pub hour : slice_index text 10 ≡ letter_t
+  pub minute : slice_index text 13 ≡ colon
+  pub second : slice_index text 16 ≡ colon
+  pub zone : slice_index text 19 ≡ letter_z
+
+-- the date with a time, of whole seconds and UTC, that has these fields
+abbrev pub date_time : ℤ → ℕ → ℕ → ℕ → ℕ → ℕ → Moment
+date_time year month day hour minute second = record { kind = form.DateTime; year = year; month = month; day = day; hour = hour; minute = minute; second = second; fraction = None; zone = Some (pos 0) }

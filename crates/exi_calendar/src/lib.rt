@@ -36,8 +36,8 @@
 //! 2014-02-11T09:30:00.05Z           its canonical text
 //! ```
 //!
-//! The text that [`moment`] takes has no white space around it. [`laws`] says how [`moment`] and
-//! [`push_moment`] go together.
+//! The text that [`moment`] takes has no white space around it. [`whole_seconds`] takes only the most frequent of the
+//! canonical texts. [`laws`] says how [`moment`] and [`push_moment`] go together.
 #![tactic(auto)]
 
 pub mod laws;
@@ -45,5 +45,5 @@ mod layout;
 mod read;
 mod write;
 
-pub use read::moment;
+pub use read::{moment, whole_seconds};
 pub use write::push_moment;

@@ -1,8 +1,10 @@
 //! From a text to its value: field by field, each behind the one before it.
 
-ghost use Rattle.std.specs.Prelude.{◌≡◌, ◌≤◌, ◌-◌, length, option_map, pos};
+ghost use Rattle.std.specs.Prelude.{◌≡◌, ◌≤◌, ◌+◌, ◌-◌, ◌*◌, IfSome, IsTrue, Some, length, option_map, pos, slice_index};
 ghost use Rattle.std.specs.Option.{option_copied};
-ghost use Rattle.exi_calendar.specs.Reading.{Reads, after_lead, digits_year_at, field_at, fraction_at, fraction_digits_at, is_long_enough, lead, lead_width, moment_value, offset_of, past, signed_year, two_digits_at, two_digits_of, year_at, year_of, zone_of};
+ghost use Rattle.exi_names.specs.declared.moment.MomentKind.TheVariants as form;
+ghost use Rattle.exi_calendar.specs.Forms.{moment_text};
+ghost use Rattle.exi_calendar.specs.Reading.{HasMarks, Reads, after_lead, date_time, digits_year_at, field_at, fraction_at, fraction_digits_at, is_long_enough, lead, lead_width, moment_value, offset_of, past, signed_year, two_digits_at, two_digits_of, year_at, year_of, zone_of};
 
 use crate::layout::{day_marks, has_year, hour_marks, minute_marks, month_marks};
 use exi_names::{Moment, MomentKind};
@@ -184,6 +186,60 @@ fn zone(text: &[u8]) -> Option<Option<i16>>
     }
 }
 
+/// Whether the marks of `YYYY-MM-DDThh:mm:ssZ` stand at their places.
+#[inline(always)]
+fn has_marks(text: &[u8]) -> bool
+    requires { length text.now ≡ 20 }
+    ensures { IsTrue result → HasMarks text.now }
+{
+    text[4] == b'-'
+        && text[7] == b'-'
+        && text[10] == b'T'
+        && text[13] == b':'
+        && text[16] == b':'
+        && text[19] == b'Z'
+}
+
+/// The date with a time, of whole seconds and UTC, that has these fields, its year in two parts.
+#[inline(always)]
+fn date_time(century: u8, years: u8, month: u8, day: u8, hour: u8, minute: u8, second: u8) -> Moment
+    ensures { result ≡ date_time (pos (century * 100 + years)) month day hour minute second }
+{
+    Moment {
+        kind: MomentKind::DateTime,
+        year: i64::from(century) * 100 + i64::from(years),
+        month,
+        day,
+        hour,
+        minute,
+        second,
+        fraction: None,
+        zone: Some(0),
+    }
+}
+
+/// The date with a time of a canonical text in its most frequent form, `YYYY-MM-DDThh:mm:ssZ` (XML Schema 1.0 Part 2,
+/// section 3.2.7): its digits are taken by their places. `None` is no promise: where the text has another form, or a field
+/// is out of its range, it may still be that of a date or a time, which [`moment`] tells. Takes no memory.
+pub fn whole_seconds(text: &[u8]) -> Option<Moment>
+    // it is the value of the text
+    ensures value { IfSome result (λ m. moment_value form.DateTime text.now ≡ Some m) }
+    // of which the text is the canonical one
+    ensures canonical { IfSome result (λ m. moment_text m ≡ text.now) }
+{
+    if text.len() != 20 || !has_marks(text) {
+        return None;
+    }
+    let century = two_digits(0, 99, text[0], text[1])?;
+    let years = two_digits(0, 99, text[2], text[3])?;
+    let month = two_digits(1, 12, text[5], text[6])?;
+    let day = two_digits(1, 31, text[8], text[9])?;
+    let hour = two_digits(0, 24, text[11], text[12])?;
+    let minute = two_digits(0, 59, text[14], text[15])?;
+    let second = two_digits(0, 60, text[17], text[18])?;
+    Some(date_time(century, years, month, day, hour, minute, second))
+}
+
 /// The date or the time of a kind that a text stands for (XML Schema 1.0 Part 2, sections 3.2.7 to
 /// 3.2.14), or `None` where the text has not the form of the kind or a field is out of its range. The
 /// text has no white space around it. Takes no memory.
@@ -195,6 +251,12 @@ fn zone(text: &[u8]) -> Option<Option<i16>>
 pub fn moment(kind: MomentKind, text: &[u8]) -> Option<Moment>
     ensures { result ≡ moment_value kind text.now }
 {
+    if kind == MomentKind::DateTime {
+        // Most have this form, and are then soon read.
+        if let Some(moment) = whole_seconds(text) {
+            return Some(moment);
+        }
+    }
     let (year, text) = year(has_year(kind), text)?;
     let (month, text) = field(month_marks(kind), 1, 12, text)?;
     let (day, text) = field(day_marks(kind), 1, 31, text)?;

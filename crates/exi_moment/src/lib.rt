@@ -47,5 +47,5 @@ mod short;
 mod write;
 
 pub use fields::is_moment;
-pub use read::read_moment;
+pub use read::{read_moment, short_moment};
 pub use write::write_moment;

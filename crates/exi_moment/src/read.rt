@@ -1,4 +1,4 @@
-ghost use Rattle.std.specs.Prelude.{◌≡◌, pos, None};
+ghost use Rattle.std.specs.Prelude.{◌≡◌, pos, None, Ok, MatchOption};
 ghost use Rattle.exi_bits.specs.Bits.{IsAligned};
 ghost use Rattle.exi_bits.specs.Unsigned.{Reads, ReadsSome};
 ghost use Rattle.exi_names.specs.Moments.{fields, has_month_day};
@@ -221,6 +221,35 @@ fn read_apart(input: &mut BitIn<'_>, kind: MomentKind, align: Align) -> Result<M
     }
 }
 
+/// Reads the most frequent date and time alone, as [`read_moment`] does: in a bit-packed stream, one of 48 bits, with a
+/// zone and without a fraction. Takes no memory.
+///
+/// `None` is no promise but that the place is as before: [`read_moment`] then tells what there is (EXI 1.0, section 7.1.8).
+#[inline(always)]
+pub fn short_moment(input: &mut BitIn<'_>, kind: MomentKind, align: Align) -> Option<Moment>
+    requires aligned { IsAligned align input.old }
+    ensures read { MatchOption result (input.new ≡ input.old) (λ m. moment_at kind align input.old ≡ Ok (m, input.new)) }
+    ensures bytes { input.new.bytes ≡ input.old.bytes }
+    ensures aligned { IsAligned align input.new }
+{
+    if let (MomentKind::DateTime, Align::Bits) = (kind, align) {
+        if let Some(fields) = short_date_time(input) {
+            return Some(Moment {
+                kind,
+                year: fields.year,
+                month: fields.month,
+                day: fields.day,
+                hour: fields.hour,
+                minute: fields.minute,
+                second: fields.second,
+                fraction: None,
+                zone: Some(fields.zone),
+            });
+        }
+    }
+    None
+}
+
 /// Reads a date or a time of a kind (EXI 1.0, section 7.1.8). Takes no memory.
 ///
 /// Day 31 is taken in any month, any minute in hour 24, and second 60; the zone is at most 14 hours
@@ -243,20 +272,8 @@ pub fn read_moment(input: &mut BitIn<'_>, kind: MomentKind, align: Align) -> Res
     ensures bytes { input.new.bytes ≡ input.old.bytes }
     ensures aligned { IsAligned align input.new }
 {
-    if let (MomentKind::DateTime, Align::Bits) = (kind, align) {
-        if let Some(fields) = short_date_time(input) {
-            return Ok(Moment {
-                kind,
-                year: fields.year,
-                month: fields.month,
-                day: fields.day,
-                hour: fields.hour,
-                minute: fields.minute,
-                second: fields.second,
-                fraction: None,
-                zone: Some(fields.zone),
-            });
-        }
+    match short_moment(input, kind, align) {
+        Some(moment) => Ok(moment),
+        None => read_apart(input, kind, align),
     }
-    read_apart(input, kind, align)
 }
