@@ -14,3 +14,4 @@ pub mod Moments
 pub mod Forms
 pub mod StartTables
 pub mod NameMaps
+pub mod Bodies

@@ -19,6 +19,7 @@
 #![tactic(auto)]
 
 mod alphabet;
+mod body;
 mod chars;
 mod datatype;
 mod equality;

@@ -9,6 +9,7 @@ ghost use Rattle.std.specs.Cmp.{on_total};
 ghost use Rattle.std.specs.Hash as fed;
 ghost use Rattle.exi_names.specs.TextLaws.{spelled_tie, fed_alike};
 
+use crate::body::Body;
 use std::alloc::{AllocError, Global};
 use std::cmp::Ordering;
 use std::hash::{Hash, Hasher};
@@ -20,20 +21,19 @@ use std::marker::Model;
 /// texts is looked up by `&Txt`, and holds each of them once. The number of the characters is kept.
 #[derive(Debug, Drop)]
 pub struct Txt {
-    text: String,
     characters: u64,
+    body: Body,
 }
 
 impl Model for Txt {
     ghost use Rattle.std.specs.Prelude.{◌≡◌, List, ℕ, length};
-    ghost use Rattle.std.specs.String.{string_bytes};
-    ghost use Rattle.std.specs.Str.{chars};
+    ghost use Rattle.std.specs.Str.{IsUtf8, chars};
 
     ghost Value = { List ℕ };
 
-    ghost view = { λ t. chars (string_bytes t.text) };
+    ghost view = { λ t. chars t.body };
 
-    ghost invariant = { λ t. t.characters ≡ length (chars (string_bytes t.text)) };
+    ghost invariant = { λ t. (t.characters ≡ length (chars t.body)) × ∥ IsUtf8 t.body ∥₁ };
 }
 
 impl Txt {
@@ -42,8 +42,8 @@ impl Txt {
         ensures { result ≡ [] }
     {
         Txt {
-            text: String::new(alloc),
             characters: 0,
+            body: Body::new(alloc),
         }
     }
 
@@ -55,7 +55,10 @@ impl Txt {
     pub fn of(alloc: Global, text: &str) -> Result<Txt, AllocError>
         ensures { IfOk result (λ t. t ≡ chars text.now) }
     {
-        Ok(Txt::from_string(String::from_str(alloc, text)?))
+        Ok(Txt {
+            characters: count_chars(text),
+            body: Body::of(alloc, text)?,
+        })
     }
 
     /// The text that the string holds, in the string's own memory. Counts its characters.
@@ -63,15 +66,10 @@ impl Txt {
         ensures { result ≡ chars (string_bytes text) }
     {
         let characters = count_chars(text.as_str());
-        Txt { text, characters }
-    }
-
-    /// The text as a string, in the same memory.
-    pub fn into_string(self) -> String
-        ensures chars { self ≡ chars (string_bytes result) }
-        ensures bytes { string_bytes result ≡ encode_utf8_all self }
-    {
-        self.text
+        Txt {
+            characters,
+            body: Body::of_string(text),
+        }
     }
 
     /// Another text with the same characters.
@@ -83,8 +81,8 @@ impl Txt {
         ensures { IfOk result (λ t. t ≡ self.now) }
     {
         Ok(Txt {
-            text: self.text.clone()?,
             characters: self.characters,
+            body: self.body.copy()?,
         })
     }
 
@@ -98,7 +96,7 @@ impl Txt {
         ensures ok { OnOk result (self.new ≡ self.old ++ c ∷ []) }
         ensures err { OnErr result (self.new ≡ self.old) }
     {
-        self.text.push(c)?;
+        self.body.push(c)?;
         self.characters += 1;
         Ok(())
     }
@@ -112,7 +110,7 @@ impl Txt {
         ensures ok { OnOk result (self.new ≡ self.old ++ chars text.now) }
         ensures err { OnErr result (self.new ≡ self.old) }
     {
-        self.text.push_str(text)?;
+        self.body.push_str(text)?;
         self.characters += count_chars(text);
         Ok(())
     }
@@ -129,7 +127,7 @@ impl Txt {
         ensures err { OnErr result (self.new ≡ self.old) }
     {
         // What is ASCII is UTF-8, and is each its own character.
-        self.text
+        self.body
             .push_str(unsafe { std::str::from_utf8_unchecked(bytes) })?;
         self.characters += bytes.len() as u64;
         Ok(())
@@ -144,7 +142,16 @@ impl Txt {
     pub fn reserve(&mut self, more: usize) -> Result<(), AllocError>
         ensures { self.new ≡ self.old }
     {
-        self.text.reserve(more)
+        self.body.reserve(more)
+    }
+
+    /// Takes all characters away. Memory that the text has is kept.
+    #[inline]
+    pub fn clear(&mut self)
+        ensures { self.new ≡ [] }
+    {
+        self.body.clear();
+        self.characters = 0;
     }
 
     /// How many characters the text has.
@@ -161,7 +168,7 @@ impl Txt {
         ensures chars { self.now ≡ chars result.now }
         ensures bytes { result.now ≡ encode_utf8_all self.now }
     {
-        self.text.as_str()
+        self.body.as_str()
     }
 
     /// Whether the other text has the same characters.
@@ -170,7 +177,7 @@ impl Txt {
         ensures same { IsTrue result ↔ (self.now ≡ other.now) }
         ensures test { result ≡ bytes_eq self.now other.now }
     {
-        self.text.as_str() == other.text.as_str()
+        self.body.as_str() == other.body.as_str()
     }
 }
 

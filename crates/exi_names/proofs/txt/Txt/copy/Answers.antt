@@ -1,0 +1,4 @@
+use Rattle.exi_names.proofs.txt.Txt.copy.Goals as goal
+
+pub invariant_of-result : goal.invariant_of-result
+invariant_of-result c = rw c.in_ok-copy.ensures c.self.invariant
