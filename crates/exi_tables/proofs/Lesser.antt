@@ -1,5 +1,5 @@
 -- The least among the places of a hash is the least among all.
-use Rattle.std.proofs.Common.{◌≡◌, ℕ, zero, suc, ◌≤◌, ◌&&◌, ◌||◌, min, Bool, true, false, List, [], ◌∷◌, get_or, Option, Some, None, refl, sym, ap, ◌∙◌, arith, inl, inr, true≢false}
+use Rattle.std.proofs.Common.{◌≡◌, ℕ, zero, suc, ◌≤◌, ◌&&◌, ◌||◌, min, Bool, true, false, List, [], ◌∷◌, get_or, length, Option, Some, None, refl, sym, ap, ◌∙◌, arith, inl, inr, true≢false}
 use Rattle.std.specs.Prelude.{position, slice_get}
 use Rattle.std.specs.Str.{bytes_eq}
 use Rattle.std.specs.Ordering.{is_eq, nat_cmp}
@@ -259,3 +259,12 @@ module _ (text : List ℕ) (live : List Live) (spots : SpotSet) (lists : Lists l
   others_least not_there =
       let nothing : placed spots.least ≡ None = rw not_there refl in
       ap (λ o. lesser o (least_of placed spots.more)) (sym nothing) ∙ all_least
+
+-- the least of those of which there is one
+only_told : (told : ℕ → Option ℕ) (place : ℕ) (more : List ℕ) → length more ≡ 0 → told place ≡ least_of told (place ∷ more)
+only_told told place [] none = sym (lesser_none (told place))
+only_told told place (q ∷ more) none = absurd (omega (arith, none))
+
+pub own_alone : (name : NameId) (text : List ℕ) (live : List Live) (spots : SpotSet) → Lists live spots text → length spots.more ≡ 0
+    → own_told name text live spots.least ≡ least_under name text live
+own_alone name text live spots lists none = only_told (own_told name text live) spots.least spots.more none ∙ own_least name text live spots lists

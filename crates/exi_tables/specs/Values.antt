@@ -6,13 +6,15 @@
 -- is never given again. So the live values are those after which fewer values than the capacity were added.
 --
 -- Nothing is said here of a text that was pushed out, so that none has to be kept.
-use Rattle.std.specs.Prelude.{ℕ, zero, suc, ◌+◌, ◌%◌, ◌==◌, ◌&&◌, min, nat_lt, nat_le, Bool, true, length, List, [], ◌∷◌, ◌++◌, map, find, position, slice_get, Option, Some, None, option_map, option_and_then, unwrap_or, if◌then◌else◌}
+use Rattle.std.specs.Prelude.{◌≡◌, ℕ, zero, suc, ◌+◌, ◌%◌, ◌==◌, ◌&&◌, min, nat_lt, nat_le, Bool, true, length, List, [], ◌∷◌, ◌++◌, map, find, position, slice_get, Option, Some, None, option_map, option_and_then, unwrap_or, if◌then◌else◌}
 use Rattle.std.specs.Str.{bytes_eq}
 use Rattle.exi_names.specs.NameMaps.{same_name}
 use Rattle.exi_names.specs.declared.names.NameId.{NameId}
 use Rattle.exi_tables.specs.declared.live.Bounds.{Bounds}
 use Rattle.exi_tables.specs.declared.live.Given.{Given}
 use Rattle.exi_tables.specs.declared.live.Live.{Live}
+use Rattle.exi_tables.specs.declared.standing.Standing.{Standing}
+use Rattle.exi_tables.specs.declared.standing.Standing.TheVariants as stands
 
 pub record ValueTable : Type 0 where
   pub bounds : Bounds
@@ -59,6 +61,12 @@ abbrev pub least_under : NameId → List ℕ → List Live → Option ℕ
 least_under name text [] = None
 least_under name text (l ∷ more) =
     if is_value name text l then Some (or_less l.local (least_under name text more)) else least_under name text more
+
+-- where a value stands: at its least place under its name, and else at its least place among all
+abbrev pub StandsAs : Standing → Option ℕ → Option ℕ → Type 0
+StandsAs (stands.Own place) own all = own ≡ Some place
+StandsAs (stands.Global place) own all = (own ≡ None) × (all ≡ Some place)
+StandsAs stands.Missing own all = (own ≡ None) × (all ≡ None)
 
 -- ---- what a missed value adds
 abbrev pub is_short : Option ℕ → ℕ → Bool

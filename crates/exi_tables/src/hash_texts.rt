@@ -1,10 +1,18 @@
+ghost use Rattle.std.specs.Prelude.{◌≡◌, ◌≤◌, length};
+ghost use Rattle.std.specs.Map.{lookup};
+ghost use Rattle.std.specs.Str.{bytes_eq};
+ghost use Rattle.indexmap.specs.IndexMap.{index_map_len};
+
 use crate::texts::Texts;
 use exi_names::Txt;
 use indexmap::IndexMap;
 use std::alloc::{AllocError, Global};
 use std::marker::Model;
 
-/// Texts by hash: each text once, beside the least place that has it, and for each place the index of its
+/// How many texts are compared one by one. Among more a text is looked up by hash.
+const COMPARED: usize = 8;
+
+/// Texts by hash, few of them one by one: each text once, beside the least place that has it, and for each place the index of its
 /// text.
 #[derive(Drop)]
 pub struct HashTexts {
@@ -45,6 +53,9 @@ impl Texts for HashTexts {
     }
 
     fn of(&self, text: &Txt) -> Option<u32> {
+        if self.least.len() <= COMPARED {
+            return compared(&self.least, text);
+        }
         self.least.get(text).copied()
     }
 
@@ -65,4 +76,24 @@ impl Texts for HashTexts {
         self.places.push_reserved(index as u32);
         Ok(())
     }
+}
+
+/// Whether a text has the same characters. Most that have not differ in number.
+#[inline(always)]
+fn is_same(text: &Txt, other: &Txt) -> bool
+    ensures { result ≡ bytes_eq text.now other.now }
+{
+    text.count() == other.count() && text.same(other)
+}
+
+/// The place beside a text, which is compared with each in turn.
+fn compared(least: &IndexMap<Txt, u32>, text: &Txt) -> Option<u32>
+    ensures { result ≡ lookup (bytes_eq text.now) least.now.entries }
+{
+    for entry in least.iter() {
+        if is_same(text, entry.0) {
+            return Some(*entry.1);
+        }
+    }
+    None
 }

@@ -3,11 +3,12 @@ ghost use Rattle.std.specs.Str.{bytes_eq};
 ghost use Rattle.exi_tables.specs.declared.live.Live.{Live};
 ghost use Rattle.exi_tables.specs.Kept.{has_text, lesser, local_of, place_of, text_hash};
 ghost use Rattle.exi_tables.specs.Spots.{is_listed, is_spot};
-ghost use Rattle.exi_tables.specs.Values.{least_under};
+ghost use Rattle.exi_tables.specs.Values.{StandsAs, least_under};
 
 use crate::live::{Live, is_value, or_less};
 use crate::place_values::PlaceValues;
 use crate::spots::{Spots, list_place, unlist_place};
+use crate::standing::Standing;
 use crate::value_store::ValueStore;
 use exi_names::{NameId, Txt};
 use indexmap::IndexMap;
@@ -85,6 +86,13 @@ impl ValueStore for HashValues {
         match self.index.get(&hash_of(text)) {
             Some(spots) => own_among(self.values.live(), spots, name, text),
             None => None,
+        }
+    }
+
+    fn standing(&self, name: NameId, text: &Txt) -> Standing {
+        match self.index.get(&hash_of(text)) {
+            Some(spots) => standing_among(self.values.live(), spots, name, text),
+            None => Standing::Missing,
         }
     }
 
@@ -179,10 +187,29 @@ fn own_among(live: &[Live], spots: &Spots, name: NameId, text: &Txt) -> Option<u
     ensures { result ≡ least_under name text.now live.now }
 {
     let mut least = local_at(live, spots.least(), name, text);
+    if spots.more().is_empty() {
+        return least;
+    }
     for place in spots.more() {
         least = lesser(local_at(live, *place, name, text), least);
     }
     least
+}
+
+/// Where a value with this text stands, which each place that has it is listed for.
+fn standing_among(live: &[Live], spots: &Spots, name: NameId, text: &Txt) -> Standing
+    requires listed { (place : ℕ) (l : Live) → slice_get live.now place ≡ Some l →
+        bytes_eq l.text text.now ≡ true → is_spot spots.now place ≡ true }
+    ensures { StandsAs result (least_under name text.now live.now)
+        (position (λ l. bytes_eq l.text text.now) live.now) }
+{
+    if let Some(place) = own_among(live, spots, name, text) {
+        return Standing::Own(place);
+    }
+    match least_among(live, spots, text) {
+        Some(place) => Standing::Global(place),
+        None => Standing::Missing,
+    }
 }
 
 /// The hash of the text of the value at a place.

@@ -46,6 +46,8 @@
 //! a value's text                   all values    all values      by hash
 //! ```
 //!
+//! A URI, local name or prefix among eight at most is compared with each, in place of a look-up by hash.
+//!
 //! By hash the steps are as many as the live texts with that hash: each place that has it is looked at, under a
 //! name, and else until the least one has the text. A writer adds no text that is live, so in its tables that is
 //! one but for texts that have their hash in common. The hash has no key: whoever makes the texts can choose
@@ -66,6 +68,7 @@ mod own_places;
 mod partitioned;
 mod place_values;
 mod spots;
+mod standing;
 mod tables;
 mod texts;
 mod value_store;
@@ -76,6 +79,7 @@ use list_texts::ListTexts;
 use list_values::ListValues;
 use partitioned::Partitioned;
 use place_values::PlaceValues;
+pub use standing::Standing;
 pub use tables::{Tables, is_name};
 
 /// String tables as plain lists.

@@ -3,6 +3,7 @@ ghost use Rattle.std.specs.Str.{chars};
 ghost use Rattle.exi_tables.specs.Kept.{spaces_from};
 ghost use Rattle.exi_tables.specs.Partitions.{first_prefixes, locals, prefixes, uris};
 
+use crate::standing::Standing;
 use crate::tables::Tables;
 use crate::texts::Texts;
 use crate::value_store::ValueStore;
@@ -187,6 +188,10 @@ impl<T: Texts + Drop, V: ValueStore + Drop> Tables for Partitioned<T, V> {
 
     fn name_value_place(&self, name: NameId, text: &Txt) -> Option<u32> {
         self.values.own_of(name, text)
+    }
+
+    fn value_standing(&self, name: NameId, text: &Txt) -> Standing {
+        self.values.standing(name, text)
     }
 
     fn add_value(&mut self, name: NameId, text: Txt) -> Result<(), AllocError> {

@@ -18,8 +18,9 @@ ghost use Rattle.exi_tables.specs.Partitions.{
   with_prefix,
   with_value,
 };
-ghost use Rattle.exi_tables.specs.Values.{name_place};
+ghost use Rattle.exi_tables.specs.Values.{StandsAs, name_place};
 
+use crate::standing::Standing;
 use exi_names::{NameId, StartNames, Txt};
 use std::alloc::{AllocError, Global};
 
@@ -186,6 +187,13 @@ pub trait Tables {
     fn name_value_place(&self, name: NameId, text: &Txt) -> Option<u32>
         requires name { IsName (held self.now) name }
         ensures { result ≡ name_value_place (held self.now) name text.now };
+
+    /// Where a value stands: at its least place in a name's own partition, and else at its least place in the global
+    /// one. Hash tables look the text up once for both.
+    fn value_standing(&self, name: NameId, text: &Txt) -> Standing
+        requires name { IsName (held self.now) name }
+        ensures { StandsAs result (name_value_place (held self.now) name text.now)
+            (least_place (values (held self.now)) text.now) };
 
     /// Adds a value to the global partition and to its name's own, where it has a character, is not longer
     /// than the greatest length, and the capacity is not 0. Where there are as many live values as the

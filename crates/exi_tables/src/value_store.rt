@@ -2,6 +2,7 @@ ghost use Rattle.std.specs.Prelude.{◌≡◌, ◌<◌, ◌-◌, ◌^◌, Some, 
 ghost use Rattle.std.specs.Option.{option_copied};
 ghost use Rattle.exi_tables.specs.Partitions.{live_at, least_place};
 ghost use Rattle.exi_tables.specs.Values.{
+  StandsAs,
   ValueTable,
   given_to,
   least_under,
@@ -12,6 +13,7 @@ ghost use Rattle.exi_tables.specs.Values.{
   with_missed,
 };
 
+use crate::standing::Standing;
 use exi_names::{NameId, Txt};
 use std::alloc::{AllocError, Global};
 
@@ -62,6 +64,20 @@ pub trait ValueStore {
     /// The least place of a live value under a name.
     fn own_of(&self, name: NameId, text: &Txt) -> Option<u32>
         ensures { result ≡ least_under name text.now (table self.now).live };
+
+    /// Where a value stands: at its least place under a name, and else at its least place among all.
+    fn standing(&self, name: NameId, text: &Txt) -> Standing
+        ensures { StandsAs result (least_under name text.now (table self.now).live)
+            (least_place (texts_of (table self.now)) text.now) }
+    {
+        if let Some(place) = self.own_of(name, text) {
+            return Standing::Own(place);
+        }
+        match self.of(text) {
+            Some(place) => Standing::Global(place),
+            None => Standing::Missing,
+        }
+    }
 
     /// Adds a value as the bounds say.
     ///

@@ -3,7 +3,7 @@
 -- among all values (EXI 1.0, sections 7.1.7, 7.1.10 and 7.3).
 --
 -- The bits and the tables afterwards are functions of what is written and of the tables.
-use Rattle.std.specs.Prelude.{ℕ, ◌+◌, ◌&&◌, Bool, true, false, nat_lt, List, [], ◌++◌, length, Option, Some, None, if◌then◌else◌}
+use Rattle.std.specs.Prelude.{ℕ, ◌<◌, ◌+◌, ◌&&◌, Bool, true, false, nat_lt, List, [], ◌++◌, length, Option, Some, None, if◌then◌else◌}
 use Rattle.exi_bits.specs.declared.align.Align.{Align}
 use Rattle.exi_bits.specs.Bits.{bits, number}
 use Rattle.exi_bits.specs.Unsigned.{shortest}
@@ -15,6 +15,8 @@ use Rattle.exi_names.specs.Seen as value
 use Rattle.exi_names.specs.declared.names.NameId.{NameId}
 use Rattle.exi_names.specs.declared.names.QName.{QName}
 use Rattle.exi_tables.specs.Partitions.{Partitions, least_place, locals, name_value_place, name_values, prefixes, uris, values, with_local, with_prefix, with_uri, with_value}
+use Rattle.exi_tables.specs.declared.standing.Standing.{Standing}
+use Rattle.exi_tables.specs.declared.standing.Standing.TheVariants as stands
 use Rattle.exi_text.specs.Literals.{all_xml, chars_bits}
 use Rattle.exi_typed.specs.Strings.{Declaration, place_in}
 
@@ -115,6 +117,12 @@ below_count count (Some place) = if nat_lt place count then Some place else None
 -- first ones
 abbrev pub own_place : Partitions → NameId → List ℕ → Option ℕ
 own_place p name x = below_count (name_values p name) (name_value_place p name x)
+
+-- the place where a text stands is among those of its partition
+abbrev pub IsWithin : Partitions → NameId → Standing → Type 0
+IsWithin p name (stands.Own place) = place < name_values p name
+IsWithin p name (stands.Global place) = place < length (values p)
+IsWithin p name stands.Missing = Unit
 
 abbrev pub string_bits : Option (List ℕ) → Align → Partitions → NameId → List ℕ → List Bool
 string_bits set a p name x = string_bits_by set a (name_values p name) (length (values p)) x (own_place p name x) (least_place (values p) x)

@@ -1,4 +1,4 @@
-ghost use Rattle.std.specs.Prelude.{◌≡◌, ◌++◌, ◌<◌, ◌^◌, IfSome, IsTrue, OnOk, OnErr, length};
+ghost use Rattle.std.specs.Prelude.{◌≡◌, ◌++◌, ◌<◌, ◌^◌, None, IsTrue, OnOk, OnErr, length};
 ghost use Rattle.std.specs.Option.{option_copied};
 ghost use Rattle.exi_bits.specs.Written.{IsWholeBytes};
 ghost use Rattle.exi_items.specs.Fronts.{HoldsFront};
@@ -6,39 +6,45 @@ ghost use Rattle.exi_names.specs.Datatypes.{represented};
 ghost use Rattle.exi_names.specs.Forms.{IsOf};
 ghost use Rattle.exi_names.specs.Seen.{seen};
 ghost use Rattle.exi_tables.specs.Growth.{NoneLonger};
+ghost use Rattle.exi_tables.specs.Values.{StandsAs};
 ghost use Rattle.exi_tables.specs.Partitions.{IsName, least_place, name_values, values};
 ghost use Rattle.exi_text.specs.Literals.{all_xml};
 ghost use Rattle.exi_typed.specs.ReadStates.{MayHaveUri};
 ghost use Rattle.exi_typed.specs.Items.{IsTabled};
-ghost use Rattle.exi_typed.specs.Written.{after_item, after_string, is_xml_value, item_bits, own_place, string_bits};
+ghost use Rattle.exi_typed.specs.Written.{IsWithin, after_item, after_string, is_xml_value, item_bits, own_place, string_bits};
 
 use crate::put::{put_known, put_place, put_spelled};
 use crate::write_names::write_name;
 use exi_bits::{Align, BitOut};
 use exi_names::{Alphabet, Datatype, NameId, Txt, Val};
-use exi_tables::Tables;
+use exi_tables::{Standing, Tables};
 use std::alloc::{AllocError, Global};
 
-/// The least place of a text among the values of its name.
-fn own_place<T: Tables>(tables: &T, name: NameId, text: &Txt) -> Option<u32>
+/// Where a text stands: at its least place among the values of its name, and else at its least place among all values.
+fn standing<T: Tables>(tables: &T, name: NameId, text: &Txt) -> Standing
     requires name { IsName (T.held tables.now) name }
-    ensures place { result ≡ own_place (T.held tables.now) name text.now }
-    ensures within { IfSome result (λ i. i < name_values (T.held tables.now) name) }
+    ensures stands { StandsAs result (own_place (T.held tables.now) name text.now) (least_place (values (T.held tables.now)) text.now) }
+    ensures within { IsWithin (T.held tables.now) name result }
 {
-    let place = tables.name_value_place(name, text)?;
-    if place < tables.name_values(name) {
-        Some(place)
-    } else {
-        None
+    let found = tables.value_standing(name, text);
+    if let Standing::Own(place) = found {
+        if place >= tables.name_values(name) {
+            return standing_among_all(tables, text);
+        }
     }
+    found
 }
 
-/// The least place of a text among all values.
-fn value_place<T: Tables>(tables: &T, text: &Txt) -> Option<u32>
-    ensures place { result ≡ least_place (values (T.held tables.now)) text.now }
-    ensures within { IfSome result (λ i. i < length (values (T.held tables.now))) }
+/// Where a text stands among all values, where it has no place among those of its name.
+#[cold]
+#[inline(never)]
+fn standing_among_all<T: Tables>(tables: &T, text: &Txt) -> Standing
+    ensures stands { StandsAs result None (least_place (values (T.held tables.now)) text.now) }
 {
-    tables.value_place(text)
+    match tables.value_place(text) {
+        Some(place) => Standing::Global(place),
+        None => Standing::Missing,
+    }
 }
 
 /// Writes a string value of a name (EXI 1.0, sections 7.1.10 and 7.3.3), with a set of characters or without: as a
@@ -69,19 +75,21 @@ pub fn write_string<T: Tables>(
     ensures same { OnErr result (T.held tables.new ≡ T.held tables.old) }
     ensures aligned { IsWholeBytes align out.new }
 {
-    if let Some(place) = own_place(tables, name, text) {
-        let count = tables.name_values(name);
-        return put_known(out, u64::from(place), u64::from(count), align);
+    match standing(tables, name, text) {
+        Standing::Own(place) => {
+            let count = tables.name_values(name);
+            put_known(out, u64::from(place), u64::from(count), align)
+        }
+        Standing::Global(place) => {
+            let count = tables.values();
+            out.unsigned(1)?;
+            put_place(out, u64::from(place), u64::from(count), align)
+        }
+        Standing::Missing => {
+            put_spelled(alloc, out, text, 2, set, align)?;
+            tables.add_value(name, text.copy()?)
+        }
     }
-    if let Some(place) = value_place(tables, text) {
-        let count = tables.values();
-        out.unsigned(1)?;
-        put_place(out, u64::from(place), u64::from(count), align)?;
-        return Ok(());
-    }
-    put_spelled(alloc, out, text, 2, set, align)?;
-    tables.add_value(name, text.copy()?)?;
-    Ok(())
 }
 
 /// Writes a value under a name, whose places exist (EXI 1.0, sections 7.1 and 7.3.3), and adds what is missed to the

@@ -1,7 +1,13 @@
-use Rattle.std.proofs.Common.{◌∷◌, ap, ◌∙◌}
+use Rattle.std.proofs.Common.{◌≡◌, ◌∷◌, length, ap, ◌∙◌}
 use Rattle.exi_tables.specs.Kept.{least_of, lesser}
-use Rattle.exi_tables.proofs.Lesser.{own_least, own_told, walk_ends, walks_on}
+use Rattle.exi_tables.proofs.Lesser.{own_alone, own_least, own_told, walk_ends, walks_on}
 use Rattle.exi_tables.proofs.hash_values.own_among.Goals as goal
+
+pub returns-then-is_empty : goal.returns-then-is_empty
+returns-then-is_empty c =
+    let none : length c.more.result.now.keys ≡ 0 = c.is_empty.ensures.0 c.if-is_empty.true in
+    c.local_at-least.ensures ∙ ap (own_told c.args.name c.args.text.now c.args.live.now) c.least.ensures.least
+    ∙ own_alone c.args.name c.args.text.now c.args.live.now c.args.spots.now c.requires.listed (rw c.more.ensures at none)
 
 pub loop-place-init : goal.loop-place-init
 loop-place-init c =
