@@ -28,12 +28,12 @@ use Rattle.exi_reader.specs.declared.frames.Outer.TheVariants as outer
 use Rattle.exi_reader.specs.declared.rule.Valuing.{Valuing as Kinds}
 use Rattle.exi_reader.specs.declared.rule.Valuing.TheVariants as valuing
 use Rattle.exi_reader.specs.Configurations.{Body, Config, Setting, read_state_in, reached, rules_of, spot_in}
-use Rattle.exi_reader.specs.Handing.{charged_at, charges_on, leading_to, effected_elements, effected_outer, emptied_by, learned_by, making, opening_to, root_at, typing, value_made, valued_made, valuing_in}
+use Rattle.exi_reader.specs.Handing.{characters_made, charged_at, charges_on, leading_to, effected_elements, effected_outer, emptied_by, learned_by, making, opening_to, root_at, typing, value_made, valued_made, valuing_in}
 use Rattle.exi_reader.specs.OneEvent.{at_event, behind, charge_at, followed, moved_limit, one, remembered, unless}
-use Rattle.exi_reader.specs.Changes.{Effect, effect_of, effected, emptied, enclosing, inner_state, leads, learns_name, moved_elements, moves, opener, outer_behind, resumed, retyped, room_in, stays, with_inner}
+use Rattle.exi_reader.specs.Changes.{Effect, effect_of, effected, emptied, enclosing, inner_state, innermost, leads, learns_name, moved_elements, moves, opener, outer_behind, resumed, retyped, room_in, stays, with_inner}
 use Rattle.exi_reader.specs.Contents.{acts_as_type, attribute_value_at, both_at, four_texts_at, is_missing, is_nil, named_type, represented_by, text_at, told_name_at, two_texts_at}
 use Rattle.exi_reader.specs.Globals.{attribute_datatype, type_grammar}
-use Rattle.exi_reader.specs.Plans.{Alone, Given, Plan, alone_in, at_end, at_first, at_start, attribute_plan, element_made, element_plan, end_plan, is_event, no_element, nowhere, plan_on, seen_in, start_plan, wrong_element}
+use Rattle.exi_reader.specs.Plans.{Alone, Given, Plan, alone_in, at_end, at_first, at_start, attribute_plan, characters_plan, element_made, element_plan, end_plan, is_event, no_element, nowhere, plan_on, seen_in, start_plan, wrong_element}
 use Rattle.exi_reader.specs.Rules.{Rule, Telling, Terminal, Valuing, attribute, by_name, characters, comment, declaration, document_type, element, end_document, end_element, entity, instruction, known, self_contained, spelled, start_document, typed, under, untyped}
 
 -- what a plan asks and charges
@@ -136,6 +136,11 @@ string_valued a name c = refl
 
 pub string_item : (a : Align) (name : NameId) (c k : ReadState) (text : List ℕ) → value_at None a name c ≡ Ok (text, k) → valued_at datatype.text a name c ≡ Ok (value.text text, k)
 string_item a name c k text e = string_valued a name c ∙ ap (λ (r : Result (List ℕ × ReadState) Failure). r >>= λ t. as_text t) e
+
+-- characters, by their value
+pub characters_read : (g : Setting) (bytes : List ℕ) (bit : ℕ) (d : Representation) (to : ℕ) (c : Config) (v : Value) (k : ReadState) → valued_at d (align_of g.options) (innermost c.elements) (read_state_in bytes c.meter c) ≡ Ok (v, k) →
+    making bytes bit (characters_plan g nowhere c.elements d (leading_to to)) c ≡ characters_made v to (reached k c)
+characters_read g bytes bit d to c v k e = made_by bytes bit (characters_plan g nowhere c.elements d (leading_to to)) c v k e refl
 
 -- ---- SD, ED and SE, which are events but in a fragment that stands for one element
 pub start_made : (bytes : List ℕ) (bit : ℕ) (a : Alone) (to : ℕ) (c : Config) → no_element a ≡ None → (b : Bool) → is_event a ≡ b → making bytes bit (start_plan a (leading_to to)) c ≡ Ok (remembered (cond b (Some event.sd) None, moves to (reached (read_state_in bytes c.meter c) c)))

@@ -9,6 +9,7 @@ use Rattle.exi_bits.specs.declared.fault.Stop.TheVariants as stop
 use Rattle.exi_bits.specs.Unsigned.{◌>>=◌}
 use Rattle.exi_builtin.specs.declared.learnable.Learnable.{Learnable}
 use Rattle.exi_builtin.specs.declared.learnable.Learned.{Learned}
+use Rattle.exi_builtin.specs.declared.learnable.Learned.TheVariants as used
 use Rattle.exi_builtin.specs.declared.learnable.Room.{Room}
 use Rattle.exi_builtin.specs.Learning.{IsRoom, Learning, learned_in, state_behind}
 use Rattle.exi_gram.specs.Books.{IsStateOf}
@@ -146,6 +147,10 @@ making bytes bit p c = do
   found ← p.read (read_state_in bytes c.meter c)
   free ← unless (p.refused found.0) bit found.1.context.meter
   Ok (remembered (p.make found.0 (reached (behind p.padded found.1) c)))
+
+-- what is made of the value of characters, in a configuration that has read it
+abbrev pub characters_made : Value → ℕ → Config → Result Given Failure
+characters_made v to c = Ok (remembered (Some (event.ch v), moves to (changes.learns used.Ch c)))
 
 -- the value of an attribute whose name is read, in a configuration that has learned it
 unfoldable pub value_made : Setting → List ℕ → ℕ → plans.Alone → Valuing → Named → ℕ → Config → Result Given Failure

@@ -2,6 +2,8 @@ ghost use Rattle.std.specs.Prelude.{◌≡◌, ◌≢◌, ◌≤◌, ◌<◌, �
 ghost use Rattle.exi_names.specs.Datatypes.{represented};
 ghost use Rattle.exi_names.specs.Datatypes as datatype;
 ghost use Rattle.exi_names.specs.Events.{Rose};
+ghost use Rattle.exi_names.specs.Seen as value;
+ghost use Rattle.exi_names.specs.Seen.{seen};
 ghost use Rattle.exi_tables.specs.Growth.{NoneLonger};
 ghost use Rattle.exi_tables.specs.Partitions.{IsName};
 ghost use Rattle.exi_values.specs.Stops.{IsRoomy};
@@ -12,6 +14,7 @@ ghost use Rattle.exi_reader.specs.Handing.{
   HandsAny,
   OnFault,
   alone_of,
+  characters_made,
   leading_to,
   making,
   opening_to,
@@ -27,6 +30,7 @@ ghost use Rattle.exi_reader.specs.Plans.{
   end_plan,
   entity_plan,
   instruction_plan,
+  nowhere,
   self_contained_plan,
   start_plan,
 };
@@ -43,9 +47,10 @@ use crate::rule::Telling;
 use crate::stepper::Stepper;
 use exi_bits::Stop;
 use exi_builtin::Learned;
-use exi_names::{Datatype, EventOut, EventRef};
+use exi_names::{Datatype, EventOut, EventRef, Moment, MomentKind, Octets, Val, Whole};
 use exi_tables::Tables;
 use exi_typed::{StringRead, declaration_texts, name_ref, read_declaration, read_string};
+use exi_values::{short_integer, short_moment, short_octets};
 
 impl<'a, T: Tables + Drop> Stepper<'a, T> {
     /// SD.
@@ -263,6 +268,254 @@ impl<'a, T: Tables + Drop> Stepper<'a, T> {
             }
             Err(Stop::Fault(fault)) => Err(Halt::Fault(*fault)),
             Err(Stop::Memory) => Err(Halt::Memory),
+        }
+    }
+
+    /// What is made of the value of characters, once it is read: the state learns from it and goes on, and it is handed
+    /// on.
+    #[inline(always)]
+    fn made_characters<E: EventOut>(
+        &mut self,
+        value: &Val,
+        to: u32,
+        out: &mut E,
+    ) -> Result<Option<u64>, Halt>
+        requires learns { CanLearn (room_in self.old.config.elements self.old.config.outer) self.old.config.learned }
+        ensures hands { HandsAny E.took E.broke result self.new (characters_made (seen value.now) to self.old.config) out.old out.new }
+        ensures setting { self.new.setting ≡ self.old.setting }
+        ensures bytes { self.new.bytes ≡ self.old.bytes }
+        ensures root { self.new.config.root ≡ self.old.config.root }
+        ensures same { E.same out.old out.new }
+        ensures later { E.stops out.old ≤ E.stops out.new }
+        ensures stopped { IsErrOf result Halt.Stopped → Rose (E.stops out.old) (E.stops out.new) }
+    {
+        learn(&mut self.overlay, &self.elements, self.outer, Learned::Ch)?;
+        self.after_start = false;
+        go_to(&mut self.elements, &mut self.outer, to);
+        see_characters(value, out)?;
+        Ok(None)
+    }
+
+    /// The same of an integer: the room of its value is made here.
+    #[inline(always)]
+    fn made_integer<E: EventOut>(
+        &mut self,
+        whole: Whole,
+        to: u32,
+        out: &mut E,
+    ) -> Result<Option<u64>, Halt>
+        requires learns { CanLearn (room_in self.old.config.elements self.old.config.outer) self.old.config.learned }
+        ensures hands { HandsAny E.took E.broke result self.new (characters_made (value.integer whole) to self.old.config) out.old out.new }
+        ensures setting { self.new.setting ≡ self.old.setting }
+        ensures bytes { self.new.bytes ≡ self.old.bytes }
+        ensures root { self.new.config.root ≡ self.old.config.root }
+        ensures same { E.same out.old out.new }
+        ensures later { E.stops out.old ≤ E.stops out.new }
+        ensures stopped { IsErrOf result Halt.Stopped → Rose (E.stops out.old) (E.stops out.new) }
+    {
+        let value = Val::Int(whole);
+        self.made_characters(&value, to, out)
+    }
+
+    /// The same of a date or a time.
+    #[inline(always)]
+    fn made_moment<E: EventOut>(
+        &mut self,
+        moment: Moment,
+        to: u32,
+        out: &mut E,
+    ) -> Result<Option<u64>, Halt>
+        requires learns { CanLearn (room_in self.old.config.elements self.old.config.outer) self.old.config.learned }
+        ensures hands { HandsAny E.took E.broke result self.new (characters_made (value.moment moment) to self.old.config) out.old out.new }
+        ensures setting { self.new.setting ≡ self.old.setting }
+        ensures bytes { self.new.bytes ≡ self.old.bytes }
+        ensures root { self.new.config.root ≡ self.old.config.root }
+        ensures same { E.same out.old out.new }
+        ensures later { E.stops out.old ≤ E.stops out.new }
+        ensures stopped { IsErrOf result Halt.Stopped → Rose (E.stops out.old) (E.stops out.new) }
+    {
+        let value = Val::Mom(moment);
+        self.made_characters(&value, to, out)
+    }
+
+    /// The same of octets.
+    #[inline(always)]
+    fn made_octets<E: EventOut>(
+        &mut self,
+        hex: bool,
+        octets: Octets,
+        to: u32,
+        out: &mut E,
+    ) -> Result<Option<u64>, Halt>
+        requires learns { CanLearn (room_in self.old.config.elements self.old.config.outer) self.old.config.learned }
+        ensures hands { HandsAny E.took E.broke result self.new (characters_made (value.binary hex octets) to self.old.config) out.old out.new }
+        ensures setting { self.new.setting ≡ self.old.setting }
+        ensures bytes { self.new.bytes ≡ self.old.bytes }
+        ensures root { self.new.config.root ≡ self.old.config.root }
+        ensures same { E.same out.old out.new }
+        ensures later { E.stops out.old ≤ E.stops out.new }
+        ensures stopped { IsErrOf result Halt.Stopped → Rose (E.stops out.old) (E.stops out.new) }
+    {
+        let value = Val::Bin { hex, octets };
+        self.made_characters(&value, to, out)
+    }
+
+    /// CH, of a datatype, inside an element: [`typed_characters`](Stepper::typed_characters), with its answer in a room that
+    /// is made on this way alone.
+    #[inline(always)]
+    fn typed_apart<E: EventOut>(
+        &mut self,
+        bit: u64,
+        datatype: &Datatype,
+        to: u32,
+        out: &mut E,
+    ) -> Result<Option<u64>, Halt>
+        requires few { NoneLonger (2 ^ 31) self.old.config.tables }
+        requires roomy { IsRoomy self.old.config.meter self.old.config.tables }
+        requires name { IsName self.old.config.tables (innermost self.old.config.elements) }
+        requires learns { CanLearn (room_in self.old.config.elements self.old.config.outer) self.old.config.learned }
+        ensures hands { HandsAny E.took E.broke result self.new
+            (making self.old.bytes bit (characters_plan self.old.setting nowhere self.old.config.elements (represented datatype.now) (leading_to to)) self.old.config) out.old out.new }
+        ensures setting { self.new.setting ≡ self.old.setting }
+        ensures bytes { self.new.bytes ≡ self.old.bytes }
+        ensures root { OnFault result (self.new.config.root ≡ self.old.config.root) }
+        ensures same { E.same out.old out.new }
+        ensures later { E.stops out.old ≤ E.stops out.new }
+        ensures stopped { IsErrOf result Halt.Stopped → Rose (E.stops out.old) (E.stops out.new) }
+    {
+        match self.typed_characters(bit, Alone::Nowhere, datatype, to, out) {
+            Ok(fragment) => Ok(fragment),
+            Err(halt) => Err(halt),
+        }
+    }
+
+    /// CH, of a datatype that may be one of integers, inside an element: an integer is read without a room for any value.
+    #[inline(always)]
+    fn integer_inside<E: EventOut>(
+        &mut self,
+        bit: u64,
+        datatype: &Datatype,
+        to: u32,
+        out: &mut E,
+    ) -> Result<Option<u64>, Halt>
+        requires few { NoneLonger (2 ^ 31) self.old.config.tables }
+        requires roomy { IsRoomy self.old.config.meter self.old.config.tables }
+        requires name { IsName self.old.config.tables (innermost self.old.config.elements) }
+        requires learns { CanLearn (room_in self.old.config.elements self.old.config.outer) self.old.config.learned }
+        ensures hands { HandsAny E.took E.broke result self.new
+            (making self.old.bytes bit (characters_plan self.old.setting nowhere self.old.config.elements (represented datatype.now) (leading_to to)) self.old.config) out.old out.new }
+        ensures setting { self.new.setting ≡ self.old.setting }
+        ensures bytes { self.new.bytes ≡ self.old.bytes }
+        ensures root { OnFault result (self.new.config.root ≡ self.old.config.root) }
+        ensures same { E.same out.old out.new }
+        ensures later { E.stops out.old ≤ E.stops out.new }
+        ensures stopped { IsErrOf result Halt.Stopped → Rose (E.stops out.old) (E.stops out.new) }
+    {
+        let align = self.book.options().align();
+        match short_integer(&mut self.input, datatype, align, &mut self.meter) {
+            Some(whole) => self.made_integer(whole, to, out),
+            None => self.typed_apart(bit, datatype, to, out),
+        }
+    }
+
+    /// CH, of dates or times of a kind, inside an element: the most frequent one is read without a room for any value.
+    #[inline(always)]
+    fn moment_inside<E: EventOut>(
+        &mut self,
+        bit: u64,
+        declared: &Datatype,
+        kind: MomentKind,
+        to: u32,
+        out: &mut E,
+    ) -> Result<Option<u64>, Halt>
+        requires is { represented declared.now ≡ datatype.moment kind }
+        requires few { NoneLonger (2 ^ 31) self.old.config.tables }
+        requires roomy { IsRoomy self.old.config.meter self.old.config.tables }
+        requires name { IsName self.old.config.tables (innermost self.old.config.elements) }
+        requires learns { CanLearn (room_in self.old.config.elements self.old.config.outer) self.old.config.learned }
+        ensures hands { HandsAny E.took E.broke result self.new
+            (making self.old.bytes bit (characters_plan self.old.setting nowhere self.old.config.elements (represented declared.now) (leading_to to)) self.old.config) out.old out.new }
+        ensures setting { self.new.setting ≡ self.old.setting }
+        ensures bytes { self.new.bytes ≡ self.old.bytes }
+        ensures root { OnFault result (self.new.config.root ≡ self.old.config.root) }
+        ensures same { E.same out.old out.new }
+        ensures later { E.stops out.old ≤ E.stops out.new }
+        ensures stopped { IsErrOf result Halt.Stopped → Rose (E.stops out.old) (E.stops out.new) }
+    {
+        let align = self.book.options().align();
+        match short_moment(&mut self.input, kind, align, &mut self.meter) {
+            Some(moment) => self.made_moment(moment, to, out),
+            None => self.typed_apart(bit, declared, to, out),
+        }
+    }
+
+    /// CH, of octets, inside an element: few octets are read without a room for any value.
+    #[inline(always)]
+    fn octets_inside<E: EventOut>(
+        &mut self,
+        bit: u64,
+        declared: &Datatype,
+        hex: bool,
+        to: u32,
+        out: &mut E,
+    ) -> Result<Option<u64>, Halt>
+        requires is { represented declared.now ≡ datatype.binary hex }
+        requires few { NoneLonger (2 ^ 31) self.old.config.tables }
+        requires roomy { IsRoomy self.old.config.meter self.old.config.tables }
+        requires name { IsName self.old.config.tables (innermost self.old.config.elements) }
+        requires learns { CanLearn (room_in self.old.config.elements self.old.config.outer) self.old.config.learned }
+        ensures hands { HandsAny E.took E.broke result self.new
+            (making self.old.bytes bit (characters_plan self.old.setting nowhere self.old.config.elements (represented declared.now) (leading_to to)) self.old.config) out.old out.new }
+        ensures setting { self.new.setting ≡ self.old.setting }
+        ensures bytes { self.new.bytes ≡ self.old.bytes }
+        ensures root { OnFault result (self.new.config.root ≡ self.old.config.root) }
+        ensures same { E.same out.old out.new }
+        ensures later { E.stops out.old ≤ E.stops out.new }
+        ensures stopped { IsErrOf result Halt.Stopped → Rose (E.stops out.old) (E.stops out.new) }
+    {
+        match short_octets(self.alloc, &mut self.input, &mut self.meter) {
+            Some(octets) => self.made_octets(hex, octets, to, out),
+            None => self.typed_apart(bit, declared, to, out),
+        }
+    }
+
+    /// CH, of a datatype, inside an element: [`typed_characters`](Stepper::typed_characters), on a way of its own for each
+    /// datatype that is frequent.
+    #[inline(never)]
+    pub fn typed_inside<E: EventOut>(
+        &mut self,
+        bit: u64,
+        datatype: &Datatype,
+        to: u32,
+        out: &mut E,
+    ) -> Result<Option<u64>, Halt>
+        requires few { NoneLonger (2 ^ 31) self.old.config.tables }
+        requires roomy { IsRoomy self.old.config.meter self.old.config.tables }
+        requires name { IsName self.old.config.tables (innermost self.old.config.elements) }
+        requires learns { CanLearn (room_in self.old.config.elements self.old.config.outer) self.old.config.learned }
+        ensures hands { HandsAny E.took E.broke result self.new
+            (making self.old.bytes bit (characters_plan self.old.setting nowhere self.old.config.elements (represented datatype.now) (leading_to to)) self.old.config) out.old out.new }
+        ensures setting { self.new.setting ≡ self.old.setting }
+        ensures bytes { self.new.bytes ≡ self.old.bytes }
+        ensures root { OnFault result (self.new.config.root ≡ self.old.config.root) }
+        ensures same { E.same out.old out.new }
+        ensures later { E.stops out.old ≤ E.stops out.new }
+        ensures stopped { IsErrOf result Halt.Stopped → Rose (E.stops out.old) (E.stops out.new) }
+    {
+        match datatype {
+            Datatype::Small { .. } | Datatype::Unsigned | Datatype::Integer => {
+                self.integer_inside(bit, datatype, to, out)
+            }
+            Datatype::Moment(kind) => self.moment_inside(bit, datatype, *kind, to, out),
+            Datatype::Binary { hex } => self.octets_inside(bit, datatype, *hex, to, out),
+            Datatype::Boolean { .. }
+            | Datatype::Decimal
+            | Datatype::Float
+            | Datatype::List(_)
+            | Datatype::Choice { .. }
+            | Datatype::Text
+            | Datatype::Chars(_)
+            | Datatype::Name { .. } => self.typed_apart(bit, datatype, to, out),
         }
     }
 

@@ -297,7 +297,7 @@ impl<'a, T: Tables + Drop> Stepper<'a, T> {
         if let Err(fault) = charges.pay(&mut self.meter, bit) {
             return Err(Halt::Fault(fault));
         }
-        match self.typed_characters(bit, Alone::Nowhere, datatype, to, out) {
+        match self.typed_inside(bit, datatype, to, out) {
             Ok(fragment) => Ok(fragment),
             Err(Halt::Fault(fault)) => Err(halt_at_event(bit, fault)),
             Err(Halt::Memory) => Err(Halt::Memory),

@@ -3,6 +3,7 @@ pub mod Valued
 pub mod Spelled
 pub mod Promises
 pub mod Stops
+pub mod Shorts
 pub mod Growths
 pub mod Written
 pub mod WriteStops

@@ -52,7 +52,9 @@ pub mod laws;
 mod plain;
 mod put;
 mod read;
+mod short;
 mod write;
 
 pub use read::read_value;
+pub use short::{short_integer, short_moment, short_octets};
 pub use write::write_value;

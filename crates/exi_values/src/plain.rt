@@ -18,7 +18,7 @@ use std::alloc::Global;
 
 /// The number at a place, from the least one on.
 #[inline(always)]
-fn from_least(least: i128, place: u64) -> Whole
+pub fn from_least(least: i128, place: u64) -> Whole
     ensures { result ≡ number_of (least +ℤ pos place) }
 {
     let far = least.unsigned_abs();

@@ -13,35 +13,35 @@ returns-in-Err-clause-hands g c = (
   g.met.E.EventOut.none c.args.out.now,
 )
 
-pub typed_characters-requires-clause-few : goal.typed_characters-requires-clause-few
-typed_characters-requires-clause-few g c = few_more (2 ^ 31 - 2) (2 ^ 31) _ (omega arith) ((follow_room c.args.self.now (record { on = characters (represented c.args.datatype.now); to = c.args.to; inner = None }) c.args.bit nowhere _ _ c.self.view_is (c.of-charges.ensures) _ c.in_default.ensures c.requires.room).few)
+pub typed_inside-requires-clause-few : goal.typed_inside-requires-clause-few
+typed_inside-requires-clause-few g c = few_more (2 ^ 31 - 2) (2 ^ 31) _ (omega arith) ((follow_room c.args.self.now (record { on = characters (represented c.args.datatype.now); to = c.args.to; inner = None }) c.args.bit nowhere _ _ c.self.view_is (c.of-charges.ensures) _ c.in_default.ensures c.requires.room).few)
 
-pub typed_characters-requires-clause-roomy : goal.typed_characters-requires-clause-roomy
-typed_characters-requires-clause-roomy g c = few_more (2 ^ 31 - 2 ^ 28 - 2 + c.pay.new.meter.used.text) (2 ^ 31 - 2 ^ 28 + c.pay.new.meter.used.text) _ (omega arith) ((follow_room c.args.self.now (record { on = characters (represented c.args.datatype.now); to = c.args.to; inner = None }) c.args.bit nowhere _ _ c.self.view_is (c.of-charges.ensures) _ c.in_default.ensures c.requires.room).roomy)
+pub typed_inside-requires-clause-roomy : goal.typed_inside-requires-clause-roomy
+typed_inside-requires-clause-roomy g c = few_more (2 ^ 31 - 2 ^ 28 - 2 + c.pay.new.meter.used.text) (2 ^ 31 - 2 ^ 28 + c.pay.new.meter.used.text) _ (omega arith) ((follow_room c.args.self.now (record { on = characters (represented c.args.datatype.now); to = c.args.to; inner = None }) c.args.bit nowhere _ _ c.self.view_is (c.of-charges.ensures) _ c.in_default.ensures c.requires.room).roomy)
 
-pub typed_characters-requires-clause-name : goal.typed_characters-requires-clause-name
-typed_characters-requires-clause-name g c = follow_names c.args.self.now (record { on = characters (represented c.args.datatype.now); to = c.args.to; inner = None }) c.args.bit nowhere _ _ c.self.view_is (c.of-charges.ensures) c.pay.new.meter c.requires.names
+pub typed_inside-requires-clause-name : goal.typed_inside-requires-clause-name
+typed_inside-requires-clause-name g c = follow_names c.args.self.now (record { on = characters (represented c.args.datatype.now); to = c.args.to; inner = None }) c.args.bit nowhere _ _ c.self.view_is (c.of-charges.ensures) c.pay.new.meter c.requires.names
 
-pub typed_characters-requires-clause-learns : goal.typed_characters-requires-clause-learns
-typed_characters-requires-clause-learns g c = (follow_room c.args.self.now (record { on = characters (represented c.args.datatype.now); to = c.args.to; inner = None }) c.args.bit nowhere _ _ c.self.view_is (c.of-charges.ensures) _ c.in_default.ensures c.requires.room).learns
+pub typed_inside-requires-clause-learns : goal.typed_inside-requires-clause-learns
+typed_inside-requires-clause-learns g c = (follow_room c.args.self.now (record { on = characters (represented c.args.datatype.now); to = c.args.to; inner = None }) c.args.bit nowhere _ _ c.self.view_is (c.of-charges.ensures) _ c.in_default.ensures c.requires.room).learns
 
 pub returns-in-Ok-clause-hands : goal.returns-in-Ok-clause-hands
 returns-in-Ok-clause-hands g c =
     hands_ok g.E.EventOut.took g.E.EventOut.broke _ _ _ (follow_paid c.args.self.now (record { on = characters (represented c.args.datatype.now); to = c.args.to; inner = None }) c.args.bit nowhere _ _ c.self.view_is (c.of-charges.ensures) _ c.in_default.ensures)
-    _ _ c.in-Ok.fragment c.typed_characters.new.self c.in-Ok.ensures.hands
+    _ _ c.in-Ok.fragment c.typed_inside.new.self c.in-Ok.ensures.hands
 
 pub returns-in-Err-Fault-clause-hands : goal.returns-in-Err-Fault-clause-hands
 returns-in-Err-Fault-clause-hands g c =
     rw (c.halt_at_event.ensures)
     (hands_fault g.E.EventOut.took g.E.EventOut.broke _ _ _ (follow_paid c.args.self.now (record { on = characters (represented c.args.datatype.now); to = c.args.to; inner = None }) c.args.bit nowhere _ _ c.self.view_is (c.of-charges.ensures) _ c.in_default.ensures)
-    _ _ c.in-Err-Fault.fault c.typed_characters.new.self.config (rw c.in-Err-Fault.field-0-is at c.in-Err-Fault.ensures.hands))
+    _ _ c.in-Err-Fault.fault c.typed_inside.new.self.config (rw c.in-Err-Fault.field-0-is at c.in-Err-Fault.ensures.hands))
 
 pub returns-in-Err-Memory-clause-hands : goal.returns-in-Err-Memory-clause-hands
 returns-in-Err-Memory-clause-hands g c =
     hands_memory g.E.EventOut.took g.E.EventOut.broke _ _ _ (follow_paid c.args.self.now (record { on = characters (represented c.args.datatype.now); to = c.args.to; inner = None }) c.args.bit nowhere _ _ c.self.view_is (c.of-charges.ensures) _ c.in_default.ensures)
-    _ _ c.typed_characters.new.self.config (rw c.in-Err-Memory.field-0-is at c.in-Err-Memory.ensures.hands)
+    _ _ c.typed_inside.new.self.config (rw c.in-Err-Memory.field-0-is at c.in-Err-Memory.ensures.hands)
 
 pub returns-in-Err-Stopped-clause-hands : goal.returns-in-Err-Stopped-clause-hands
 returns-in-Err-Stopped-clause-hands g c =
     hands_stopped g.E.EventOut.took g.E.EventOut.broke _ _ _ (follow_paid c.args.self.now (record { on = characters (represented c.args.datatype.now); to = c.args.to; inner = None }) c.args.bit nowhere _ _ c.self.view_is (c.of-charges.ensures) _ c.in_default.ensures)
-    _ _ c.typed_characters.new.self.config (rw c.in-Err-Stopped.field-0-is at c.in-Err-Stopped.ensures.hands)
+    _ _ c.typed_inside.new.self.config (rw c.in-Err-Stopped.field-0-is at c.in-Err-Stopped.ensures.hands)
