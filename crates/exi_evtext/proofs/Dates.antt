@@ -2,6 +2,7 @@
 use Rattle.std.proofs.Common.{◌≡◌, ℕ, List, [], ◌∷◌, Option, Some, None, refl, sym, ap, ◌∙◌, inl, inr}
 use Rattle.std.specs.Prelude.{◌⊎◌, option_map, true}
 use Rattle.std.specs.Str.{bytes_eq}
+use Rattle.std.proofs.lemmas.Slice.Eq.{bytes_eq-Decides}
 use Rattle.exi_calendar.specs.Forms.{moment_text}
 use Rattle.exi_names.specs.declared.moment.Moment.{Moment}
 use Rattle.exi_names.specs.declared.moment.MomentKind.{MomentKind}
@@ -101,3 +102,28 @@ pub mom_is : (t : List ℕ) (m : Moment) → dated t ≡ Some m → bytes_eq (mo
 mom_is t m d same =
     let read : if_canonical t (Some (moment m)) ≡ Some (moment m) = rw same refl in
     any_is t ∙ ap (λ (o : Option Moment). if_canonical t (option_map moment o)) d ∙ read
+
+-- nothing in all is nothing in those behind
+none_behind : {A : Type 0} (a b : Option A) → or_else a b ≡ None → b ≡ None
+none_behind None b e = e
+none_behind (Some x) b e = absurd cc
+
+some_first : {A : Type 0} (x : A) (b : Option A) → or_else (Some x) b ≡ None → ⊥
+some_first x b e = absurd cc
+
+-- where the text is that of a date with a time in its canonical form
+pub date_time_is : (t : List ℕ) (m : Moment) → moment_value form.DateTime t ≡ Some m → moment_text m ≡ t → any_moment t ≡ Some (moment m)
+unfolding any_moment
+date_time_is t m p same =
+    let yes_is : bytes_eq (moment_text m) t ≡ true = (bytes_eq-Decides (moment_text m) t).1 same in
+    let x : if_canonical t (Some (moment m)) ≡ Some (moment m) = rw yes_is refl in
+    let own : moment_of form.DateTime t ≡ Some (moment m) = ap (λ (o : Option Moment). if_canonical t (option_map moment o)) p ∙ x in
+    straight (moment_of form.GYear t) (moment_of form.GYearMonth t) (moment_of form.Date t) (moment_of form.DateTime t) (moment_of form.GMonth t) (moment_of form.GMonthDay t) (moment_of form.GDay t) (moment_of form.Time t)
+    ∙ elim (others form.DateTime t m p kinds) [
+      | inl none ↦
+          let behind : or_else (Some (moment m)) (any (form.GMonth ∷ form.GMonthDay ∷ form.GDay ∷ form.Time ∷ []) t) ≡ None =
+          ap (λ (o : Option Value). or_else o (any (form.GMonth ∷ form.GMonthDay ∷ form.GDay ∷ form.Time ∷ []) t)) (sym own)
+          ∙ none_behind (moment_of form.Date t) _ (none_behind (moment_of form.GYearMonth t) _ (none_behind (moment_of form.GYear t) _ none)) in
+          absurd (some_first (moment m) (any (form.GMonth ∷ form.GMonthDay ∷ form.GDay ∷ form.Time ∷ []) t) behind)
+      | inr found ↦ found ∙ x
+    ]

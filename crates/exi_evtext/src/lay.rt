@@ -351,10 +351,10 @@ pub fn lay_event(room: &mut [u8], event: &EventRef<'_>) -> Option<usize>
     lay_frequent::<FAR>(room, event)
 }
 
-/// Lays the line of an event at the front of a room, as [`lay_event`] does, where the event is a frequent one that has no
-/// value but a text, each of its texts but a prefix has at most 32 bytes, none of them below 32 or escaped, and the room has
-/// 256 bytes or more. There is none for any other.
+/// Lays the line of an event at the front of a room of 256 bytes or more, as [`lay_event`] does, where each of its texts but a
+/// prefix has at most 32 bytes, none of them below 32 or escaped. There is none for any other.
 #[inline(always)]
+#[tactic(auto, unfolding(crate::specs::Lines::line_of))]
 pub fn lay_short(room: &mut [u8], event: &EventRef<'_>) -> Option<usize>
     ensures len { length room.new ≡ length room.old }
     ensures within { IfSome result (λ end. end ≤ length room.new) }
@@ -362,6 +362,9 @@ pub fn lay_short(room: &mut [u8], event: &EventRef<'_>) -> Option<usize>
 {
     if room.len() < LINE {
         return None;
+    }
+    if let EventRef::Ch(ValRef::Any(value)) = event {
+        return lay_typed(room, value);
     }
     lay_frequent::<NEAR>(room, event)
 }

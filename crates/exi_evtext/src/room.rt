@@ -26,7 +26,6 @@ enum Held {
 /// place each, so that a text is laid in the memory of the one before it.
 #[derive(Drop)]
 pub struct EventRoom {
-    alloc: Global,
     held: Held,
     start: Event,
     attribute: Event,
@@ -59,21 +58,17 @@ fn no_name(alloc: Global) -> QName {
 
 /// Puts ASCII characters in the place of a text, in its memory.
 #[inline(always)]
-fn refill(alloc: Global, text: &mut Txt, bytes: &[u8]) -> Result<(), AllocError>
+fn refill(text: &mut Txt, bytes: &[u8]) -> Result<(), AllocError>
     requires { IsAscii bytes.now }
     ensures { OnOk result (text.new ≡ bytes.now) }
 {
-    let mut memory = replace(text, Txt::new(alloc)).into_string();
-    memory.clear();
-    let mut filled = Txt::from_string(memory);
-    filled.push_ascii(bytes)?;
-    *text = filled;
-    Ok(())
+    text.clear();
+    text.push_ascii(bytes)
 }
 
 /// Puts a name without a prefix in the place of one.
 #[inline(always)]
-fn rename(alloc: Global, name: &mut QName, uri: &[u8], local: &[u8]) -> Result<bool, AllocError>
+fn rename(name: &mut QName, uri: &[u8], local: &[u8]) -> Result<bool, AllocError>
     requires uri { IsAscii uri.now }
     requires local { IsAscii local.now }
     ensures { IfOk result (λ done. IsTrue done → name.new ≡ plain_name uri.now local.now) }
@@ -81,21 +76,21 @@ fn rename(alloc: Global, name: &mut QName, uri: &[u8], local: &[u8]) -> Result<b
     if name.prefix.is_some() {
         return Ok(false);
     }
-    refill(alloc, &mut name.uri, uri)?;
-    refill(alloc, &mut name.local, local)?;
+    refill(&mut name.uri, uri)?;
+    refill(&mut name.local, local)?;
     Ok(true)
 }
 
 /// Puts a text in the place of one.
 #[inline(always)]
-fn revalue(alloc: Global, value: &mut Val, text: &[u8]) -> Result<bool, AllocError>
+fn revalue(value: &mut Val, text: &[u8]) -> Result<bool, AllocError>
     requires { IsAscii text.now }
     ensures { IfOk result (λ done. IsTrue done → shape.seen value.new ≡ shape.text text.now) }
 {
     let Val::Text(held) = value else {
         return Ok(false);
     };
-    refill(alloc, held, text)?;
+    refill(held, text)?;
     Ok(true)
 }
 
@@ -103,7 +98,6 @@ impl EventRoom {
     /// A room that holds the end of an element.
     pub fn new(alloc: Global) -> EventRoom {
         EventRoom {
-            alloc,
             held: Held::End,
             start: Event::Se(no_name(alloc)),
             attribute: Event::At(no_name(alloc), Val::Text(Txt::new(alloc))),
@@ -155,7 +149,7 @@ impl EventRoom {
         let Event::Se(name) = &mut self.start else {
             return Ok(false);
         };
-        rename(self.alloc, name, uri, local)
+        rename(name, uri, local)
     }
 
     /// Holds an attribute, where it can.
@@ -175,10 +169,10 @@ impl EventRoom {
         let Event::At(name, value) = &mut self.attribute else {
             return Ok(false);
         };
-        if !rename(self.alloc, name, uri, local)? {
+        if !rename(name, uri, local)? {
             return Ok(false);
         }
-        revalue(self.alloc, value, text)
+        revalue(value, text)
     }
 
     /// Holds characters, where it can.
@@ -191,6 +185,6 @@ impl EventRoom {
         let Event::Ch(value) = &mut self.characters else {
             return Ok(false);
         };
-        revalue(self.alloc, value, text)
+        revalue(value, text)
     }
 }

@@ -16,7 +16,7 @@ use crate::stop::LineStop;
 use crate::value::push_hex;
 use base64::DecodeAllocError;
 use base64::engine::general_purpose::STANDARD;
-use exi_calendar::{moment, push_moment};
+use exi_calendar::{moment, push_moment, whole_seconds};
 use exi_names::{Moment, MomentKind, Octets, Val, Whole};
 use exi_numerals::{
     decimal_of, float_of, integer_of, push_decimal, push_float, push_integer, unsigned_of,
@@ -139,10 +139,13 @@ fn dated(digits: &[u8]) -> Option<Moment>
         .or_else(|| moment(MomentKind::Time, digits))
 }
 
-/// A date or a time of any kind.
+/// A date or a time of any kind. One in its most frequent form is canonical, and not printed again.
 fn mom(scratch: &mut String, digits: &[u8]) -> Result<Val, LineStop>
     ensures { Tells seen result (any_moment digits.now) }
 {
+    if let Some(moment) = whole_seconds(digits) {
+        return Ok(Val::Mom(moment));
+    }
     let Some(moment) = dated(digits) else {
         return Err(LineStop::Form);
     };

@@ -49,7 +49,9 @@ fn texts_are_compared(rt: HostRuntime) -> Result<(), Fail> {
     text.push('é')?;
     text.push_str("€")?;
     text.push_ascii(b"a")?;
-    let copy = Txt::from_string(text.copy()?.into_string());
+    let mut copy = Txt::from_string(String::from_str(rt.alloc(), "a")?);
+    copy.clear();
+    copy.push_str(text.copy()?.as_str())?;
     assert!(rt; copy.same(&text) && copy == text && copy <= text);
     assert!(rt; copy.as_str() == "é€a" && copy.count() == 3 && text.count() == 3);
     let mut hasher = DefaultHasher::new();
