@@ -468,8 +468,8 @@ impl<'a, T: Tables + Drop> Stepper<'a, T> {
         }
     }
 
-    /// One event, by any rule.
-    #[inline(always)]
+    /// One event, by any rule. It stands apart, so that [`step`](Stepper::step) is small enough to be taken in line.
+    #[inline(never)]
     fn any_step<E: EventOut>(&mut self, bit: u64, out: &mut E) -> Result<Option<u64>, Halt>
         requires steady { IsSteady self.old }
         requires bit { bit ≡ self.old.config.place }
