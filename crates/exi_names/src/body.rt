@@ -1,6 +1,7 @@
 //! Where a text keeps its UTF-8.
 
-ghost use Rattle.std.specs.Prelude.{◌≡◌, ◌+◌, ◌<◌, ◌≤◌, ◌++◌, ◌^◌, [], length, encode_utf8, IfOk, IsTrue, OnErr, OnOk, ◌↔◌};
+ghost use Rattle.std.specs.Prelude.{◌≡◌, ◌+◌, ◌<◌, ◌≤◌, ◌++◌, ◌^◌, [], length, take, encode_utf8, IfOk, IsTrue, OnErr, OnOk, ◌↔◌};
+ghost use Rattle.std.specs.Str.{IsUtf8};
 ghost use Rattle.std.specs.String.{string_bytes};
 
 use std::alloc::{AllocError, Global};
@@ -36,6 +37,22 @@ impl Short {
         Short {
             len: 0,
             bytes: [0; ROOM],
+        }
+    }
+
+    /// The first bytes of many: all that may be among them are copied at once.
+    #[inline(always)]
+    fn of_front(bytes: &[u8], count: usize) -> Short
+        requires few { count ≤ 30 }
+        requires room { 30 ≤ length bytes.now }
+        requires utf8 { IsUtf8 (take count bytes.now) }
+        ensures { result ≡ take count bytes.now }
+    {
+        let mut front = [0; ROOM];
+        front.copy_from_slice(&bytes[..ROOM]);
+        Short {
+            len: count as u8,
+            bytes: front,
         }
     }
 
@@ -127,6 +144,40 @@ impl Body {
         let mut short = Short::new();
         short.push_str(text);
         Ok(Body(Form::Short(alloc, short)))
+    }
+
+    /// The first bytes of some.
+    #[inline(always)]
+    pub(crate) fn of_front(alloc: Global, bytes: &[u8], count: usize) -> Result<Body, AllocError>
+        requires within { count ≤ length bytes.now }
+        requires utf8 { IsUtf8 (take count bytes.now) }
+        ensures { IfOk result (λ b. b ≡ take count bytes.now) }
+    {
+        if count <= ROOM && bytes.len() >= ROOM {
+            return Ok(Body(Form::Short(alloc, Short::of_front(bytes, count))));
+        }
+        Body::of(
+            alloc,
+            unsafe { std::str::from_utf8_unchecked(&bytes[..count]) },
+        )
+    }
+
+    /// Puts the first bytes of some in place of all. A string's memory is kept.
+    #[inline(always)]
+    pub(crate) fn refill(&mut self, bytes: &[u8], count: usize) -> Result<(), AllocError>
+        requires within { count ≤ length bytes.now }
+        requires utf8 { IsUtf8 (take count bytes.now) }
+        ensures ok { OnOk result (self.new ≡ take count bytes.now) }
+        ensures err { OnErr result (self.new ≡ []) }
+    {
+        if count <= ROOM && bytes.len() >= ROOM {
+            if let Form::Short(_, short) = &mut self.0 {
+                *short = Short::of_front(bytes, count);
+                return Ok(());
+            }
+        }
+        self.clear();
+        self.push_str(unsafe { std::str::from_utf8_unchecked(&bytes[..count]) })
     }
 
     /// The bytes that a string holds, in the string's own memory.

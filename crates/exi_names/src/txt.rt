@@ -1,4 +1,4 @@
-ghost use Rattle.std.specs.Prelude.{◌≡◌, [], ◌∷◌, ◌++◌, ◌||◌, nat_lt, nat_le, ◌≤◌, count_by, length, Some, IfOk, OnOk, OnErr, IsTrue, ◌↔◌, encode_utf8_all};
+ghost use Rattle.std.specs.Prelude.{◌≡◌, [], ◌∷◌, ◌++◌, ◌||◌, nat_lt, nat_le, ◌≤◌, count_by, length, take, Some, IfOk, OnOk, OnErr, IsTrue, ◌↔◌, encode_utf8_all};
 ghost use Rattle.std.proofs.Common.{refl};
 ghost use Rattle.std.specs.Str.{chars, bytes_eq, IsAscii};
 ghost use Rattle.std.specs.String.{string_bytes};
@@ -59,6 +59,42 @@ impl Txt {
             characters: count_chars(text),
             body: Body::of(alloc, text)?,
         })
+    }
+
+    /// The first bytes of some, which have to be ASCII: a character each. Where there are more bytes than a text keeps
+    /// within itself, as many are copied at once.
+    ///
+    /// # Errors
+    ///
+    /// `AllocError` where memory is refused.
+    #[inline(always)]
+    pub fn of_front(alloc: Global, bytes: &[u8], count: usize) -> Result<Txt, AllocError>
+        requires within { count ≤ length bytes.now }
+        requires ascii { IsAscii (take count bytes.now) }
+        ensures { IfOk result (λ t. t ≡ take count bytes.now) }
+    {
+        Ok(Txt {
+            characters: count as u64,
+            body: Body::of_front(alloc, bytes, count)?,
+        })
+    }
+
+    /// Puts the first bytes of some, which have to be ASCII, in place of all characters. Memory that the text has is kept.
+    ///
+    /// # Errors
+    ///
+    /// `AllocError` where memory is refused; the text is then empty.
+    #[inline(always)]
+    pub fn refill(&mut self, bytes: &[u8], count: usize) -> Result<(), AllocError>
+        requires within { count ≤ length bytes.now }
+        requires ascii { IsAscii (take count bytes.now) }
+        ensures ok { OnOk result (self.new ≡ take count bytes.now) }
+        ensures err { OnErr result (self.new ≡ []) }
+    {
+        self.characters = 0;
+        self.body.refill(bytes, count)?;
+        self.characters = count as u64;
+        Ok(())
     }
 
     /// The text that the string holds, in the string's own memory. Counts its characters.
@@ -177,6 +213,10 @@ impl Txt {
         ensures same { IsTrue result ↔ (self.now ≡ other.now) }
         ensures test { result ≡ bytes_eq self.now other.now }
     {
+        // Most texts that differ have another number of characters.
+        if self.characters != other.characters {
+            return false;
+        }
         self.body.as_str() == other.body.as_str()
     }
 }
