@@ -306,6 +306,9 @@ fn others_added(input: &mut BitIn<'_>, text: &mut Txt, count: u64) -> bool
     }
 }
 
+/// How many octets of few plain characters are laid side by side: a word more than they are.
+const FEW: usize = 40;
+
 /// How many octets of plain characters are laid side by side before they are added to a text.
 const PLAIN: usize = 64;
 
@@ -354,6 +357,26 @@ fn codes_added(input: &mut BitIn<'_>, text: &mut Txt, count: u64) -> bool
     others_added(input, text, count - run)
 }
 
+/// So many plain characters from the place on, at most as many as a text keeps within itself. None where there are fewer; the place
+/// is then anything.
+#[inline(always)]
+fn few_chars(alloc: Global, input: &mut BitIn<'_>, count: u64) -> Option<Txt>
+    requires few { count ≤ 30 }
+    ensures read { IfSome result (λ t. times code_at count input.old ≡ Ok (t, input.new)) }
+    ensures bytes { input.new.bytes ≡ input.old.bytes }
+    ensures phase { input.new.place % 8 ≡ input.old.place % 8 }
+{
+    let mut room = [0u8; FEW];
+    let run = lay_run(input, &mut room, 0, count);
+    if run < count {
+        return None;
+    }
+    match Txt::of_front(alloc, &room, run as usize) {
+        Ok(text) => Some(text),
+        Err(_) => None,
+    }
+}
+
 /// Charges the characters, and reads them by their code points. None where the meter does not take them, where
 /// they surely do not fit the bits that are left, or where that way meets a stop of any kind; nothing moves and
 /// nothing is charged then.
@@ -371,6 +394,12 @@ fn plain_chars(alloc: Global, input: &mut BitIn<'_>, count: u128, meter: &mut Me
         return None;
     }
     let start = input.at();
+    if count <= 30 {
+        if let Some(text) = few_chars(alloc, input, count as u64) {
+            return Some(text);
+        }
+        input.go_to_bit(start);
+    }
     let mut text = Txt::new(alloc);
     if codes_added(input, &mut text, count as u64) {
         return Some(text);
