@@ -6,6 +6,7 @@ ghost use Rattle.exi_evtext.specs.Lines.{name_words, value_words};
 ghost use Rattle.exi_evtext.specs.Plain.{IsLine, IsPlain, plain_name};
 
 use crate::cursor::behind_mark;
+use crate::front::Front;
 use crate::read_value::inside_text;
 use crate::room::EventRoom;
 use crate::run::plain_width;
@@ -25,19 +26,21 @@ fn behind_three(bytes: &[u8], first: u8, second: u8, third: u8) -> Option<&[u8]>
 
 /// A plain text behind the quote that opens it, and what stands behind the quote that closes it.
 #[inline(always)]
-fn plain_opened(bytes: &[u8]) -> Option<(&[u8], &[u8])>
-    ensures plain { IfSome result (λ found. IsPlain found.0.now) }
-    ensures parts { IfSome result (λ found. bytes.now ≡ found.0.now ++ 34 ∷ found.1.now) }
+fn plain_opened(bytes: &[u8]) -> Option<(Front<'_>, &[u8])>
+    ensures plain { IfSome result (λ found. IsPlain found.0) }
+    ensures parts { IfSome result (λ found. bytes.now ≡ found.0 ++ 34 ∷ found.1.now) }
 {
-    let (run, rest) = bytes.split_at(plain_width(bytes));
-    Some((run, behind_mark(b'"', rest)?))
+    let count = plain_width(bytes);
+    let (_, rest) = bytes.split_at(count);
+    let behind = behind_mark(b'"', rest)?;
+    Some((Front::new(bytes, count), behind))
 }
 
 /// URI and local name behind a word, and what stands behind them.
 #[inline(always)]
-fn plain_name(bytes: &[u8]) -> Option<(&[u8], &[u8], &[u8])>
-    ensures plain { IfSome result (λ found. IsPlain found.0.now × IsPlain found.1.now) }
-    ensures parts { IfSome result (λ found. bytes.now ≡ name_words (plain_name found.0.now found.1.now) ++ found.2.now) }
+fn plain_name(bytes: &[u8]) -> Option<(Front<'_>, Front<'_>, &[u8])>
+    ensures plain { IfSome result (λ found. IsPlain found.0 × IsPlain found.1) }
+    ensures parts { IfSome result (λ found. bytes.now ≡ name_words (plain_name found.0 found.1) ++ found.2.now) }
 {
     let inside = behind_mark(b'"', bytes)?;
     let (uri, rest) = plain_opened(inside)?;
@@ -48,9 +51,9 @@ fn plain_name(bytes: &[u8]) -> Option<(&[u8], &[u8], &[u8])>
 
 /// A text as a value that ends the line, and what stands behind the line.
 #[inline(always)]
-fn plain_value(bytes: &[u8]) -> Option<(&[u8], &[u8])>
-    ensures plain { IfSome result (λ found. IsPlain found.0.now) }
-    ensures parts { IfSome result (λ found. bytes.now ≡ value_words (text found.0.now) ++ 10 ∷ found.1.now) }
+fn plain_value(bytes: &[u8]) -> Option<(Front<'_>, &[u8])>
+    ensures plain { IfSome result (λ found. IsPlain found.0) }
+    ensures parts { IfSome result (λ found. bytes.now ≡ value_words (text found.0) ++ 10 ∷ found.1.now) }
 {
     let (text, rest) = plain_opened(inside_text(bytes)?)?;
     Some((text, behind_mark(b'\n', rest)?))
@@ -75,7 +78,7 @@ fn start<'a>(bytes: &'a [u8], room: &mut EventRoom) -> Result<Option<&'a [u8]>, 
     let Some(behind) = behind_mark(b'\n', rest) else {
         return Ok(None);
     };
-    Ok(if_held(room.hold_start(uri, local)?, behind))
+    Ok(if_held(room.hold_start(&uri, &local)?, behind))
 }
 
 /// An attribute with a text.
@@ -92,7 +95,7 @@ fn attribute<'a>(bytes: &'a [u8], room: &mut EventRoom) -> Result<Option<&'a [u8
     let Some((text, behind)) = plain_value(rest) else {
         return Ok(None);
     };
-    Ok(if_held(room.hold_attribute(uri, local, text)?, behind))
+    Ok(if_held(room.hold_attribute(&uri, &local, &text)?, behind))
 }
 
 /// Characters that are a text.
@@ -103,7 +106,7 @@ fn characters<'a>(bytes: &'a [u8], room: &mut EventRoom) -> Result<Option<&'a [u
     let Some((text, behind)) = plain_value(bytes) else {
         return Ok(None);
     };
-    Ok(if_held(room.hold_characters(text)?, behind))
+    Ok(if_held(room.hold_characters(&text)?, behind))
 }
 
 /// Reads the line in front into a room, where it is one of the most frequent and its texts are plain; the answer is what

@@ -31,6 +31,7 @@
 
 mod cursor;
 mod frequent;
+mod front;
 pub mod laws;
 mod lay;
 mod lay_moment;

@@ -7,6 +7,7 @@ ghost use Rattle.exi_names.specs.Events.{happens};
 ghost use Rattle.exi_names.specs.Seen as shape;
 ghost use Rattle.exi_evtext.specs.Plain.{plain_name};
 
+use crate::front::Front;
 use exi_names::{Event, QName, Txt, Val};
 use std::alloc::{AllocError, Global};
 use std::marker::Model;
@@ -56,19 +57,9 @@ fn no_name(alloc: Global) -> QName {
     }
 }
 
-/// Puts ASCII characters in the place of a text, in its memory.
-#[inline(always)]
-fn refill(text: &mut Txt, bytes: &[u8]) -> Result<(), AllocError>
-    requires { IsAscii bytes.now }
-    ensures { OnOk result (text.new ≡ bytes.now) }
-{
-    text.clear();
-    text.push_ascii(bytes)
-}
-
 /// Puts a name without a prefix in the place of one.
 #[inline(always)]
-fn rename(name: &mut QName, uri: &[u8], local: &[u8]) -> Result<bool, AllocError>
+fn rename(name: &mut QName, uri: &Front<'_>, local: &Front<'_>) -> Result<bool, AllocError>
     requires uri { IsAscii uri.now }
     requires local { IsAscii local.now }
     ensures { IfOk result (λ done. IsTrue done → name.new ≡ plain_name uri.now local.now) }
@@ -76,21 +67,21 @@ fn rename(name: &mut QName, uri: &[u8], local: &[u8]) -> Result<bool, AllocError
     if name.prefix.is_some() {
         return Ok(false);
     }
-    refill(&mut name.uri, uri)?;
-    refill(&mut name.local, local)?;
+    uri.fill(&mut name.uri)?;
+    local.fill(&mut name.local)?;
     Ok(true)
 }
 
 /// Puts a text in the place of one.
 #[inline(always)]
-fn revalue(value: &mut Val, text: &[u8]) -> Result<bool, AllocError>
+fn revalue(value: &mut Val, text: &Front<'_>) -> Result<bool, AllocError>
     requires { IsAscii text.now }
     ensures { IfOk result (λ done. IsTrue done → shape.seen value.new ≡ shape.text text.now) }
 {
     let Val::Text(held) = value else {
         return Ok(false);
     };
-    refill(held, text)?;
+    text.fill(held)?;
     Ok(true)
 }
 
@@ -140,7 +131,7 @@ impl EventRoom {
 
     /// Holds the start of an element, where it can.
     #[inline(always)]
-    pub fn hold_start(&mut self, uri: &[u8], local: &[u8]) -> Result<bool, AllocError>
+    pub fn hold_start(&mut self, uri: &Front<'_>, local: &Front<'_>) -> Result<bool, AllocError>
         requires uri { IsAscii uri.now }
         requires local { IsAscii local.now }
         ensures { IfOk result (λ done. IsTrue done → self.new ≡ happening.se (plain_name uri.now local.now)) }
@@ -156,9 +147,9 @@ impl EventRoom {
     #[inline(always)]
     pub fn hold_attribute(
         &mut self,
-        uri: &[u8],
-        local: &[u8],
-        text: &[u8],
+        uri: &Front<'_>,
+        local: &Front<'_>,
+        text: &Front<'_>,
     ) -> Result<bool, AllocError>
         requires uri { IsAscii uri.now }
         requires local { IsAscii local.now }
@@ -177,7 +168,7 @@ impl EventRoom {
 
     /// Holds characters, where it can.
     #[inline(always)]
-    pub fn hold_characters(&mut self, text: &[u8]) -> Result<bool, AllocError>
+    pub fn hold_characters(&mut self, text: &Front<'_>) -> Result<bool, AllocError>
         requires { IsAscii text.now }
         ensures { IfOk result (λ done. IsTrue done → self.new ≡ happening.ch (shape.text text.now)) }
     {

@@ -72,6 +72,15 @@ fn texts_are_compared(rt: HostRuntime) -> Result<(), Fail> {
 }
 
 #[test]
+fn texts_are_taken_from_a_front(rt: HostRuntime) -> Result<(), Fail> {
+    let mut text = Txt::of_front(rt.alloc(), b"few", 2)?;
+    assert_eq!(rt; text.as_str(), "fe");
+    text.refill(b"01", 1)?;
+    assert_eq!(rt; text.as_str(), "0");
+    Ok(())
+}
+
+#[test]
 fn octets_grow(rt: HostRuntime) -> Result<(), Fail> {
     let mut octets = Octets::new(rt.alloc());
     octets.reserve(3)?;

@@ -7,8 +7,8 @@ use Rattle.exi_evtext.proofs.frequent.start.Goals as goal
 
 pub returns : goal.returns
 returns c =
-    let uri = c.in-Some.uri.now in
-    let local = c.in-Some.local.now in
+    let uri = c.in-Some.uri in
+    let local = c.in-Some.local in
     let behind = c.in-Some-behind_mark.behind.now in
     let end = past_mark 10 c.in-Some.rest.now behind (sym c.in-Some-behind_mark.ensures) in
     let parts = c.in-Some.ensures.parts ∙ ap (λ (x : List ℕ). name_words (plain_name uri local) ++ x) end in
