@@ -74,6 +74,7 @@ fn push_word(bytes: &mut Vec<u8>, value: u64, width: u32) -> u32
 }
 
 /// Adds a number to a last byte that has room for it.
+#[inline(always)]
 fn fill_tail(bytes: &mut Vec<u8>, spare: u32, value: u64, width: u32)
     requires padded { IsPadded bytes.old.items spare }
     requires within { width ≤ spare }
@@ -205,7 +206,7 @@ impl BitOut {
     /// Where there is no memory. The bits are then as before.
     ///
     /// [`BitIn::take`]: crate::BitIn::take
-    #[inline]
+    #[inline(always)]
     pub fn put(&mut self, value: u64, width: u32, align: Align) -> Result<(), AllocError>
         requires narrow { width ≤ 64 }
         requires fits { value < 2 ^ width }
@@ -220,9 +221,25 @@ impl BitOut {
         }
     }
 
-    /// Adds a number bit by bit, the most significant first.
-    #[inline]
+    /// Adds a number bit by bit, the most significant first. Most fit the last byte.
+    #[inline(always)]
     fn put_bits(&mut self, value: u64, width: u32) -> Result<(), AllocError>
+        requires narrow { width ≤ 64 }
+        requires fits { value < 2 ^ width }
+        ensures ok { OnOk result (self.new ≡ self.old ++ number_bits width value) }
+        ensures err { OnErr result (self.new ≡ self.old) }
+    {
+        if width <= self.spare {
+            fill_tail(&mut self.bytes, self.spare, value, width);
+            self.spare -= width;
+            return Ok(());
+        }
+        self.put_any_bits(value, width)
+    }
+
+    /// The same of any number, apart.
+    #[inline(never)]
+    fn put_any_bits(&mut self, value: u64, width: u32) -> Result<(), AllocError>
         requires narrow { width ≤ 64 }
         requires fits { value < 2 ^ width }
         ensures ok { OnOk result (self.new ≡ self.old ++ number_bits width value) }
@@ -245,7 +262,7 @@ impl BitOut {
     }
 
     /// Adds so many bytes of a number, the least significant first.
-    #[inline]
+    #[inline(never)]
     fn put_bytes(&mut self, value: u64, count: u32) -> Result<(), AllocError>
         requires narrow { count ≤ 8 }
         requires whole { length self.old % 8 ≡ 0 }

@@ -2,7 +2,7 @@ use Rattle.std.proofs.Common.{◌≡◌, ◌+◌, ◌-◌, ◌<◌, ◌^◌, ari
 use Rattle.std.proofs.lemmas.Nat.{one_shl, and_mask, shr_below}
 use Rattle.exi_bits.specs.Written.{written}
 use Rattle.exi_bits.proofs.Outs.{put_over, put_whole}
-use Rattle.exi_bits.proofs.bit_out.BitOut.put_bits.Goals as goal
+use Rattle.exi_bits.proofs.bit_out.BitOut.put_any_bits.Goals as goal
 
 pub invariant_of-self-then-self-eq0 : goal.invariant_of-self-then-self-eq0
 invariant_of-self-then-self-eq0 c =
