@@ -6,6 +6,7 @@ pub mod Shown
 pub mod TextLaws
 pub mod Lists
 pub mod Alphabets
+pub mod Lanes
 pub mod Letters
 pub mod Datatypes
 pub mod Texts

@@ -1,9 +1,11 @@
 //! Where a text keeps its UTF-8.
 
-ghost use Rattle.std.specs.Prelude.{◌≡◌, ◌+◌, ◌<◌, ◌≤◌, ◌++◌, ◌^◌, [], length, take, encode_utf8, IfOk, IsTrue, OnErr, OnOk, ◌↔◌};
+ghost use Rattle.std.specs.Prelude.{◌≡◌, ◌+◌, ◌<◌, ◌≤◌, ◌++◌, ◌^◌, [], length, take, encode_utf8, get_or, true, ℕ, IfOk, IfSome, IsTrue, OnErr, OnOk, ◌↔◌};
 ghost use Rattle.std.specs.Str.{IsUtf8};
+ghost use Rattle.exi_names.specs.Characters.{between};
 ghost use Rattle.std.specs.String.{string_bytes};
 
+use crate::lanes::{plain_front, same_front};
 use std::alloc::{AllocError, Global};
 use std::marker::Model;
 
@@ -65,6 +67,14 @@ impl Short {
             len: self.len,
             bytes: self.bytes,
         }
+    }
+
+    /// Whether another has the same bytes: all that there may be are compared at once.
+    #[inline(always)]
+    fn same(&self, other: &Short) -> bool
+        ensures { IsTrue result ↔ (self.now ≡ other.now) }
+    {
+        self.len == other.len && same_front(&self.bytes, &other.bytes, usize::from(self.len))
     }
 
     /// Whether so many bytes more fit.
@@ -275,6 +285,41 @@ impl Body {
         match &self.0 {
             Form::Short(_, short) => short.as_str(),
             Form::Long(text) => text.as_str(),
+        }
+    }
+
+    /// Whether another has the same bytes.
+    #[inline(always)]
+    pub(crate) fn same(&self, other: &Body) -> bool
+        ensures { IsTrue result ↔ (self.now ≡ other.now) }
+    {
+        match (&self.0, &other.0) {
+            (Form::Short(_, short), Form::Short(_, others)) => short.same(others),
+            _ => self.as_str() == other.as_str(),
+        }
+    }
+
+    /// Whether the bytes lie within and are surely plain.
+    #[inline(always)]
+    pub(crate) fn is_surely_plain(&self) -> bool
+        ensures { IsTrue result → (i : ℕ) → i < length self.now → between 0x20 0x7F (get_or self.now i 0) ≡ true }
+    {
+        match &self.0 {
+            Form::Short(_, short) => plain_front(&short.bytes, usize::from(short.len)),
+            Form::Long(_) => false,
+        }
+    }
+
+    /// The room within that has the bytes, where one has, and how many of it they are.
+    #[inline(always)]
+    pub(crate) fn room(&self) -> Option<(&[u8], usize)>
+        ensures bytes { IfSome result (λ r. take r.1 r.0.now ≡ self.now) }
+        ensures room { IfSome result (λ r. length r.0.now ≡ 30) }
+        ensures few { IfSome result (λ r. r.1 ≤ 30) }
+    {
+        match &self.0 {
+            Form::Short(_, short) => Some((&short.bytes, usize::from(short.len))),
+            Form::Long(_) => None,
         }
     }
 }

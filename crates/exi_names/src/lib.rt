@@ -27,6 +27,7 @@ mod event;
 mod event_list;
 mod event_out;
 mod event_ref;
+mod lanes;
 pub mod laws;
 mod letters;
 mod moment;

@@ -1,7 +1,8 @@
-ghost use Rattle.std.specs.Prelude.{◌≡◌, [], ◌∷◌, ◌++◌, ◌||◌, nat_lt, nat_le, ◌≤◌, count_by, length, take, Some, IfOk, OnOk, OnErr, IsTrue, ◌↔◌, encode_utf8_all};
+ghost use Rattle.std.specs.Prelude.{◌≡◌, [], ◌∷◌, ◌++◌, ◌||◌, nat_lt, nat_le, ◌<◌, ◌≤◌, ℕ, true, count_by, get_or, length, take, Some, IfOk, IfSome, OnOk, OnErr, IsTrue, ◌↔◌, encode_utf8_all};
 ghost use Rattle.std.proofs.Common.{refl};
 ghost use Rattle.std.specs.Str.{chars, bytes_eq, IsAscii};
 ghost use Rattle.std.specs.String.{string_bytes};
+ghost use Rattle.exi_names.specs.Characters.{between};
 ghost use Rattle.std.specs.Cmp.Lexicographic.{slice_cmp, nat_list_eq_equiv, nat_list_cmp_total};
 ghost use Rattle.std.specs.Ordering.{nat_cmp};
 ghost use Rattle.std.specs.Cmp;
@@ -217,7 +218,26 @@ impl Txt {
         if self.characters != other.characters {
             return false;
         }
-        self.body.as_str() == other.body.as_str()
+        self.body.same(&other.body)
+    }
+
+    /// Whether the text is short, and each of its bytes is from 20 to 7F: all that may be among them are looked at at once.
+    #[inline(always)]
+    pub fn is_surely_plain(&self) -> bool
+        ensures { IsTrue result → (i : ℕ) → i < length (encode_utf8_all self.now) → between 0x20 0x7F (get_or (encode_utf8_all self.now) i 0) ≡ true }
+    {
+        self.body.is_surely_plain()
+    }
+
+    /// The room of 30 bytes that a short text has within itself, and how many of them are its UTF-8: the first. What lies
+    /// behind them is not told. A text that is long, or was, may have none.
+    #[inline(always)]
+    pub fn room(&self) -> Option<(&[u8], usize)>
+        ensures bytes { IfSome result (λ r. take r.1 r.0.now ≡ encode_utf8_all self.now) }
+        ensures room { IfSome result (λ r. length r.0.now ≡ 30) }
+        ensures few { IfSome result (λ r. r.1 ≤ 30) }
+    {
+        self.body.room()
     }
 }
 
