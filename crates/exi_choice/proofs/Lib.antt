@@ -14,4 +14,3 @@ pub mod Searching
 pub mod Books
 pub mod Starts
 pub mod Strings
-pub mod CommonTexts

@@ -83,34 +83,12 @@ fn text_of(alloc: Global, value: &Val) -> Result<Option<Txt>, AllocError>
     Ok(Some(text))
 }
 
-/// Whether none of these octets is that of a control, and none the first of a character from U+F000 to U+FFFF, of which two
-/// are no XML characters. None of them ends the search, so that many are looked at at once.
-fn are_common(octets: &[u8]) -> bool
-    ensures { IsTrue result → (i : ℕ) → i < length octets.now → (0x20 ≤ get_or octets.now i 0) × (get_or octets.now i 0 ≢ 0xEF) }
-{
-    let mut all = true;
-    for octet in octets {
-        all = all & (*octet >= 0x20) & (*octet != 0xEF);
-    }
-    all
-}
-
-/// Whether each character of a text is surely an XML character, as its octets tell.
-#[inline(always)]
-fn is_surely_writable(text: &Txt) -> bool
-    ensures { IsTrue result → all_xml text.now ≡ true }
-{
-    are_common(text.as_str().as_bytes())
-}
-
 /// Whether a text has a spelling: each of its characters is an XML character.
+#[inline(always)]
 fn can_be_spelled(text: &Txt) -> bool
     ensures { result ≡ can_be_spelled text.now }
 {
     let _ = text.count();
-    if is_surely_writable(text) {
-        return true;
-    }
     is_writable(text)
 }
 

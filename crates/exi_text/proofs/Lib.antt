@@ -1,5 +1,6 @@
 pub mod Sets
 mod Codes
+mod CommonTexts
 mod Rooms
 mod Runs
 mod ShortCodes

@@ -5,6 +5,7 @@ use Rattle.std.specs.Int.{w64, to_be_bytes}
 use Rattle.std.specs.List.{position, position_or_len}
 use Rattle.std.specs.Str.{IsAscii, chars}
 use Rattle.std.proofs.lemmas.Str.{chars-IsAscii}
+use Rattle.std.proofs.Math.Bool.{or-true}
 use Rattle.std.proofs.lemmas.Bool.{and_parts, cases_lt, leb-true, le-leb, le-ltb, lt-ltb, ltb-false}
 use Rattle.std.proofs.lemmas.List.{append-nil, drop-drop, get_or-take, get_or_past, take_at}
 use Rattle.std.proofs.lemmas.List.Sums.{fails_before_first, prefix_len-le-length}
@@ -106,6 +107,9 @@ each_xml (c ∷ cs) plain = rw (plain_xml c (plain 0 (omega arith)), each_xml cs
 pub plain_text : (os : List ℕ) → ((i : ℕ) → i < length os → is_plain (get_or os i 0) ≡ true) → all_xml (chars os) ≡ true
 unfolding AllPlain
 plain_text os plain = ap all_xml (chars-IsAscii os (all_ascii (length os) os refl plain)) ∙ each_xml os plain
+
+pub plain_from : (c : ℕ) → between 0x20 0x7F c ≡ true → is_plain c ≡ true
+plain_from c h = rw h (or-true (between 0x9 0xA c || between 0xD 0xD c))
 
 pub word_begins : (n v : ℕ) (os : List ℕ) (s t : Spot) → n ≤ 8 → number_at 64 align.Bits s ≡ Some (v, t) → os ≡ to_be_bytes w64 v → ((i : ℕ) → i < n → is_plain (get_or os i 0) ≡ true) → Begins n os s
 word_begins n v os s t le e spelled plain =

@@ -19,55 +19,6 @@ fn other_place(octets: &[u8]) -> Option<usize>
         .position(|octet| !matches!(*octet, 0x20..=0x7F))
 }
 
-/// Whether the eight octets at a place are surely plain, by one test.
-#[inline(always)]
-fn eight_plain(octets: &[u8], at: usize) -> bool
-    requires { at + 8 ≤ length octets.now }
-    ensures { IsTrue result → (i : ℕ) → at ≤ i → i < at + 8 → is_plain (get_or octets.now i 0) ≡ true }
-{
-    let mut eight = [0u8; 8];
-    eight.copy_from_slice(&octets[at..at + 8]);
-    is_plain_word(u64::from_be_bytes(eight))
-}
-
-/// Whether a few octets are surely plain: words of eight, of which the last ends where they end.
-#[inline(always)]
-fn few_plain(octets: &[u8]) -> bool
-    requires { 8 ≤ length octets.now }
-    ensures { IsTrue result → (i : ℕ) → i < length octets.now → is_plain (get_or octets.now i 0) ≡ true }
-{
-    let mut at = 0;
-    while octets.len() - at > 8 {
-        if !eight_plain(octets, at) {
-            return false;
-        }
-        at += 8;
-    }
-    eight_plain(octets, octets.len() - 8)
-}
-
-/// Whether all octets are surely plain, looked at many at once: none of them ends the search.
-fn many_plain(octets: &[u8]) -> bool
-    ensures { IsTrue result → (i : ℕ) → i < length octets.now → is_plain (get_or octets.now i 0) ≡ true }
-{
-    let mut all = true;
-    for octet in octets {
-        all = all & (*octet >= 0x20) & (*octet < 0x80);
-    }
-    all
-}
-
-/// Whether all octets are surely plain.
-#[inline(always)]
-pub fn all_plain(octets: &[u8]) -> bool
-    ensures { IsTrue result → (i : ℕ) → i < length octets.now → is_plain (get_or octets.now i 0) ≡ true }
-{
-    if octets.len() >= 8 && octets.len() < 32 {
-        return few_plain(octets);
-    }
-    many_plain(octets)
-}
-
 /// How many surely plain octets there are in a word before any other, at most so many, looked at one by one.
 #[cold]
 #[inline(never)]

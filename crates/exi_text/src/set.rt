@@ -1,9 +1,8 @@
-ghost use Rattle.std.specs.Prelude.{◌≡◌, ◌+◌, ◌<◌, ◌≤◌, length, get_or, IfOk};
+ghost use Rattle.std.specs.Prelude.{◌≡◌, ◌≢◌, ◌+◌, ◌<◌, ◌≤◌, ℕ, length, get_or, IfOk, IsTrue};
 ghost use Rattle.std.specs.Str.{chars};
 ghost use Rattle.exi_names.specs.Alphabets.{place_of};
 ghost use Rattle.exi_text.specs.Literals.{all_xml, width_in};
 
-use crate::plain::all_plain;
 use exi_bits::bits_for;
 use exi_names::{Alphabet, Letters, Txt, is_xml};
 use std::alloc::{AllocError, Global};
@@ -72,18 +71,36 @@ impl<'a> Set<'a> {
     }
 }
 
-/// Whether each character of the text is an XML character, so that it has a spelling.
+/// Whether each character of the text is an XML character, so that it has a spelling. Most short texts tell it at once.
+#[inline(always)]
 pub fn is_writable(text: &Txt) -> bool
     ensures { result ≡ all_xml text.now }
 {
-    is_all_xml(text.as_str())
+    let characters = text.as_str();
+    if text.is_surely_plain() {
+        return true;
+    }
+    is_all_xml(characters)
 }
 
-/// Whether each character is an XML character. Where all are ASCII and no controls, their octets tell it at once.
+/// Whether none of these octets is that of a control, and none the first of a character from U+F000 to U+FFFF, of which two
+/// are no XML characters. None of them ends the search, so that many are looked at at once.
+fn are_common(octets: &[u8]) -> bool
+    ensures { IsTrue result → (i : ℕ) → i < length octets.now → (0x20 ≤ get_or octets.now i 0) × (get_or octets.now i 0 ≢ 0xEF) }
+{
+    let mut all = true;
+    for octet in octets {
+        all = all & (*octet >= 0x20) & (*octet != 0xEF);
+    }
+    all
+}
+
+/// Whether each character is an XML character. Of most texts the octets tell it.
+#[inline(never)]
 fn is_all_xml(text: &str) -> bool
     ensures { result ≡ all_xml (chars text.now) }
 {
-    if all_plain(text.as_bytes()) {
+    if are_common(text.as_bytes()) {
         return true;
     }
     for c in text.chars() {

@@ -1,11 +1,11 @@
 use Rattle.std.proofs.Common.{sym, ◌∙◌}
 use Rattle.std.proofs.lemmas.Str.{IsUtf8-past_char, chars_past_char}
 use Rattle.exi_names.proofs.Texts.{chars_of_empty}
-use Rattle.exi_text.proofs.Runs.{plain_text}
+use Rattle.exi_text.proofs.CommonTexts.{common_xml}
 use Rattle.exi_text.proofs.set.is_all_xml.Goals as goal
 
-pub returns-then-all_plain : goal.returns-then-all_plain
-returns-then-all_plain c = sym (plain_text c.args.text.now (rw c.as_bytes.ensures.value at c.all_plain.ensures c.if-all_plain.true))
+pub returns-then-are_common : goal.returns-then-are_common
+returns-then-are_common c = sym (common_xml c.args.text.now c.utf8.text (rw c.as_bytes.ensures.value at c.are_common.ensures c.if-are_common.true))
 
 pub returns-then-not-is_xml : goal.returns-then-not-is_xml
 returns-then-not-is_xml c =
