@@ -1,8 +1,8 @@
 -- Texts between quotes, of which the bytes that stand for themselves are written in runs.
-use Rattle.std.proofs.Common.{◌≡◌, ◌<◌, ◌≤◌, ◌+◌, ◌-◌, ℕ, List, [], ◌∷◌, ◌++◌, length, take, drop, get_or, refl, true, false, eqb, inl, inr, sym, ap, ◌∙◌, arith, append_assoc}
+use Rattle.std.proofs.Common.{◌≡◌, ◌<◌, ◌≤◌, ◌+◌, ◌-◌, ℕ, zero, suc, List, [], ◌∷◌, ◌++◌, length, take, drop, get_or, refl, true, false, not, eqb, inl, inr, sym, ap, ◌∙◌, arith, append_assoc}
 use Rattle.std.specs.Prelude.{slice_range}
 use Rattle.std.specs.List.{flat_map}
-use Rattle.std.proofs.lemmas.Bool.{cases_Bool}
+use Rattle.std.proofs.lemmas.Bool.{cases_Bool, cases_lt, not-true}
 use Rattle.std.proofs.lemmas.List.{drop-drop, append-nil, take_more, drop_more, length-drop, get_or-drop, take_all}
 use Rattle.std.proofs.lemmas.List.Folds.{drop_split}
 use Rattle.std.proofs.lemmas.Grind.{flat_map-append}
@@ -114,3 +114,19 @@ run_stands (b ∷ t) = elim (cases_Bool (stops_run b)) [
   | inl h ↦ rw h refl
   | inr h ↦ rw h (ap (λ (x : List ℕ). x ++ flat_map escaped (take (run_width t) t)) (stands_alone b h) ∙ ap (λ (x : List ℕ). b ∷ x) (run_stands t))
 ]
+
+-- bytes in front that stop no run stand for themselves
+pub front_stands : (n : ℕ) (s : List ℕ) → ((k : ℕ) → k < n → not (stops_run (get_or s k 0)) ≡ true) → flat_map escaped (take n s) ≡ take n s
+front_stands zero s all = refl
+front_stands (suc n) [] all = refl
+front_stands (suc n) (b ∷ s) all =
+    ap (λ (x : List ℕ). x ++ flat_map escaped (take n s)) (stands_alone b (not-true (stops_run b) (all 0 (omega arith))))
+    ∙ ap (λ (x : List ℕ). b ∷ x) (front_stands n s (λ k lt. all (suc k) (omega (arith, lt))))
+
+-- by two runs, of which the first has no end
+pub both_stand : (s : List ℕ) (n at c r t : ℕ) → at ≤ n → n ≤ r → ((k : ℕ) → 0 ≤ k → k < 0 + r → not (stops_run (get_or s k 0)) ≡ true) → ((k : ℕ) → at ≤ k → k < at + t → not (stops_run (get_or s k 0)) ≡ true) → c ≤ at + t
+    → flat_map escaped (take c s) ≡ take c s
+both_stand s n at c r t le all front back few = front_stands c s (λ k lt. elim (cases_lt k n) [
+  | inl early ↦ front k (omega arith) (omega (arith, early, all))
+  | inr late ↦ back k (omega (arith, late, le)) (omega (arith, lt, few))
+])

@@ -42,19 +42,6 @@ plain_front xs ys h =
     let n : length fx ≡ length xs = omega (arith, length-append fx fy, length-append xs ys) in
     sym (take_at fx fy (length xs) n) ∙ ap (take (length xs)) e ∙ take_at xs ys (length xs) refl
 
--- and so does the end of it
-plain_back : (xs ys : List ℕ) → flat_map escaped (xs ++ ys) ≡ xs ++ ys → flat_map escaped ys ≡ ys
-plain_back xs ys h =
-    let fx = flat_map escaped xs in
-    let fy = flat_map escaped ys in
-    let e : fx ++ fy ≡ xs ++ ys = sym (flat_map-append escaped xs ys) ∙ h in
-    let same = plain_front xs ys h in
-    sym (drop_at fx fy (length xs) (ap length same)) ∙ ap (drop (length xs)) e ∙ drop_at xs ys (length xs) refl
-
--- a list twice
-pub plain_twice : (xs : List ℕ) → flat_map escaped (xs ++ xs) ≡ xs ++ xs → flat_map escaped xs ≡ xs
-plain_twice xs h = plain_front xs xs h
-
 pub plain_few : (n m : ℕ) (s : List ℕ) → n ≤ m → flat_map escaped (take m s) ≡ take m s → flat_map escaped (take n s) ≡ take n s
 plain_few n m s le h =
     let front : take n (take m s) ≡ take n s = take-take n m s le in
@@ -92,16 +79,6 @@ plain_whole n i s le front end =
     ∙ ap (λ (x : List ℕ). take n s ++ x) more
     ∙ whole
 
--- the two ends, which together hold all
-pub plain_ends : (n : ℕ) (s : List ℕ) → n ≤ length s → length s ≤ 2 * n → flat_map escaped (take n s ++ take n (drop (length s - n) s)) ≡ take n s ++ take n (drop (length s - n) s)
-    → flat_map escaped s ≡ s
-plain_ends n s le most h =
-    let back = length s - n in
-    let width : length s - back ≡ n = omega arith in
-    let end = plain_back (take n s) (take n (drop back s)) h in
-    plain_whole back n s (omega arith) (plain_front (take n s) (take n (drop back s)) h)
-    (ap (λ (k : ℕ). flat_map escaped (take k (drop back s))) width ∙ end ∙ ap (λ (k : ℕ). take k (drop back s)) (sym width))
-
 -- ---- what was laid
 -- what was laid stands there
 pub read_back : (at : ℕ) (old new bytes : List ℕ) → at ≤ length old → take (at + length bytes) new ≡ take at old ++ bytes → take (length bytes) (drop at new) ≡ bytes
@@ -129,3 +106,12 @@ both_ends at width r0 r1 r2 bytes room le most front end =
     ∙ ap (λ (x : List ℕ). x ++ drop n bytes) one
     ∙ append_assoc (take at r0) (take n bytes) (drop n bytes)
     ∙ ap (λ (x : List ℕ). take at r0 ++ x) (take-append-drop n bytes)
+
+-- the first of the bytes that were laid
+pub laid_front : (at n : ℕ) (old new bytes : List ℕ) → at ≤ length old → n ≤ length bytes → take (at + length bytes) new ≡ take at old ++ bytes → flat_map escaped (take n bytes) ≡ take n bytes
+    → take (at + n) new ≡ take at old ++ flat_map escaped (take n bytes)
+laid_front at n old new bytes le few laid stands =
+    sym (take-take (at + n) (at + length bytes) new (omega (arith, few)))
+    ∙ ap (take (at + n)) laid
+    ∙ take_in at n (take at old) bytes (length-take-le at old le)
+    ∙ ap (λ (x : List ℕ). take at old ++ x) (sym stands)

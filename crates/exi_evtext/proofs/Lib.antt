@@ -7,7 +7,6 @@ pub mod Plain
 pub mod Scalars
 pub mod Moments
 pub mod Spelled
-pub mod Stands
 pub mod Back
 pub mod Told
 pub mod Read

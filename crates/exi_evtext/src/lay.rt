@@ -6,9 +6,7 @@ ghost use Rattle.exi_names.specs.Shown.{named, shows};
 ghost use Rattle.exi_evtext.specs.Lines.{escaped, line_of, name_words, quoted};
 
 use crate::lay_value::lay_typed;
-use crate::quote::{
-    eights_stand, escape, few_stand, fours_stand, is_plain, run_end, sixteens_stand, twos_stand,
-};
+use crate::quote::{escape, front_stands, is_plain, run_end};
 use exi_names::{EventRef, NameRef, Txt, ValRef};
 use std::simd::prelude::*;
 
@@ -95,23 +93,21 @@ pub fn lay_run(room: &mut [u8], at: usize, bytes: &[u8]) -> usize
     }
 }
 
-/// A text of few bytes that stand for themselves.
+/// The text of so many bytes in front of a room of its own, where they stand for themselves: all of that room is laid at once.
 #[inline(always)]
-fn lay_near(room: &mut [u8], at: usize, bytes: &[u8]) -> Option<usize>
-    requires { at + NEAR ≤ length room.old }
+fn lay_near(room: &mut [u8], at: usize, bytes: &[u8], count: usize) -> Option<usize>
+    requires room { at + NEAR ≤ length room.old }
+    requires bytes { length bytes.now ≡ 30 }
+    requires few { count ≤ 30 }
     ensures len { length room.new ≡ length room.old }
     ensures within { IfSome result (λ end. end ≤ at + NEAR) }
-    ensures laid { IfSome result (λ end. take end room.new ≡ take at room.old ++ flat_map escaped bytes.now) }
+    ensures laid { IfSome result (λ end. take end room.new ≡ take at room.old ++ flat_map escaped (take count bytes.now)) }
 {
-    match bytes.len() {
-        8..=16 if eights_stand(bytes) => Some(lay_ends::<8>(room, at, bytes)),
-        4..=7 if fours_stand(bytes) => Some(lay_ends::<4>(room, at, bytes)),
-        2..=3 if twos_stand(bytes) => Some(lay_ends::<2>(room, at, bytes)),
-        17..=32 if sixteens_stand(bytes) => Some(lay_ends::<16>(room, at, bytes)),
-        1 if few_stand(bytes) => Some(lay_ends::<1>(room, at, bytes)),
-        0 => Some(at),
-        _ => None,
+    if !front_stands(bytes, count) {
+        return None;
     }
+    lay_ends::<WIDE>(room, at, bytes);
+    Some(at + count)
 }
 
 /// What stands for a byte between quotes.
@@ -169,7 +165,7 @@ fn lay_far(room: &mut [u8], at: usize, text: &Txt) -> Option<usize>
     Some(lay_runs(room, at, bytes))
 }
 
-/// A text, where there is room for it and for more.
+/// A text, where there is room for it and for more. One of few bytes has them in a room of its own.
 #[inline(always)]
 fn lay_text<const REACH: usize>(room: &mut [u8], at: usize, text: &Txt) -> Option<usize>
     requires { at ≤ length room.old }
@@ -181,7 +177,8 @@ fn lay_text<const REACH: usize>(room: &mut [u8], at: usize, text: &Txt) -> Optio
         if room.len() - at < NEAR + WIDE {
             return None;
         }
-        lay_near(room, at, text.as_str().as_bytes())
+        let (bytes, count) = text.room()?;
+        lay_near(room, at, bytes, count)
     } else {
         lay_far(room, at, text)
     }

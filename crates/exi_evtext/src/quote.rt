@@ -1,15 +1,17 @@
 //! Texts and names between quotes.
 
-ghost use Rattle.std.specs.Prelude.{◌≡◌, ◌<◌, ◌≤◌, ◌++◌, [], ◌∷◌, IfSome, IsTrue, OnOk, OnErr, OnSome, MatchOption, length, slice_range, string_bytes};
+ghost use Rattle.std.specs.Prelude.{◌≡◌, ◌<◌, ◌≤◌, ◌++◌, [], ◌∷◌, IfSome, IsTrue, OnOk, OnErr, OnSome, MatchOption, length, take, slice_range, string_bytes};
 ghost use Rattle.std.specs.List.{flat_map};
 ghost use Rattle.exi_names.specs.Shown.{named};
 ghost use Rattle.exi_evtext.specs.Kept.{Keeps};
 ghost use Rattle.exi_evtext.specs.Lines.{also, escaped, name_words, quoted};
 
-use crate::run::run_width;
+use crate::run::{run_width, standing_lanes};
 use exi_names::{NameRef, Txt};
 use std::alloc::AllocError;
-use std::simd::prelude::*;
+
+/// How many bytes are few: as many are looked at at once.
+const FEW: usize = 16;
 
 /// What stands for a byte between quotes, where it may not stand for itself.
 #[inline(always)]
@@ -61,74 +63,22 @@ pub fn few_stand(bytes: &[u8]) -> bool
     usize::from(standing) == bytes.len()
 }
 
-/// Whether sixteen bytes surely stand for themselves between quotes.
-#[inline(always)]
-fn lanes_stand(lanes: u8x16) -> bool
-    ensures { IsTrue result → flat_map escaped lanes ≡ lanes }
-{
-    let marks = lanes.simd_eq(u8x16::splat(b'"')) | lanes.simd_eq(u8x16::splat(b'\\'));
-    (marks | lanes.simd_lt(u8x16::splat(b' '))).to_bitmask() == 0
-}
+/// Where the last that are looked at at once begin in a room of 30.
+const LAST: usize = 14;
 
-/// The same of eight.
+/// Whether so many bytes in front of a room of 30 surely stand for themselves between quotes.
 #[inline(always)]
-fn eight_lanes_stand(lanes: u8x8) -> bool
-    ensures { IsTrue result → flat_map escaped lanes ≡ lanes }
+pub fn front_stands(bytes: &[u8], count: usize) -> bool
+    requires room { length bytes.now ≡ 30 }
+    requires few { count ≤ 30 }
+    ensures { IsTrue result → flat_map escaped (take count bytes.now) ≡ take count bytes.now }
 {
-    lanes_stand(lanes.shuffle(
-        lanes,
-        [0, 1, 2, 3, 4, 5, 6, 7, 8, 9, 10, 11, 12, 13, 14, 15],
-    ))
-}
-
-/// Whether two to four bytes surely stand for themselves between quotes, looked at from both ends.
-#[inline(always)]
-pub fn twos_stand(bytes: &[u8]) -> bool
-    requires few { (2 ≤ length bytes.now) × (length bytes.now ≤ 4) }
-    ensures { IsTrue result → flat_map escaped bytes.now ≡ bytes.now }
-{
-    let front = u8x2::from_slice(bytes);
-    let back = u8x2::from_slice(&bytes[bytes.len() - 2..]);
-    let both: u8x4 = front.shuffle(back, [0, 1, 2, 3]);
-    eight_lanes_stand(both.shuffle(both, [0, 1, 2, 3, 4, 5, 6, 7]))
-}
-
-/// The same of four to eight.
-#[inline(always)]
-pub fn fours_stand(bytes: &[u8]) -> bool
-    requires few { (4 ≤ length bytes.now) × (length bytes.now ≤ 8) }
-    ensures { IsTrue result → flat_map escaped bytes.now ≡ bytes.now }
-{
-    let front = u8x4::from_slice(bytes);
-    let back = u8x4::from_slice(&bytes[bytes.len() - 4..]);
-    eight_lanes_stand(front.shuffle(back, [0, 1, 2, 3, 4, 5, 6, 7]))
-}
-
-/// The same of eight to sixteen.
-#[inline(always)]
-pub fn eights_stand(bytes: &[u8]) -> bool
-    requires few { (8 ≤ length bytes.now) × (length bytes.now ≤ 16) }
-    ensures { IsTrue result → flat_map escaped bytes.now ≡ bytes.now }
-{
-    let front = u8x8::from_slice(bytes);
-    let back = u8x8::from_slice(&bytes[bytes.len() - 8..]);
-    lanes_stand(front.shuffle(back, [0, 1, 2, 3, 4, 5, 6, 7, 8, 9, 10, 11, 12, 13, 14, 15]))
-}
-
-/// The same of sixteen to 32.
-#[inline(always)]
-pub fn sixteens_stand(bytes: &[u8]) -> bool
-    requires few { (16 ≤ length bytes.now) × (length bytes.now ≤ 32) }
-    ensures { IsTrue result → flat_map escaped bytes.now ≡ bytes.now }
-{
-    if !few_stand(&bytes[..16]) {
-        return false;
+    let front = standing_lanes(bytes, 0);
+    if front < FEW || count <= FEW {
+        return count <= front;
     }
-    few_stand(&bytes[bytes.len() - 16..])
+    count <= LAST + standing_lanes(bytes, LAST)
 }
-
-/// How many bytes are few.
-const FEW: usize = 16;
 
 /// Whether all bytes surely stand for themselves between quotes. The last few are looked at together, some of them once more.
 pub fn is_plain(bytes: &[u8]) -> bool
