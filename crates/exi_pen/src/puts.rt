@@ -55,6 +55,7 @@ fn kept_name<'b>(options: &Options, name: NameRef<'b>) -> NameRef<'b>
 }
 
 /// The least place of a URI, where it stands at this place too.
+#[inline(always)]
 fn uri_there<T: Tables>(tables: &T, place: u32, text: &Txt) -> Option<u32>
     ensures { IfSome result (λ uri. least_place (uris (T.held tables.now)) text.now ≡ Some uri) }
 {

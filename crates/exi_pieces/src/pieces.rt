@@ -34,6 +34,7 @@ use exi_typed::{
 use std::alloc::{AllocError, Global};
 
 /// Charges the texts of a name.
+#[inline(always)]
 fn pay_name(toll: &mut Toll, name: NameRef<'_>)
     ensures { toll.new ≡ charge (name_units (named name.entry)) toll.old }
 {

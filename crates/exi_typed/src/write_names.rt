@@ -87,6 +87,7 @@ pub fn write_uri<T: Tables>(
 /// # Errors
 ///
 /// Where there is no memory. The bits are then as before.
+#[inline(always)]
 pub fn write_prefix<T: Tables>(
     out: &mut BitOut,
     keep: bool,
