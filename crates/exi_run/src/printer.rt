@@ -32,7 +32,9 @@ impl<'a, O: Sink> TextPrinter<'a, O> {
         if self.out.lay(&ShortLine { event }) {
             return Ok(());
         }
-        self.print_any(event)
+        // A copy is lent, so that the event itself needs no memory on the way of a short line.
+        let copy = *event;
+        self.print_any(&copy)
     }
 
     /// The same, apart: the way of a short line keeps nothing for it.
@@ -63,6 +65,7 @@ impl<'a, O: Sink> EventOut for TextPrinter<'a, O> {
 
     ghost stops = { λ a. a.stops };
 
+    #[inline(always)]
     fn see(&mut self, event: &EventRef<'_>) -> Result<(), PushStop> {
         self.print(event)
     }
