@@ -3,10 +3,9 @@ use Rattle.std.proofs.Common.{◌≡◌, ◌<◌, ◌≤◌, ◌+◌, ◌-◌, �
 use Rattle.std.specs.Prelude.{slice_range}
 use Rattle.std.specs.List.{flat_map}
 use Rattle.std.proofs.lemmas.Bool.{cases_Bool, cases_lt, not-true}
-use Rattle.std.proofs.lemmas.List.{drop-drop, append-nil, take_more, drop_more, length-drop, get_or-drop, take_all}
+use Rattle.std.proofs.lemmas.List.{drop-drop, append-nil, take_more, drop_more, length-drop, get_or-drop}
 use Rattle.std.proofs.lemmas.List.Folds.{drop_split}
 use Rattle.std.proofs.lemmas.Grind.{flat_map-append}
-use Rattle.std.proofs.Math.Nat.{sub_self}
 use Rattle.exi_evtext.specs.Lines.{escaped}
 use Rattle.exi_evtext.specs.Parsing.{run_width, stops_run}
 use Rattle.exi_evtext.proofs.Lays.{take_add}
@@ -49,20 +48,6 @@ escape_step s out mid new goal mark start place le lt plain done one two marks =
     ∙ append_assoc out run (mark ++ rest)
     ∙ ap (λ (x : List ℕ). out ++ x) (sym all)
     ∙ done
-
--- all that is left stands for itself
-pub last_step : (s out new goal : List ℕ) (start : ℕ) → start ≤ length s → flat_map escaped (slice_range s start (length s)) ≡ slice_range s start (length s)
-    → out ++ flat_map escaped (drop start s) ≡ goal → new ≡ out ++ drop start s → new ≡ goal
-last_step s out new goal start le plain done last =
-    let whole : slice_range s start (length s) ≡ drop start s = take_all (length s - start) (drop start s) (omega (arith, length-drop start s)) in
-    let same : flat_map escaped (drop start s) ≡ drop start s = ap (flat_map escaped) (sym whole) ∙ plain ∙ whole in
-    last ∙ ap (λ (x : List ℕ). out ++ x) (sym same) ∙ done
-
--- no bytes stand for themselves
-pub plain_none : (s : List ℕ) (i : ℕ) → flat_map escaped (slice_range s i i) ≡ slice_range s i i
-plain_none s i =
-    let none : slice_range s i i ≡ [] = ap (λ (n : ℕ). take n (drop i s)) (sub_self i) in
-    rw none refl
 
 -- ---- runs that are skipped
 -- two ranges, one behind the other

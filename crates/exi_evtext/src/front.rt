@@ -1,13 +1,13 @@
 //! A text that stands in a line, with what stands behind it.
 
-ghost use Rattle.std.specs.Prelude.{◌≡◌, ◌≤◌, OnOk, length, take};
+ghost use Rattle.std.specs.Prelude.{◌≡◌, ◌≤◌, [], OnErr, OnOk, length, take};
 ghost use Rattle.std.specs.Str.{IsAscii};
 
 use exi_names::Txt;
 use std::alloc::AllocError;
 use std::marker::Model;
 
-/// The first bytes of some. A text is filled by as many of all as it keeps within itself, which takes no look at their number.
+/// The first bytes of some. A text of few is filled by as many of all as it keeps within itself, whatever their number.
 #[derive(Drop)]
 pub struct Front<'a> {
     bytes: &'a [u8],
@@ -35,10 +35,15 @@ impl<'a> Front<'a> {
     }
 
     /// Puts them, which have to be ASCII, in the place of a text, in its memory.
+    ///
+    /// # Errors
+    ///
+    /// `AllocError` where memory is refused; the text is then empty.
     #[inline(always)]
     pub fn fill(&self, text: &mut Txt) -> Result<(), AllocError>
         requires { IsAscii self.now }
-        ensures { OnOk result (text.new ≡ self.now) }
+        ensures ok { OnOk result (text.new ≡ self.now) }
+        ensures err { OnErr result (text.new ≡ []) }
     {
         text.refill(self.bytes, self.count)
     }

@@ -1,6 +1,6 @@
 //! Lines of frequent events, laid in a room of bytes: no copy needs a test of capacity, and none asks for memory.
 
-ghost use Rattle.std.specs.Prelude.{◌≡◌, ◌≤◌, ◌<◌, ◌+◌, ◌*◌, ◌++◌, ◌∷◌, [], IsTrue, IfSome, length, take, drop, codes, encode_utf8_all};
+ghost use Rattle.std.specs.Prelude.{◌≡◌, ◌≤◌, ◌<◌, ◌+◌, ◌*◌, ◌++◌, ◌∷◌, [], IfSome, length, take, codes, encode_utf8_all};
 ghost use Rattle.std.specs.List.{flat_map};
 ghost use Rattle.exi_names.specs.Shown.{named, shows};
 ghost use Rattle.exi_evtext.specs.Lines.{escaped, line_of, name_words, quoted};
@@ -10,10 +10,10 @@ use crate::quote::{escape, front_stands, is_plain, run_end};
 use exi_names::{EventRef, NameRef, Txt, ValRef};
 use std::simd::prelude::*;
 
-/// How many bytes are looked at at once.
+/// How many bytes are kept free behind a text for what follows in its line.
 const WIDE: usize = 16;
 
-/// How many bytes a text of few has at most.
+/// How many bytes are kept free for a text of few: all of the room in which it lies is laid.
 const NEAR: usize = 32;
 
 /// More bytes than the line of a frequent event takes whose name has no prefix and whose texts have few bytes each.
@@ -349,7 +349,8 @@ pub fn lay_event(room: &mut [u8], event: &EventRef<'_>) -> Option<usize>
 }
 
 /// Lays the line of an event at the front of a room of 256 bytes or more, as [`lay_event`] does, where each of its texts but a
-/// prefix has at most 32 bytes, none of them below 32 or escaped. There is none for any other.
+/// prefix lies within itself ([`Txt::room`]), so that it has at most 30 bytes, none of them below 32 or escaped. There is none for
+/// any other.
 #[inline(always)]
 #[tactic(auto, unfolding(crate::specs::Lines::line_of))]
 pub fn lay_short(room: &mut [u8], event: &EventRef<'_>) -> Option<usize>

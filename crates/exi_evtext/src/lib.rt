@@ -26,7 +26,7 @@
 //! ```
 //!
 //! Runs of characters that stand for themselves are copied at once. The most frequent lines are laid in a room that the
-//! caller has, with no test of capacity behind each part; texts of few bytes are tested while they are copied.
+//! caller has, with no test of capacity behind each part; texts of few bytes are tested and copied all at once.
 #![tactic(auto)]
 
 mod cursor;

@@ -52,7 +52,7 @@ fn each_stands(bytes: &[u8]) -> bool
 
 /// The same of a few bytes. Those that stand are counted, for which a processor tests all of them by one word of its own.
 #[inline(always)]
-pub fn few_stand(bytes: &[u8]) -> bool
+fn few_stand(bytes: &[u8]) -> bool
     requires few { length bytes.now ≤ 16 }
     ensures { IsTrue result → flat_map escaped bytes.now ≡ bytes.now }
 {

@@ -1,6 +1,6 @@
 //! A room for the event of a line, whose texts' memory is used again.
 
-ghost use Rattle.std.specs.Prelude.{◌≡◌, IfOk, IsTrue, OnOk};
+ghost use Rattle.std.specs.Prelude.{◌≡◌, IfOk, IsTrue};
 ghost use Rattle.std.specs.Str.{IsAscii};
 ghost use Rattle.exi_names.specs.Events as happening;
 ghost use Rattle.exi_names.specs.Events.{happens};

@@ -1,4 +1,4 @@
-use Rattle.std.proofs.Common.{◌≡◌, ◌+◌, length, take, ℕ, sym, ap, ◌∙◌, arith}
+use Rattle.std.proofs.Common.{take, ℕ, sym, ap, ◌∙◌, arith}
 use Rattle.exi_evtext.proofs.Lays.{laid_front}
 use Rattle.exi_evtext.proofs.lay.lay_near.Goals as goal
 
