@@ -1,11 +1,10 @@
-ghost use Rattle.std.specs.Prelude.{◌≡◌, ◌≢◌, ◌<◌, ◌≤◌, ◌^◌, ℕ, IfOk, IfSome, IsTrue, Some, None, true, false, map, length, get_or, if◌then◌else◌};
+ghost use Rattle.std.specs.Prelude.{◌≡◌, ◌<◌, ◌^◌, IfOk, IfSome, IsTrue, Some, None, true, false, map, length, if◌then◌else◌};
 ghost use Rattle.exi_names.specs.Datatypes.{represented};
 ghost use Rattle.exi_names.specs.Forms.{AreOctets, HasNoMinusZero, is_float, is_integer, is_small, is_wide};
 ghost use Rattle.exi_names.specs.Moments.{is_year};
 ghost use Rattle.exi_names.specs.Seen.{seen, values_of};
 ghost use Rattle.exi_writing.specs.Contents.{are_items, has_string, is_item, text_of};
 ghost use Rattle.exi_writing.specs.Pieces.{can_all_be_valued, can_be_spelled, can_be_valued};
-ghost use Rattle.exi_text.specs.Literals.{all_xml};
 ghost use Rattle.exi_names.specs.Datatypes.{boolean, text};
 ghost use Rattle.exi_reader.specs.Handing.{rule_in};
 ghost use Rattle.exi_choice.specs.Fitting.{IsPlainOf, declaring, fit_as, fit_for, fit_in, fitted, having, is_name, spelled_value, value_in};
@@ -88,6 +87,7 @@ fn text_of(alloc: Global, value: &Val) -> Result<Option<Txt>, AllocError>
 fn can_be_spelled(text: &Txt) -> bool
     ensures { result ≡ can_be_spelled text.now }
 {
+    // A count is a word: no text has more characters than a length can tell.
     let _ = text.count();
     is_writable(text)
 }
@@ -359,7 +359,7 @@ pub fn fit_on(
     }
 }
 
-/// Whether a value has a spelling under its datatype, as most have: a text is looked at with no other call.
+/// Whether a value has a spelling under its datatype, as most have: most short texts are looked at with no call.
 #[inline(always)]
 fn can_be_written(value: &Val) -> bool
     ensures { result ≡ can_be_valued (seen value.now) }
