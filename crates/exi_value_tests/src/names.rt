@@ -73,10 +73,12 @@ fn texts_are_compared(rt: HostRuntime) -> Result<(), Fail> {
 
 #[test]
 fn texts_are_taken_from_a_front(rt: HostRuntime) -> Result<(), Fail> {
-    let mut text = Txt::of_front(rt.alloc(), b"few", 2)?;
-    assert_eq!(rt; text.as_str(), "fe");
-    text.refill(b"01", 1)?;
-    assert_eq!(rt; text.as_str(), "0");
+    let many = b"a room of thirty bytes and more";
+    let mut text = Txt::of_front(rt.alloc(), many, 6)?;
+    assert_eq!(rt; text.as_str(), "a room");
+    assert!(rt; text.is_surely_plain() && text.room().is_some());
+    text.refill(many, 1)?;
+    assert_eq!(rt; text.as_str(), "a");
     Ok(())
 }
 
