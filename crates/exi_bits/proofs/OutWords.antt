@@ -118,9 +118,6 @@ pub words_none : (old : List Bool) (bs : List ℕ) → old ≡ old ++ bits (take
 unfolding bits
 words_none old bs = sym (append-nil old)
 
-pub words_all : (old now : List Bool) (bs : List ℕ) (i : ℕ) → length bs ≤ i * 8 → now ≡ old ++ bits (take (i * 8) bs) → now ≡ old ++ bits bs
-words_all old now bs i le so_far = so_far ∙ ap (λ (t : List ℕ). old ++ bits t) (take_all (i * 8) bs le)
-
 -- as they are computed
 pub out_is : (k t w : ℕ) → 1 ≤ k → k ≤ 8 → t < 2 ^ k → w < 2 ^ 64 → t * 2 ^ (64 - k) % 2 ^ 64 + w / 2 ^ k ≡ t * 2 ^ (64 - k) + w / 2 ^ k
 out_is k t w some few fits below =

@@ -7,7 +7,7 @@ use Rattle.std.proofs.lemmas.Bool.{lt-ltb, le-ltb}
 use Rattle.exi_bits.specs.Bits.{bits, number_bits, le_bytes}
 use Rattle.exi_bits.specs.Unsigned.{groups}
 use Rattle.exi_bits.specs.Written.{zeros, written, padded, to_byte, IsPadded}
-use Rattle.exi_bits.proofs.BitLaws.{length-bits, length-number_bits, bits-append, pow_up, one_byte, number_bits-add, byte_out, last_out}
+use Rattle.exi_bits.proofs.BitLaws.{length-bits, length-number_bits, bits-append, one_byte, number_bits-add, byte_out, last_out}
 
 pub written_is : (bs : List ℕ) (front : List Bool) (sp : ℕ) → bits bs ≡ front ++ zeros sp → written bs sp ≡ front
 written_is bs front sp e =
@@ -154,11 +154,6 @@ pub rest_below : (i rest : ℕ) → i < 18 → rest < 2 ^ (128 - 7 * i) → rest
 rest_below i rest lt below =
     let e : 128 - 7 * i ≡ 128 - 7 * (i + 1) + 7 = omega arith in
     shr_below rest (128 - 7 * (i + 1)) 7 (subst (λ (n : ℕ). rest < 2 ^ n) e below)
-
-pub rest_small : (i rest : ℕ) → 18 ≤ i → rest < 2 ^ (128 - 7 * i) → rest < 4
-rest_small i rest le below =
-    let p : 2 ^ (128 - 7 * i) ≤ 2 ^ 2 = pow_up (128 - 7 * i) 2 (omega arith) in
-    omega arith
 
 pub octet_high : (t sp o : ℕ) → sp < 8 → t < 2 ^ (8 - sp) → o < 256 → (t * 256 + o) / 2 ^ (8 - sp) < 256
 octet_high t sp o few fits small =

@@ -1,4 +1,4 @@
-ghost use Rattle.std.specs.Prelude.{◌≡◌, ◌≢◌, ◌+◌, ◌*◌, ◌-◌, ◌/◌, ◌%◌, ◌^◌, ◌<◌, ◌≤◌, ◌++◌, [], List, ℕ, length, OnOk, OnErr, vec_len, vec_capacity};
+ghost use Rattle.std.specs.Prelude.{◌≡◌, ◌+◌, ◌*◌, ◌-◌, ◌/◌, ◌%◌, ◌^◌, ◌<◌, ◌≤◌, ◌++◌, [], List, length, OnOk, OnErr, vec_len, vec_capacity};
 ghost use Rattle.exi_bits.specs.Bits.{bits, number, number_bits, le_bytes};
 ghost use Rattle.exi_bits.specs.Unsigned.{shortest};
 ghost use Rattle.exi_bits.specs.Written.{zeros, written, padded, IsPadded, IsWholeBytes};

@@ -62,7 +62,7 @@ fn plain_lanes(bytes: &[u8], at: usize) -> usize
     first_set(others.to_bitmask())
 }
 
-/// Whether so many bytes in front of a room of 30 are from 20 to 7F.
+/// True only where so many bytes in front of a room of 30 are from 20 to 7F.
 #[inline(always)]
 pub fn plain_front(bytes: &[u8], count: usize) -> bool
     requires room { length bytes.now ≡ 30 }

@@ -15,7 +15,7 @@
 //! datatypes of its section 7, [`StartNames`] the first string tables of its appendix D.
 //!
 //! What allocates answers [`AllocError`](std::alloc::AllocError) where memory is refused, and then
-//! leaves what it was called on as it was.
+//! leaves what it was called on as it was, unless its own lines say otherwise.
 #![tactic(auto)]
 
 mod alphabet;

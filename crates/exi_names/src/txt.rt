@@ -221,7 +221,8 @@ impl Txt {
         self.body.same(&other.body)
     }
 
-    /// Whether the text is short, and each of its bytes is from 20 to 7F: all that may be among them are looked at at once.
+    /// True only where each byte of the text's UTF-8 is from 20 to 7F. A text that has no [`room`](Txt::room) may answer
+    /// false whatever its bytes are: all that a room has are looked at at once, and no more.
     #[inline(always)]
     pub fn is_surely_plain(&self) -> bool
         ensures { IsTrue result → (i : ℕ) → i < length (encode_utf8_all self.now) → between 0x20 0x7F (get_or (encode_utf8_all self.now) i 0) ≡ true }
@@ -230,7 +231,8 @@ impl Txt {
     }
 
     /// The room of 30 bytes that a short text has within itself, and how many of them are its UTF-8: the first. What lies
-    /// behind them is not told. A text that is long, or was, may have none.
+    /// behind them is not told. A text whose bytes lie in a string has none, however few they are: one that is long, or was,
+    /// or came from a string.
     #[inline(always)]
     pub fn room(&self) -> Option<(&[u8], usize)>
         ensures bytes { IfSome result (λ r. take r.1 r.0.now ≡ encode_utf8_all self.now) }

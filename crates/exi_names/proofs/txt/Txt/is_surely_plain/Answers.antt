@@ -1,4 +1,3 @@
-use Rattle.std.proofs.Common.{sym}
 use Rattle.std.proofs.lemmas.Str.{encodes-chars, IsUtf8-had}
 use Rattle.exi_names.proofs.txt.Txt.is_surely_plain.Goals as goal
 
