@@ -180,11 +180,6 @@ pub none_read : (s : Spot) → times code_at 0 s ≡ Ok (octets_of 0 (rest s), s
 unfolding octets_of times
 none_read s = refl
 
--- back at the start, nothing is read
-pub returned_read : (s t u : Spot) (start : ℕ) → start ≡ s.place → t ≡ moved s 64 → u ≡ at_bit t start → times code_at 0 s ≡ Ok (octets_of 0 (rest s), u)
-unfolding octets_of times
-returned_read s t u start p e f = ap (λ (w : Spot). Ok ([], w)) (sym (f ∙ ap (λ (w : Spot). at_bit w start) e ∙ ap (λ (k : ℕ). at_bit s k) p))
-
 -- a whole word was read
 pub whole_read : (s t : Spot) → times code_at 8 s ≡ Ok (octets_of 8 (rest s), moved s (8 * 8)) → t ≡ moved s 64 → times code_at 8 s ≡ Ok (octets_of 8 (rest s), t)
 whole_read s t read e = read ∙ ap (λ (w : Spot). Ok (octets_of 8 (rest s), w)) (sym e)

@@ -1,9 +1,8 @@
 -- A word's octets, looked at all at once.
-use Rattle.std.proofs.Common.{◌≡◌, ℕ, zero, suc, ◌+◌, ◌*◌, ◌-◌, ◌/◌, ◌%◌, ◌^◌, ◌<◌, ◌≤◌, inl, inr, Bool, true, false, ◌||◌, List, length, get_or, take, drop, length-take-le, refl, sym, ap, ◌∙◌, subst, arith}
-use Rattle.std.specs.Int.{w64, from_be_bytes, to_be_bytes}
-use Rattle.std.proofs.lemmas.Bool.{and_parts, cases_lt, eqb-true, le-leb}
-use Rattle.std.proofs.lemmas.List.{get_or-drop, get_or-take, get_or_past, length-drop}
-use Rattle.std.proofs.lemmas.Nat.{be_bytes_8, shr-shr}
+use Rattle.std.proofs.Common.{◌≡◌, ℕ, zero, suc, ◌+◌, ◌*◌, ◌-◌, ◌/◌, ◌%◌, ◌^◌, ◌<◌, ◌≤◌, Bool, true, false, ◌||◌, List, get_or, refl, sym, ap, ◌∙◌, subst, arith}
+use Rattle.std.specs.Int.{w64, to_be_bytes}
+use Rattle.std.proofs.lemmas.Bool.{and_parts, eqb-true, le-leb}
+use Rattle.std.proofs.lemmas.Nat.{shr-shr}
 use Rattle.exi_names.specs.Characters.{between}
 use Rattle.exi_text.specs.Literals.{is_plain}
 use Rattle.exi_text.specs.Words.{is_plain_word, no_tops}
@@ -99,9 +98,6 @@ word_plain w i fits h lt = let p = word_range w fits h (7 - i) (omega (arith, lt
 pub word_octets_plain : (w : ℕ) (os : List ℕ) → w < 18446744073709551616 → os ≡ to_be_bytes w64 w → is_plain_word w ≡ true → (i : ℕ) → i < 8 → is_plain (get_or os i 0) ≡ true
 word_octets_plain w os fits e h i lt = ap (λ (x : List ℕ). is_plain (get_or x i 0)) e ∙ ap is_plain (octet_is w i lt) ∙ word_plain w i fits h lt
 
-pub all_eight : (w : ℕ) (os : List ℕ) → os ≡ to_be_bytes w64 w → take 8 os ≡ os
-all_eight w os e = ap (λ (x : List ℕ). take 8 x) e ∙ sym e
-
 -- ---- with spaces behind
 same_above : (v w a k : ℕ) → v / 2 ^ a ≡ w / 2 ^ a → v / 2 ^ (a + k) ≡ w / 2 ^ (a + k)
 same_above v w a k e = sym (shr-shr v a k) ∙ ap (λ (x : ℕ). x / 2 ^ k) e ∙ shr-shr w a k
@@ -129,15 +125,3 @@ fill_is w (suc (suc (suc (suc (suc zero))))) fits some few = (omega arith, omega
 fill_is w (suc (suc (suc (suc (suc (suc zero)))))) fits some few = (omega arith, omega arith)
 fill_is w (suc (suc (suc (suc (suc (suc (suc zero))))))) fits some few = (omega arith, omega arith)
 fill_is w (suc (suc (suc (suc (suc (suc (suc (suc n)))))))) fits some few = absurd (omega arith)
-
--- ---- eight octets among others
-pub eight_are_plain : (all os : List ℕ) (at v : ℕ) → at + 8 ≤ length all → v < 18446744073709551616 → ((i : ℕ) → get_or all i 0 < 256) → os ≡ take 8 (drop at all) → v ≡ from_be_bytes w64 os → is_plain_word v ≡ true → (i : ℕ) → at ≤ i → i < at + 8 → is_plain (get_or all i 0) ≡ true
-eight_are_plain all os at v within fits bytes part word h i le lt =
-    let len : length os ≡ 8 = ap length part ∙ length-take-le 8 (drop at all) (omega (arith, length-drop at all, within)) in
-    let each : (j : ℕ) → j < 8 → get_or os j 0 ≡ get_or all (at + j) 0 = λ j few. ap (λ (x : List ℕ). get_or x j 0) part ∙ get_or-take 8 (drop at all) j 0 few ∙ get_or-drop at all j 0 in
-    let same : to_be_bytes w64 v ≡ os = be_bytes_8 os v len (λ j. elim (cases_lt j 8) [
-      | inl few ↦ let e = each j few in let b = bytes (at + j) in omega (arith, e, b)
-      | inr past ↦ let e : get_or os j 0 ≡ 0 = get_or_past os j 0 (omega (arith, len, past)) in omega (arith, e)
-    ]) word in
-    let k : at + (i - at) ≡ i = omega arith in
-    ap (λ (n : ℕ). is_plain (get_or all n 0)) (sym k) ∙ ap is_plain (sym (each (i - at) (omega (arith, lt, le)))) ∙ word_octets_plain v os fits (sym same) h (i - at) (omega (arith, lt, le))

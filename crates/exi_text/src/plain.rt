@@ -1,4 +1,4 @@
-ghost use Rattle.std.specs.Prelude.{◌≡◌, ℕ, ◌+◌, ◌++◌, ◌%◌, ◌<◌, ◌≤◌, IsTrue, Ok, true, not, length, get_or, position, take};
+ghost use Rattle.std.specs.Prelude.{◌≡◌, ℕ, ◌+◌, ◌++◌, ◌%◌, ◌<◌, ◌≤◌, Ok, true, not, length, get_or, position, take};
 ghost use Rattle.std.specs.Int.{to_be_bytes, w64};
 ghost use Rattle.std.specs.Str.{IsAscii};
 ghost use Rattle.exi_bits.specs.Bits.{octets_of, rest};
@@ -59,7 +59,7 @@ fn plain_run(word: u64, most: u64) -> u32
 }
 
 /// Lays plain characters that stand at the place into a room, and answers how many: at most eight, which a word holds,
-/// and at most so many. None where the word does not surely begin with one, or fewer bits than a word has are left.
+/// and at most so many. 0 where the word does not surely begin with one, or fewer bits than a word has are left.
 /// Behind them the room may change.
 #[inline(always)]
 pub fn lay_plain(input: &mut BitIn<'_>, room: &mut [u8], at: usize, most: u64) -> u64

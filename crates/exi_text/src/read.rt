@@ -168,7 +168,7 @@ fn lay_run(input: &mut BitIn<'_>, room: &mut [u8], at: usize, most: u64) -> u64
 }
 
 /// Lays characters into a room, at most so many: plain ones, and one behind them that takes three octets at most.
-/// None where there is no such one, or no word is left. Behind them the room may change.
+/// None is laid where the first is no such one, or fewer bits are left than a word has. Behind them the room may change.
 #[inline(always)]
 fn lay_both(input: &mut BitIn<'_>, room: &mut [u8], at: usize, most: u64) -> Laid
     requires room { at + 12 ≤ length room.old }
@@ -306,7 +306,7 @@ fn others_added(input: &mut BitIn<'_>, text: &mut Txt, count: u64) -> bool
     }
 }
 
-/// How many octets of few plain characters are laid side by side: a word more than they are.
+/// How many octets of few plain characters are laid side by side: they, and a word behind them.
 const FEW: usize = 40;
 
 /// How many octets of plain characters are laid side by side before they are added to a text.
@@ -357,8 +357,8 @@ fn codes_added(input: &mut BitIn<'_>, text: &mut Txt, count: u64) -> bool
     others_added(input, text, count - run)
 }
 
-/// So many plain characters from the place on, at most as many as a text keeps within itself. None where there are fewer; the place
-/// is then anything.
+/// So many plain characters from the place on, at most as many as a text keeps within itself. None where there are fewer, or
+/// where fewer bits are left than a word behind them has; the place is then anything.
 #[inline(always)]
 fn few_chars(alloc: Global, input: &mut BitIn<'_>, count: u64) -> Option<Txt>
     requires few { count ≤ 30 }

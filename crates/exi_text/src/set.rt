@@ -76,6 +76,7 @@ impl<'a> Set<'a> {
 pub fn is_writable(text: &Txt) -> bool
     ensures { result ≡ all_xml text.now }
 {
+    // the look is told of the text's octets, which are seen as its characters' here
     let characters = text.as_str();
     if text.is_surely_plain() {
         return true;
@@ -83,8 +84,8 @@ pub fn is_writable(text: &Txt) -> bool
     is_all_xml(characters)
 }
 
-/// Whether none of these octets is that of a control, and none the first of a character from U+F000 to U+FFFF, of which two
-/// are no XML characters. None of them ends the search, so that many are looked at at once.
+/// True only where none of these octets is below 20, as a control has it, and none is EF, the first of a character from
+/// U+F000 to U+FFFF, of which two are no XML characters. None of them ends the search, so that many are looked at at once.
 fn are_common(octets: &[u8]) -> bool
     ensures { IsTrue result → (i : ℕ) → i < length octets.now → (0x20 ≤ get_or octets.now i 0) × (get_or octets.now i 0 ≢ 0xEF) }
 {
