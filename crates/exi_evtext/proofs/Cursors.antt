@@ -1,13 +1,14 @@
 -- What stands in front of a mark is a part of the bytes.
-use Rattle.std.proofs.Common.{◌≡◌, ◌≤◌, ℕ, suc, Bool, false, eqb, min, List, [], ◌∷◌, ◌++◌, length, take, drop, refl, sym, ap, ◌∙◌, arith, inl, inr}
+use Rattle.std.proofs.Common.{◌≡◌, ◌≤◌, ℕ, suc, Bool, true, false, eqb, min, List, [], ◌∷◌, ◌++◌, length, take, drop, refl, sym, ap, ◌∙◌, subst, arith, inl, inr}
 use Rattle.std.specs.Prelude.{Option, Some, None, codes}
-use Rattle.std.specs.Str.{IsAscii, IsUtf8, is_utf8}
+use Rattle.std.specs.Str.{IsAscii, IsUtf8, bytes_eq, is_utf8}
 use Rattle.std.proofs.lemmas.Str.{IsUtf8-from_ascii, IsUtf8-from_is_utf8, chars-IsAscii, is_utf8-from_IsUtf8}
 use Rattle.std.proofs.lemmas.Bool.{cases_Bool, eqb-true}
 use Rattle.std.proofs.lemmas.List.{append-nil}
+use Rattle.std.proofs.lemmas.Slice.Eq.{bytes_eq-Decides}
 use Rattle.exi_calendar.specs.Reading.{◌>>=◌, past}
 use Rattle.exi_digits.specs.Splits.{before}
-use Rattle.exi_evtext.specs.Reading.{content_at, decoded, item_of, opened_at, opened_value, value_at, value_of}
+use Rattle.exi_evtext.specs.Reading.{characters_in, content_at, decoded, event_of, item_of, opened_at, opened_value, value_at, value_of}
 use Rattle.exi_evtext.specs.Parsing.{front}
 
 pub before_within : (test : ℕ → Bool) (bytes : List ℕ) → length (before test bytes) ≤ length bytes
@@ -77,3 +78,9 @@ opened_plain s run rest behind ascii read mark =
 pub value_text : (s inside : List ℕ) → s ≡ codes "text \"" ++ inside → value_at s ≡ opened_value inside
 unfolding value_of item_of past
 value_text s inside e = ap value_at e
+
+-- the word of characters
+pub characters_said : (word rest : List ℕ) → bytes_eq word (67 ∷ 72 ∷ []) ≡ true → event_of word rest ≡ characters_in rest
+unfolding event_of
+characters_said word rest is =
+    subst (λ (w : List ℕ). event_of w rest ≡ characters_in rest) (sym ((bytes_eq-Decides word (67 ∷ 72 ∷ [])).0 is)) refl

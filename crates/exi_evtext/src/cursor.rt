@@ -240,6 +240,7 @@ impl<'a> Cursor<'a> {
     }
 
     /// A text between quotes.
+    #[inline(never)]
     pub fn text(&mut self) -> Result<Txt, LineStop>
         ensures { Gives (λ t. t) result (text_at self.old) self.new }
     {

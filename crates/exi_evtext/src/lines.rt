@@ -101,12 +101,22 @@ impl<'a> EventLines<'a> {
         ensures next { Fills result room.new self.old self.new }
         ensures shorter { IfOk result (λ more. IsTrue more → length self.new.bytes < length self.old.bytes) }
     {
-        match self.next()? {
-            Some(event) => {
-                room.hold(event);
+        if self.left.is_empty() {
+            return Ok(false);
+        }
+        let formless = TextStop::Syntax(self.line);
+        let (text, behind) = split_line(self.left);
+        let Some(behind) = behind else {
+            return Err(formless);
+        };
+        match self.cursor.event_into(text, room) {
+            Ok(()) => {
+                self.left = behind;
+                self.line += 1;
                 Ok(true)
             }
-            None => Ok(false),
+            Err(LineStop::Form) => Err(formless),
+            Err(LineStop::Memory) => Err(TextStop::Memory),
         }
     }
 }

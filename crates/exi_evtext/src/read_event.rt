@@ -6,6 +6,7 @@ ghost use Rattle.exi_evtext.specs.Parsing.{Tells};
 ghost use Rattle.exi_evtext.specs.Reading.{attribute_in, bare, characters_in, doctype_in, event_in, event_of, fragment_in, instruction_in, namespace_in, only_text, start_in, truth_of};
 
 use crate::cursor::Cursor;
+use crate::room::EventRoom;
 use crate::scalar::number_of;
 use crate::stop::LineStop;
 use exi_names::{Event, Txt};
@@ -62,6 +63,18 @@ impl<'a> Cursor<'a> {
         let value = self.value()?;
         self.end()?;
         Ok(Event::Ch(value))
+    }
+
+    /// Characters, into a room: only their value is moved.
+    #[inline(always)]
+    fn characters_into(&mut self, room: &mut EventRoom) -> Result<(), LineStop>
+        ensures { Tells (λ _. room.new) result (characters_in self.old) }
+    {
+        self.past(b' ')?;
+        let value = self.value()?;
+        self.end()?;
+        room.hold_value(value);
+        Ok(())
     }
 
     /// Whether a prefix is that of the element itself.
@@ -209,5 +222,37 @@ impl<'a> Cursor<'a> {
         let (word, left) = line.split_at(line.len().min(2));
         self.left = left;
         self.event_of(word)
+    }
+
+    /// Reads the event of a word of two letters into a room. By a schema most are characters with a datatype.
+    #[inline(always)]
+    fn event_of_into(&mut self, word: &[u8], room: &mut EventRoom) -> Result<(), LineStop>
+        ensures { Tells (λ _. room.new) result (event_of word.now self.old) }
+    {
+        if is_pair(word, b'C', b'H') {
+            return self.characters_into(room);
+        }
+        self.any_event_into(word, room)
+    }
+
+    /// The same, of any event. It stands apart, so that characters need no memory for an event.
+    #[inline(never)]
+    fn any_event_into(&mut self, word: &[u8], room: &mut EventRoom) -> Result<(), LineStop>
+        ensures { Tells (λ _. room.new) result (event_of word.now self.old) }
+    {
+        let event = self.event_of(word)?;
+        room.hold(event);
+        Ok(())
+    }
+
+    /// Reads the event that a line says into a room.
+    #[inline(always)]
+    #[tactic(auto, unfolding(crate::specs::Reading::event_in))]
+    pub fn event_into(&mut self, line: &'a [u8], room: &mut EventRoom) -> Result<(), LineStop>
+        ensures { Tells (λ _. room.new) result (event_in line.now) }
+    {
+        let (word, left) = line.split_at(line.len().min(2));
+        self.left = left;
+        self.event_of_into(word, room)
     }
 }

@@ -6,7 +6,7 @@ ghost use Rattle.exi_evtext.specs.Parsing.{Counts, Gives};
 ghost use Rattle.exi_evtext.specs.Reading.{item_at, item_of, items_at, list_at, opened_value, scalar_at, value_at, value_of};
 
 use crate::cursor::Cursor;
-use crate::scalar::{number_of, scalar_of};
+use crate::scalar::{is_four, number_of, scalar_of};
 use crate::stop::LineStop;
 use exi_digits::split_at_mark;
 use exi_names::{Val, ValList};
@@ -45,7 +45,7 @@ impl<'a> Cursor<'a> {
     fn item_of(&mut self, word: &[u8]) -> Result<Val, LineStop>
         ensures { Gives seen result (item_of (word.now, self.old)) self.new }
     {
-        if word == b"text".as_slice() {
+        if is_four(word, b't', b'e', b'x', b't') {
             let text = self.text()?;
             Ok(Val::Text(text))
         } else {
@@ -75,6 +75,7 @@ impl<'a> Cursor<'a> {
     }
 
     /// How many values, and each of them.
+    #[inline(never)]
     #[tactic(auto, unfolding(crate::specs::Reading::list_at))]
     fn list(&mut self) -> Result<Val, LineStop>
         ensures { Gives seen result (list_at self.old) self.new }
@@ -123,9 +124,9 @@ impl<'a> Cursor<'a> {
         ensures { Gives seen result (value_at self.old) self.new }
     {
         let word = self.word()?;
-        if word == b"list".as_slice() {
+        if is_four(word, b'l', b'i', b's', b't') {
             self.list()
-        } else if word == b"name".as_slice() {
+        } else if is_four(word, b'n', b'a', b'm', b'e') {
             let name = self.name()?;
             Ok(Val::Name(name))
         } else {

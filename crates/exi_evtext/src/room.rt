@@ -120,6 +120,18 @@ impl EventRoom {
         self.held = Held::Other;
     }
 
+    /// Holds characters of this value. In the place of a value as large no more than that is moved.
+    #[inline(always)]
+    pub fn hold_value(&mut self, value: Val)
+        ensures { self.new ≡ happening.ch (shape.seen value) }
+    {
+        self.held = Held::Other;
+        match &mut self.other {
+            Event::Ch(held) => *held = value,
+            _ => self.other = Event::Ch(value),
+        }
+    }
+
     /// Holds the end of an element, where it can.
     #[inline(always)]
     pub fn hold_end(&mut self) -> bool

@@ -1,7 +1,10 @@
 //! Values that are neither strings, names nor lists, from their canonical text: a text is taken where the value's text,
 //! printed again, is the same.
+//!
+//! Each kind but the most frequent is read by a call of its own: a value is large, and each way that is taken in line has room
+//! for one.
 
-ghost use Rattle.std.specs.Prelude.{◌≡◌, option_map, true, false, bytes_eq, string_bytes};
+ghost use Rattle.std.specs.Prelude.{◌≡◌, ◌∷◌, [], option_map, true, false, bytes_eq, string_bytes};
 ghost use Rattle.exi_names.specs.Seen.{Value, binary, integer, moment, seen};
 ghost use Rattle.exi_calendar.specs.Reading.{moment_value};
 ghost use Rattle.exi_lexical.specs.Binaries.{base64_octets, hex_octets};
@@ -52,6 +55,7 @@ fn is_same(printed: &String, digits: &[u8]) -> Result<(), LineStop>
 
 /// A boolean by its word or by its digit.
 #[tactic(auto, unfolding(exi_lexical::specs::Values::boolean_value))]
+#[inline(never)]
 fn boolean(digits: &[u8]) -> Result<Val, LineStop>
     ensures { Tells seen result (boolean_value true digits.now) }
 {
@@ -93,6 +97,7 @@ fn int(scratch: &mut String, digits: &[u8]) -> Result<Val, LineStop>
 }
 
 /// A decimal.
+#[inline(never)]
 fn dec(scratch: &mut String, digits: &[u8]) -> Result<Val, LineStop>
     ensures { Tells seen result (if_canonical digits.now (option_map of_decimal (decimal_value digits.now))) }
 {
@@ -110,6 +115,7 @@ fn dec(scratch: &mut String, digits: &[u8]) -> Result<Val, LineStop>
 }
 
 /// A float.
+#[inline(never)]
 fn flo(scratch: &mut String, digits: &[u8]) -> Result<Val, LineStop>
     ensures { Tells seen result (if_canonical digits.now (option_map of_float (float_value digits.now))) }
 {
@@ -140,6 +146,7 @@ fn dated(digits: &[u8]) -> Option<Moment>
 }
 
 /// A date or a time of any kind. One in its most frequent form is canonical, and not printed again.
+#[inline(never)]
 fn mom(scratch: &mut String, digits: &[u8]) -> Result<Val, LineStop>
     ensures { Tells seen result (any_moment digits.now) }
 {
@@ -169,6 +176,7 @@ fn hex_octets(alloc: Global, digits: &[u8]) -> Result<Octets, LineStop>
 }
 
 /// Octets in hexadecimal.
+#[inline(never)]
 fn hexadecimal(alloc: Global, scratch: &mut String, digits: &[u8]) -> Result<Val, LineStop>
     ensures { Tells seen result (if_canonical digits.now (option_map (binary true) (hex_octets digits.now))) }
 {
@@ -193,11 +201,32 @@ fn base64_octets(alloc: Global, digits: &[u8]) -> Result<Octets, LineStop>
 }
 
 /// Octets in base64.
+#[inline(never)]
 fn base64(alloc: Global, digits: &[u8]) -> Result<Val, LineStop>
     ensures { Tells seen result (option_map (binary false) (base64_octets digits.now)) }
 {
     let octets = base64_octets(alloc, digits)?;
     Ok(Val::Bin { hex: false, octets })
+}
+
+/// Whether a word has these three bytes, and no more.
+#[inline(always)]
+fn is_three(word: &[u8], first: u8, second: u8, third: u8) -> bool
+    ensures { result ≡ bytes_eq word.now (first ∷ second ∷ third ∷ []) }
+{
+    word.len() == 3 && word[0] == first && word[1] == second && word[2] == third
+}
+
+/// Whether a word has these four bytes, and no more.
+#[inline(always)]
+pub fn is_four(word: &[u8], first: u8, second: u8, third: u8, fourth: u8) -> bool
+    ensures { result ≡ bytes_eq word.now (first ∷ second ∷ third ∷ fourth ∷ []) }
+{
+    word.len() == 4
+        && word[0] == first
+        && word[1] == second
+        && word[2] == third
+        && word[3] == fourth
 }
 
 /// The value that a word and a canonical text tell.
@@ -210,17 +239,17 @@ pub fn scalar_of(
 ) -> Result<Val, LineStop>
     ensures { Tells seen result (scalar_of word.now digits.now) }
 {
-    if word == b"bool".as_slice() {
+    if is_four(word, b'b', b'o', b'o', b'l') {
         boolean(digits)
-    } else if word == b"int".as_slice() {
+    } else if is_three(word, b'i', b'n', b't') {
         int(scratch, digits)
-    } else if word == b"dec".as_slice() {
+    } else if is_three(word, b'd', b'e', b'c') {
         dec(scratch, digits)
-    } else if word == b"flo".as_slice() {
+    } else if is_three(word, b'f', b'l', b'o') {
         flo(scratch, digits)
-    } else if word == b"mom".as_slice() {
+    } else if is_three(word, b'm', b'o', b'm') {
         mom(scratch, digits)
-    } else if word == b"hex".as_slice() {
+    } else if is_three(word, b'h', b'e', b'x') {
         hexadecimal(alloc, scratch, digits)
     } else if word == b"base64".as_slice() {
         base64(alloc, digits)
