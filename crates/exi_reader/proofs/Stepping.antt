@@ -4,6 +4,7 @@ use Rattle.exi_bits.specs.declared.fault.Fault.{Fault}
 use Rattle.exi_bits.specs.Bits.{Spot}
 use Rattle.exi_builtin.specs.declared.learnable.Room.{Room}
 use Rattle.exi_builtin.specs.Learning.{IsRoom, Learning}
+use Rattle.exi_gram.specs.Books.{IsStateOf}
 use Rattle.exi_gram.specs.Codes.{Productions, code_at}
 use Rattle.exi_gram.specs.Switches.{align_of}
 use Rattle.exi_meter.specs.Metering.{Metering}
@@ -12,7 +13,7 @@ use Rattle.exi_names.specs.declared.names.NameId.{NameId}
 use Rattle.exi_tables.specs.Partitions.{IsName, Partitions, uris}
 use Rattle.exi_typed.specs.ReadStates.{Failure}
 use Rattle.exi_values.proofs.Growths.{few_more}
-use Rattle.exi_reader.specs.Configurations.{Config, Setting, built_in, element_rules, rules_in, rules_of, spot_in}
+use Rattle.exi_reader.specs.Configurations.{Config, Setting, built_in, element_rules, in_book, rules_in, rules_of, spot_in}
 use Rattle.exi_reader.specs.Handing.{AreThere, HasLevels, HasNames, HasRoom, IsThereIn, IsTold, StandsIn, Standing, charged_at, charges_on, making, telling_of, terminal_in, with_place}
 use Rattle.exi_reader.specs.Plans.{Alone, Plan, alone_in, nowhere, plan_on}
 use Rattle.exi_reader.specs.OneEvent.{at_event, followed, one}
@@ -133,6 +134,16 @@ pub room_inside : (g : Setting) (l : Learning) (e : Element) (r : Room) (es : Li
 room_inside g l e r [] is at h = absurd cc
 room_inside g l e r (x ∷ xs) is at h = subst (λ (s : State). IsThereIn g l s) at (subst (λ (y : Element). IsThereIn g l y.state) (first_is x e is) h)
 
+-- ---- inside an element of a grammar of the book
+pub rules_in_book : (g : Setting) (l : Learning) (e : Element) (grammar number : ℕ) (empty : Bool) (es : List Element) (o : Outer) → first_element es ≡ Some e → e.state ≡ state.Informed grammar number empty → rules_in g l es o ≡ in_book g grammar number
+rules_in_book g l e grammar number empty [] o is at = absurd cc
+rules_in_book g l e grammar number empty (x ∷ xs) o is at = ap (λ (y : Element). element_rules g l y.state) (first_is x e is) ∙ ap (element_rules g l) at
+
+pub state_inside : (g : Setting) (l : Learning) (e : Element) (grammar number : ℕ) (empty : Bool) (es : List Element) → first_element es ≡ Some e → e.state ≡ state.Informed grammar number empty → AreThere g l es → IsStateOf g grammar number
+state_inside g l e grammar number empty [] is at h = absurd cc
+state_inside g l e grammar number empty (x ∷ xs) is at h = (subst (λ (s : State). IsThereIn g l s) at (subst (λ (y : Element). IsThereIn g l y.state) (first_is x e is) h)).0
+
+-- ---- inside any element
 pub nowhere_inside : (e : Element) (es : List Element) (o : Outer) → first_element es ≡ Some e → alone_in es o ≡ nowhere
 nowhere_inside e [] o is = absurd cc
 nowhere_inside e (x ∷ xs) o is = refl
@@ -140,6 +151,10 @@ nowhere_inside e (x ∷ xs) o is = refl
 -- a code among the productions of the built-in grammar is one among all
 pub told_so : (g : Setting) (bytes : List ℕ) (c : Config) (r : Room) (q : Result (Rule × Spot) Fault) → rules_of g c ≡ built_in g c.learned r → code_at (align_of g.options) (built_in g c.learned r) (spot_in bytes c) ≡ q → code_at (align_of g.options) (rules_of g c) (spot_in bytes c) ≡ q
 told_so g bytes c r q is told = ap (λ (p : Productions Rule). code_at (align_of g.options) p (spot_in bytes c)) is ∙ told
+
+-- a code among the productions of a state of the book is one among all
+pub told_in_book : (g : Setting) (bytes : List ℕ) (c : Config) (grammar state : ℕ) (q : Result (Rule × Spot) Fault) → rules_of g c ≡ in_book g grammar state → code_at (align_of g.options) (in_book g grammar state) (spot_in bytes c) ≡ q → code_at (align_of g.options) (rules_of g c) (spot_in bytes c) ≡ q
+told_in_book g bytes c grammar state q is told = ap (λ (p : Productions Rule). code_at (align_of g.options) p (spot_in bytes c)) is ∙ told
 
 -- ---- a step: its code, and what stands behind
 module _ (old : Standing) (r : Rule) (x : Config) (told : code_at (align_of old.setting.options) (rules_of old.setting old.config) (spot_in old.bytes old.config) ≡ Ok (r, spot_in old.bytes x)) (v : Standing) (is : v ≡ with_place old x.place) where

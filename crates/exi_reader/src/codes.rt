@@ -66,7 +66,7 @@ impl<'a, T: Tables + Drop> Stepper<'a, T> {
 
     /// The production whose code comes next, among those of a state of the book.
     #[inline(always)]
-    fn book_rule(&mut self, grammar: u32, state: u32) -> Result<Rule<'a>, Fault>
+    pub fn book_rule(&mut self, grammar: u32, state: u32) -> Result<Rule<'a>, Fault>
         requires exists { IsStateOf self.old.setting grammar state }
         ensures picks { Picks result self.old self.new (in_book self.old.setting grammar state) }
     {

@@ -6,7 +6,8 @@ ghost use Rattle.exi_reader.specs.Handing.{HandsAny, HasLevels, HasNames, HasRoo
 ghost use Rattle.exi_reader.specs.OneEvent.{followed, moved_limit, one};
 ghost use Rattle.exi_reader.specs.Plans.{alone_in, nowhere, plan_on};
 ghost use Rattle.exi_reader.specs.Rules.{attribute, built_in_terminal, characters, element, end_element, untyped};
-ghost use Rattle.exi_reader.specs.Configurations.{built_in, rules_of};
+ghost use Rattle.exi_gram.specs.Books.{IsStateOf};
+ghost use Rattle.exi_reader.specs.Configurations.{built_in, in_book, rules_of};
 ghost use Rattle.exi_builtin.specs.Learning.{IsRoom, state_behind};
 ghost use Rattle.exi_reader.specs.Stacks.{HaveForm};
 ghost use Rattle.exi_reader.specs.declared.halt.Halt.TheVariants as halt;
@@ -468,6 +469,34 @@ impl<'a, T: Tables + Drop> Stepper<'a, T> {
         }
     }
 
+    /// One event inside an element whose grammar is a schema's: what its production reads is matched once.
+    #[inline(always)]
+    fn book_step<E: EventOut>(
+        &mut self,
+        bit: u64,
+        grammar: u32,
+        state: u32,
+        out: &mut E,
+    ) -> Result<Option<u64>, Halt>
+        requires steady { IsSteady self.old }
+        requires bit { bit ≡ self.old.config.place }
+        requires exists { IsStateOf self.old.setting grammar state }
+        requires rules { rules_of self.old.setting self.old.config ≡ in_book self.old.setting grammar state }
+        requires inside { alone_in self.old.config.elements self.old.config.outer ≡ nowhere }
+        ensures hands { HandsAny E.took E.broke result self.new (one self.old.setting self.old.bytes self.old.config) out.old out.new }
+        ensures setting { self.new.setting ≡ self.old.setting }
+        ensures bytes { self.new.bytes ≡ self.old.bytes }
+        ensures root { OnFault result (self.new.config.root ≡ self.old.config.root) }
+        ensures same { E.same out.old out.new }
+        ensures later { E.stops out.old ≤ E.stops out.new }
+        ensures stopped { IsErrOf result Halt.Stopped → Rose (E.stops out.old) (E.stops out.new) }
+    {
+        match self.book_rule(grammar, state) {
+            Ok(rule) => self.follow_by_kind(bit, Alone::Nowhere, rule, out),
+            Err(fault) => Err(Halt::Fault(fault)),
+        }
+    }
+
     /// One event, by any rule. It stands apart, so that [`step`](Stepper::step) is small enough to be taken in line.
     #[inline(never)]
     fn any_step<E: EventOut>(&mut self, bit: u64, out: &mut E) -> Result<Option<u64>, Halt>
@@ -481,6 +510,11 @@ impl<'a, T: Tables + Drop> Stepper<'a, T> {
         ensures later { E.stops out.old ≤ E.stops out.new }
         ensures stopped { IsErrOf result Halt.Stopped → Rose (E.stops out.old) (E.stops out.new) }
     {
+        if let Some(element) = self.elements.innermost() {
+            if let State::Informed { grammar, state, .. } = element.state {
+                return self.book_step(bit, grammar, state, out);
+            }
+        }
         let alone = alone_in(&self.elements, self.outer);
         let rule = match self.rule() {
             Ok(rule) => rule,
