@@ -138,6 +138,12 @@ scalar_at word bytes = do
   plain ← plain_at inside
   with_rest plain.1 (scalar_of word plain.0)
 
+-- an integer, behind the quote that opens its text
+abbrev pub opened_integer : List ℕ → Option (Value × List ℕ)
+opened_integer bytes = do
+  plain ← plain_at bytes
+  with_rest plain.1 (if_canonical plain.0 (option_map integer (integer_in is_spelled plain.0)))
+
 abbrev pub text_value : List ℕ × List ℕ → Option (Value × List ℕ)
 text_value found = Some (text found.0, found.1)
 

@@ -1,15 +1,15 @@
 //! Values in front of the bytes of a line that are left.
 
 ghost use Rattle.std.specs.Prelude.{◌≡◌, ◌++◌, length, bytes_eq, codes, IfSome};
-ghost use Rattle.exi_names.specs.Seen.{seen, values_of, vals};
+ghost use Rattle.exi_names.specs.Seen.{integer, seen, values_of, vals};
 ghost use Rattle.exi_evtext.specs.Parsing.{Counts, Gives};
-ghost use Rattle.exi_evtext.specs.Reading.{item_at, item_of, items_at, list_at, opened_value, scalar_at, value_at, value_of};
+ghost use Rattle.exi_evtext.specs.Reading.{item_at, item_of, items_at, list_at, opened_integer, opened_value, scalar_at, value_at, value_of};
 
 use crate::cursor::Cursor;
-use crate::scalar::{is_four, number_of, scalar_of};
+use crate::scalar::{is_four, number_of, scalar_of, whole_of};
 use crate::stop::LineStop;
 use exi_digits::split_at_mark;
-use exi_names::{Val, ValList};
+use exi_names::{Val, ValList, Whole};
 
 /// What stands behind the word of a text and the quote that opens it, where the bytes begin with them.
 #[inline(always)]
@@ -30,7 +30,35 @@ pub fn inside_text(bytes: &[u8]) -> Option<&[u8]>
     }
 }
 
+/// What stands behind a space, the word of an integer and the quote that opens its text, where the bytes begin with them.
+#[inline(always)]
+pub fn inside_integer(bytes: &[u8]) -> Option<&[u8]>
+    ensures { IfSome result (λ inside. bytes.now ≡ codes " int \"" ++ inside.now) }
+{
+    if bytes.len() >= 6
+        && bytes[0] == b' '
+        && bytes[1] == b'i'
+        && bytes[2] == b'n'
+        && bytes[3] == b't'
+        && bytes[4] == b' '
+        && bytes[5] == b'"'
+    {
+        Some(&bytes[6..])
+    } else {
+        None
+    }
+}
+
 impl<'a> Cursor<'a> {
+    /// An integer, behind the quote that opens its text.
+    #[inline(always)]
+    pub fn opened_integer(&mut self) -> Result<Whole, LineStop>
+        ensures { Gives integer result (opened_integer self.old) self.new }
+    {
+        let digits = self.plain()?;
+        whole_of(&mut self.scratch, digits)
+    }
+
     /// A value by its canonical text between quotes.
     fn scalar(&mut self, word: &[u8]) -> Result<Val, LineStop>
         ensures { Gives seen result (scalar_at word.now self.old) self.new }

@@ -8,7 +8,7 @@ ghost use Rattle.exi_names.specs.Seen as shape;
 ghost use Rattle.exi_evtext.specs.Plain.{plain_name};
 
 use crate::front::Front;
-use exi_names::{Event, QName, Txt, Val};
+use exi_names::{Event, QName, Txt, Val, Whole};
 use std::alloc::{AllocError, Global};
 use std::marker::Model;
 use std::mem::replace;
@@ -129,6 +129,18 @@ impl EventRoom {
         match &mut self.other {
             Event::Ch(held) => *held = value,
             _ => self.other = Event::Ch(value),
+        }
+    }
+
+    /// Holds characters that are an integer. In the place of another no more than the number is moved.
+    #[inline(always)]
+    pub fn hold_integer(&mut self, whole: Whole)
+        ensures { self.new ≡ happening.ch (shape.integer whole) }
+    {
+        self.held = Held::Other;
+        match &mut self.other {
+            Event::Ch(Val::Int(held)) => *held = whole,
+            _ => self.other = Event::Ch(Val::Int(whole)),
         }
     }
 

@@ -1,8 +1,7 @@
 //! Values that are neither strings, names nor lists, from their canonical text: a text is taken where the value's text,
 //! printed again, is the same.
 //!
-//! Each kind but the most frequent is read by a call of its own: a value is large, and each way that is taken in line has room
-//! for one.
+//! Each kind is read by a call of its own: a value is large, and each way that is taken in line has room for one.
 
 ghost use Rattle.std.specs.Prelude.{◌≡◌, ◌∷◌, [], option_map, true, false, bytes_eq, string_bytes};
 ghost use Rattle.exi_names.specs.Seen.{Value, binary, integer, moment, seen};
@@ -83,9 +82,9 @@ fn spelled_of(digits: &[u8]) -> Option<Whole>
     }
 }
 
-/// An integer.
-fn int(scratch: &mut String, digits: &[u8]) -> Result<Val, LineStop>
-    ensures { Tells seen result (if_canonical digits.now (option_map integer (integer_in is_spelled digits.now))) }
+/// An integer's canonical text.
+pub fn whole_of(scratch: &mut String, digits: &[u8]) -> Result<Whole, LineStop>
+    ensures { Tells integer result (if_canonical digits.now (option_map integer (integer_in is_spelled digits.now))) }
 {
     let Some(whole) = spelled_of(digits) else {
         return Err(LineStop::Form);
@@ -93,6 +92,15 @@ fn int(scratch: &mut String, digits: &[u8]) -> Result<Val, LineStop>
     scratch.clear();
     push_integer(scratch, whole)?;
     is_same(scratch, digits)?;
+    Ok(whole)
+}
+
+/// An integer.
+#[inline(never)]
+fn int(scratch: &mut String, digits: &[u8]) -> Result<Val, LineStop>
+    ensures { Tells seen result (if_canonical digits.now (option_map integer (integer_in is_spelled digits.now))) }
+{
+    let whole = whole_of(scratch, digits)?;
     Ok(Val::Int(whole))
 }
 
