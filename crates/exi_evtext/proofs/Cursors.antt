@@ -1,15 +1,14 @@
 -- What stands in front of a mark is a part of the bytes.
 use Rattle.std.proofs.Common.{◌≡◌, ◌≤◌, ℕ, suc, Bool, true, false, eqb, min, List, [], ◌∷◌, ◌++◌, length, take, drop, refl, sym, ap, ◌∙◌, subst, arith, inl, inr}
-use Rattle.std.specs.Prelude.{Option, Some, None, codes, option_map}
+use Rattle.std.specs.Prelude.{Option, Some, None, codes}
 use Rattle.std.specs.Str.{IsAscii, IsUtf8, bytes_eq, is_utf8}
 use Rattle.std.proofs.lemmas.Str.{IsUtf8-from_ascii, IsUtf8-from_is_utf8, chars-IsAscii, is_utf8-from_IsUtf8}
 use Rattle.std.proofs.lemmas.Bool.{cases_Bool, eqb-true}
 use Rattle.std.proofs.lemmas.List.{append-nil}
 use Rattle.std.proofs.lemmas.Slice.Eq.{bytes_eq-Decides}
-use Rattle.exi_names.specs.Events as event
 use Rattle.exi_calendar.specs.Reading.{◌>>=◌, past}
 use Rattle.exi_digits.specs.Splits.{before}
-use Rattle.exi_evtext.specs.Reading.{alone, characters_in, content_at, decoded, event_of, item_of, opened_at, opened_integer, opened_value, scalar_of, value_at, value_of}
+use Rattle.exi_evtext.specs.Reading.{characters_in, content_at, decoded, event_of, integer_characters, item_of, opened_at, opened_value, scalar_of, value_at, value_of}
 use Rattle.exi_evtext.specs.Parsing.{front}
 
 pub before_within : (test : ℕ → Bool) (bytes : List ℕ) → length (before test bytes) ≤ length bytes
@@ -87,6 +86,6 @@ characters_said word rest is =
     subst (λ (w : List ℕ). event_of w rest ≡ characters_in rest) (sym ((bytes_eq-Decides word (67 ∷ 72 ∷ [])).0 is)) refl
 
 -- characters that are an integer
-pub integer_said : (s inside : List ℕ) → s ≡ codes " int \"" ++ inside → characters_in s ≡ option_map event.ch (opened_integer inside >>= alone)
+pub integer_said : (s inside : List ℕ) → s ≡ codes " int \"" ++ inside → characters_in s ≡ integer_characters inside
 unfolding value_of item_of scalar_of past
 integer_said s inside e = ap characters_in e

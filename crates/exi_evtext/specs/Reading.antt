@@ -231,6 +231,10 @@ attribute_in rest = do
 abbrev pub characters_in : List ℕ → Option Happening
 characters_in rest = option_map event.ch (past (32 ∷ []) rest >>= value_at >>= alone)
 
+-- characters that are an integer, behind the quote that opens its text
+abbrev pub integer_characters : List ℕ → Option Happening
+integer_characters inside = option_map event.ch (opened_integer inside >>= alone)
+
 abbrev pub truth_of : List ℕ → Option Bool
 truth_of word = if bytes_eq word (codes " true") then Some true else if bytes_eq word (codes " false") then Some false else None
 

@@ -1,11 +1,9 @@
 //! The event that a line says.
 
 ghost use Rattle.std.specs.Prelude.{◌≡◌, ◌∷◌, [], take, drop, length, bytes_eq, option_map, ◌^◌};
-ghost use Rattle.exi_calendar.specs.Reading.{◌>>=◌};
-ghost use Rattle.exi_names.specs.Events as event;
 ghost use Rattle.exi_names.specs.Events.{happens};
 ghost use Rattle.exi_evtext.specs.Parsing.{Tells};
-ghost use Rattle.exi_evtext.specs.Reading.{alone, attribute_in, bare, characters_in, doctype_in, event_in, event_of, fragment_in, instruction_in, namespace_in, only_text, opened_integer, start_in, truth_of};
+ghost use Rattle.exi_evtext.specs.Reading.{attribute_in, bare, characters_in, doctype_in, event_in, event_of, fragment_in, instruction_in, integer_characters, namespace_in, only_text, start_in, truth_of};
 
 use crate::cursor::Cursor;
 use crate::read_value::inside_integer;
@@ -71,7 +69,7 @@ impl<'a> Cursor<'a> {
     /// Characters that are an integer, behind the quote that opens its text, into a room.
     #[inline(always)]
     fn integer_into(&mut self, room: &mut EventRoom) -> Result<(), LineStop>
-        ensures { Tells (λ _. room.new) result (option_map event.ch (opened_integer self.old >>= alone)) }
+        ensures { Tells (λ _. room.new) result (integer_characters self.old) }
     {
         let whole = self.opened_integer()?;
         self.end()?;

@@ -85,6 +85,14 @@ fn revalue(value: &mut Val, text: &Front<'_>) -> Result<bool, AllocError>
     Ok(true)
 }
 
+/// An integer as a value.
+#[inline(always)]
+fn integer(whole: Whole) -> Val
+    ensures { shape.seen result ≡ shape.integer whole }
+{
+    Val::Int(whole)
+}
+
 impl EventRoom {
     /// A room that holds the end of an element.
     pub fn new(alloc: Global) -> EventRoom {
@@ -137,11 +145,12 @@ impl EventRoom {
     pub fn hold_integer(&mut self, whole: Whole)
         ensures { self.new ≡ happening.ch (shape.integer whole) }
     {
-        self.held = Held::Other;
-        match &mut self.other {
-            Event::Ch(Val::Int(held)) => *held = whole,
-            _ => self.other = Event::Ch(Val::Int(whole)),
+        if let Event::Ch(Val::Int(held)) = &mut self.other {
+            *held = whole;
+            self.held = Held::Other;
+            return;
         }
+        self.hold_value(integer(whole));
     }
 
     /// Holds the end of an element, where it can.
