@@ -520,7 +520,7 @@ impl<'a, T: Tables + Drop> Stepper<'a, T> {
             Ok(rule) => rule,
             Err(fault) => return Err(Halt::Fault(fault)),
         };
-        self.follow_by_kind(bit, alone, rule, out)
+        self.follow_seldom(bit, alone, rule, out)
     }
 
     /// One event.
