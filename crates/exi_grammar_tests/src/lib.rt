@@ -1,5 +1,5 @@
-//! Tests of the crates of string tables, codes, grammars, names and strings of a stream, headers and schema documents: each public
-//! call once, where memory is ample.
+//! Tests of the crates of string tables, codes, grammars, names, strings and values of a stream, headers and schema documents: each
+//! public call once, where memory is ample.
 //!
 //! A test is proved like code, and a crate that has tests of its own is proved a second time with them. Here they stand over
 //! crates that are proved once.
@@ -23,3 +23,5 @@ mod strings;
 mod tables;
 #[cfg(test)]
 mod tree;
+#[cfg(test)]
+mod values;
