@@ -1,5 +1,5 @@
 //! The case of bodies: what reading one gives, event by event, its end and what was charged. It is read once by
-//! each kind of string tables.
+//! each kind of string tables, and once turn by turn.
 
 ghost use Rattle.std.specs.Prelude.{◌≡◌, false, IfSome};
 ghost use Rattle.exi_gram.specs.Switches.{conflicts};
@@ -10,6 +10,7 @@ use crate::ends::push_end;
 use crate::fields::bytes_of;
 use crate::lines::Lines;
 use crate::options::options_of;
+use crate::turns;
 use exi_codes::book;
 use exi_gram::{Book, Options};
 use exi_meter::Limits;
@@ -95,7 +96,27 @@ fn by_each_kind(alloc: Global, job: &Job<'_>, start: Start) -> Result<Option<Str
     answers.push(Some(read::<ListTables>(alloc, job, start)?))?;
     answers.push(Some(read::<HashTables>(alloc, job, start)?))?;
     answers.push(Some(read::<PlaceTables>(alloc, job, start)?))?;
-    agreed(alloc, answers.as_slice())
+    match agreed(alloc, answers.as_slice())? {
+        Some(whole) => Ok(Some(also_by_turns(alloc, job, start, whole)?)),
+        None => Ok(None),
+    }
+}
+
+/// This answer, where reading turn by turn gives the same; else a text that says so.
+fn also_by_turns(
+    alloc: Global,
+    job: &Job<'_>,
+    start: Start,
+    whole: String,
+) -> Result<String, AllocError>
+    requires job { IsJob (job_of job.now) }
+    requires start { IsStartIn (job_of job.now) start }
+{
+    let turned = turns::read(alloc, job, start)?;
+    if turned.as_str() == whole.as_str() {
+        return Ok(whole);
+    }
+    format!(in alloc; "differ: {whole}; by turns {turned}")
 }
 
 /// Three numbers, none of them above the limit of a stream.

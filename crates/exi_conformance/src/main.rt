@@ -41,6 +41,7 @@ mod show;
 mod tables;
 mod terminals;
 mod texts;
+mod turns;
 mod writes;
 
 use std::alloc::{AllocError, Global};
