@@ -6,6 +6,13 @@ use std::sync::Wait;
 use std::test::Fail;
 use std::thread::Threads;
 
+/// A schema document: of the element `n`, an unsigned byte.
+const DOCUMENT: &[u8] =
+    b"\x80\x08\x1a\x1d\x1d\x1c\x0e\x8b\xcb\xdd\xdd\xdd\xcb\x9d\xcc\xcb\x9b\xdc\x99\xcb\xcc\x8c\x0c\x0c\
+\x4b\xd6\x13\x53\x14\xd8\xda\x19\x5b\x58\x41\xdc\xd8\xda\x19\x5b\x58\x54\x02\x78\x73\xb8\x10\xca\
+\xd8\xca\xda\xca\xdc\xe8\x48\x2b\x73\x0b\x6b\x28\x1b\x74\x90\x57\x47\x97\x06\x51\x17\x87\x33\xa7\
+\x56\xe7\x36\x96\x76\xe6\x56\x44\x27\x97\x46\x58\x00";
+
 /// A shelf with a stream of the element `a` with the text `x`, worked from the recommendation's tables by hand.
 fn shelf_of_one(alloc: Global) -> Result<MemShelf, AllocError> {
     let mut shelf = MemShelf::new(alloc);
@@ -107,19 +114,32 @@ fn nothing_of_a_stream_is_put_where_the_list_ends_early(rt: HostRuntime) -> Resu
     Ok(())
 }
 
+/// A shelf with the schema document and a stream by it.
+fn informed_shelf(alloc: Global) -> Result<MemShelf, AllocError> {
+    let mut shelf = MemShelf::new(alloc);
+    let stream = Octets::of(alloc, b"\x80\x03\x80")?;
+    shelf.add_file(Txt::of(alloc, "in.exi")?, stream)?;
+    let document = Octets::of(alloc, DOCUMENT)?;
+    shelf.add_file(Txt::of(alloc, "schema.exi")?, document)?;
+    Ok(shelf)
+}
+
+/// The words that ask for its events.
+fn informed_words(alloc: Global) -> Result<[Txt; 5], AllocError> {
+    Ok([
+        Txt::of(alloc, "read")?,
+        Txt::of(alloc, "in.exi")?,
+        Txt::of(alloc, "--schema")?,
+        Txt::of(alloc, "schema.exi")?,
+        Txt::of(alloc, "--strict")?,
+    ])
+}
+
 #[test]
 fn no_stream_is_read_where_the_second_fetch_fails(rt: HostRuntime) -> Result<(), Fail> {
-    let mut shelf = shelf_of_one(rt.alloc())?;
-    shelf.add_file(
-        Txt::of(rt.alloc(), "none.xsd")?,
-        Octets::of(rt.alloc(), b"\x80")?,
-    )?;
+    let mut shelf = informed_shelf(rt.alloc())?;
     shelf.fail_at(2)?;
-    let words = [
-        Txt::of(rt.alloc(), "read")?,
-        Txt::of(rt.alloc(), "in.exi")?,
-        Txt::of(rt.alloc(), "--schema=none.xsd")?,
-    ];
+    let words = informed_words(rt.alloc())?;
     let mut sink = MemSink::new(rt.alloc());
     let status = run(&rt, rt.alloc(), &words, &mut shelf, &mut sink, &NoGate);
     assert_eq!(rt; status, Status::ReadFault);
