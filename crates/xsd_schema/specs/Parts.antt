@@ -1,6 +1,6 @@
 -- Declarations, as the parts of a schema.
 use Rattle.xsd_model.specs.Parts.{Parts, representations}
-use Rattle.xsd_parts.specs.declared.declarations.Declarations.{Declarations}
+use Rattle.xsd_schema.specs.declared.declarations.Declarations.{Declarations}
 
 abbrev pub parts_in : Declarations → Parts
 parts_in d = record {

@@ -1,6 +1,6 @@
 -- The words in which the components of a schema are spoken of, for what stands on this crate.
-pub use Rattle.xsd_fits.specs.Views.{as_told}
-pub use Rattle.xsd_parts.specs.Documents.{Declared}
-pub use Rattle.xsd_parts.specs.Readings.{components_of}
+pub use Rattle.xsd_schema.specs.Views.{as_told}
+pub use Rattle.xsd_schema.specs.Documents.{Declared}
+pub use Rattle.xsd_schema.specs.Readings.{components_of}
 pub use Rattle.xsd_tree.specs.Trees.{xsd}
-pub use Rattle.xsd_types.specs.Seen.{Body, TypeSeen, body_seen, complex, simple, type_seen, ur}
+pub use Rattle.xsd_schema.specs.Seen.{Body, TypeSeen, body_seen, complex, simple, type_seen, ur}

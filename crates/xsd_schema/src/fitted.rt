@@ -2,17 +2,17 @@
 
 ghost use Rattle.std.specs.Prelude.{◌≡◌, ◌≤◌, ◌^◌, length, map};
 ghost use Rattle.exi_names.specs.Events.{happens};
-ghost use Rattle.xsd_fits.specs.Views.{as_told};
+ghost use Rattle.xsd_schema.specs.Views.{as_told};
 ghost use Rattle.xsd_model.specs.Faults.{Gives};
 ghost use Rattle.xsd_model.specs.Parts.{AreForms, IsSchemaParts};
-ghost use Rattle.xsd_parts.specs.Documents.{parts_of};
-ghost use Rattle.xsd_parts.specs.Readings.{components_of};
+ghost use Rattle.xsd_schema.specs.Documents.{parts_of};
+ghost use Rattle.xsd_schema.specs.Readings.{components_of};
 ghost use Rattle.xsd_schema.specs.Parts.{parts_in};
 
+use crate::declarations::{Declarations, declarations_in};
 use exi_names::Event;
 use std::alloc::Global;
 use xsd_model::{Components, SchemaStop};
-use xsd_parts::{Declarations, declarations_in};
 use xsd_tree::{Tree, tree};
 
 /// The components of declarations that fit together.

@@ -1,14 +1,14 @@
 //! What is wrong with one element of a schema document.
 
 ghost use Rattle.std.specs.Prelude.{◌≡◌, ◌<◌, IfOk, length};
-ghost use Rattle.xsd_shows.specs.Shows.{shows_at};
+ghost use Rattle.xsd_schema.specs.Shows.{shows_at};
 
+use crate::conditions::Conditions;
 use std::alloc::{AllocError, Global};
 use xsd_circles::Circles;
 use xsd_components::Schema;
 use xsd_model::SchemaKind;
 use xsd_paths::Paths;
-use xsd_shows::Conditions;
 use xsd_simple::Simples;
 use xsd_slots::Order;
 use xsd_steps::Steps;

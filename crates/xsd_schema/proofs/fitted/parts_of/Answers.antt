@@ -1,4 +1,4 @@
-use Rattle.xsd_fits.proofs.Told.{told_fit}
+use Rattle.xsd_schema.proofs.Told.{told_fit}
 use Rattle.xsd_schema.specs.Parts.{parts_in}
 use Rattle.xsd_schema.proofs.fitted.parts_of.Goals as goal
 
