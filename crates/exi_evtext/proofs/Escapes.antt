@@ -1,13 +1,15 @@
 -- Texts between quotes, of which the bytes that stand for themselves are written in runs.
-use Rattle.std.proofs.Common.{◌≡◌, ◌<◌, ◌≤◌, ◌+◌, ◌-◌, ℕ, zero, suc, List, [], ◌∷◌, ◌++◌, length, take, drop, get_or, refl, true, false, not, eqb, inl, inr, sym, ap, ◌∙◌, arith, append_assoc}
+use Rattle.std.proofs.Common.{◌≡◌, ◌<◌, ◌≤◌, ◌+◌, ◌-◌, ℕ, zero, suc, List, [], ◌∷◌, ◌++◌, length, take, drop, get_or, refl, true, false, not, eqb, leb, ◌&&◌, inl, inr, sym, ap, ◌∙◌, arith, append_assoc}
 use Rattle.std.specs.Prelude.{slice_range}
 use Rattle.std.specs.List.{flat_map}
-use Rattle.std.proofs.lemmas.Bool.{cases_Bool, cases_lt, not-true}
+use Rattle.std.proofs.lemmas.Bool.{cases_Bool, cases_lt, leb-true, ne_eqb, not-true}
 use Rattle.std.proofs.lemmas.List.{drop-drop, append-nil, take_more, drop_more, length-drop, get_or-drop}
 use Rattle.std.proofs.lemmas.List.Folds.{drop_split}
 use Rattle.std.proofs.lemmas.Grind.{flat_map-append}
 use Rattle.exi_evtext.specs.Lines.{escaped}
 use Rattle.exi_evtext.specs.Parsing.{run_width, stops_run}
+use Rattle.exi_names.specs.Characters.{are_plain, between, is_plain}
+use Rattle.exi_names.proofs.Together.{and_l, and_r}
 use Rattle.exi_evtext.proofs.Lays.{take_add}
 
 -- one place more
@@ -100,18 +102,20 @@ run_stands (b ∷ t) = elim (cases_Bool (stops_run b)) [
   | inr h ↦ rw h (ap (λ (x : List ℕ). x ++ flat_map escaped (take (run_width t) t)) (stands_alone b h) ∙ ap (λ (x : List ℕ). b ∷ x) (run_stands t))
 ]
 
--- bytes in front that stop no run stand for themselves
-pub front_stands : (n : ℕ) (s : List ℕ) → ((k : ℕ) → k < n → not (stops_run (get_or s k 0)) ≡ true) → flat_map escaped (take n s) ≡ take n s
-front_stands zero s all = refl
-front_stands (suc n) [] all = refl
-front_stands (suc n) (b ∷ s) all =
-    ap (λ (x : List ℕ). x ++ flat_map escaped (take n s)) (stands_alone b (not-true (stops_run b) (all 0 (omega arith))))
-    ∙ ap (λ (x : List ℕ). b ∷ x) (front_stands n s (λ k lt. all (suc k) (omega (arith, lt))))
+-- plain bytes stand for themselves
+plain_alone : (b : ℕ) → is_plain b ≡ true → escaped b ≡ b ∷ []
+plain_alone b p =
+    let two : (between 0x20 0x7E b && not (eqb b 0x22)) ≡ true = and_l (between 0x20 0x7E b && not (eqb b 0x22)) (not (eqb b 0x5C)) p in
+    let low : 0x20 ≤ b = leb-true 0x20 b (and_l (leb 0x20 b) (leb b 0x7E) (and_l (between 0x20 0x7E b) (not (eqb b 0x22)) two)) in
+    let quote : eqb b 34 ≡ false = not-true (eqb b 34) (and_r (between 0x20 0x7E b) (not (eqb b 0x22)) two) in
+    let back : eqb b 92 ≡ false = not-true (eqb b 92) (and_r (between 0x20 0x7E b && not (eqb b 0x22)) (not (eqb b 0x5C)) p) in
+    let ten : eqb b 10 ≡ false = ne_eqb b 10 (λ e. omega (arith, e, low)) in
+    let thirteen : eqb b 13 ≡ false = ne_eqb b 13 (λ e. omega (arith, e, low)) in
+    let nine : eqb b 9 ≡ false = ne_eqb b 9 (λ e. omega (arith, e, low)) in
+    rw (quote, back, ten, thirteen, nine) refl
 
--- by two runs, of which the first has no end
-pub both_stand : (s : List ℕ) (n at c r t : ℕ) → at ≤ n → n ≤ r → ((k : ℕ) → 0 ≤ k → k < 0 + r → not (stops_run (get_or s k 0)) ≡ true) → ((k : ℕ) → at ≤ k → k < at + t → not (stops_run (get_or s k 0)) ≡ true) → c ≤ at + t
-    → flat_map escaped (take c s) ≡ take c s
-both_stand s n at c r t le all front back few = front_stands c s (λ k lt. elim (cases_lt k n) [
-  | inl early ↦ front k (omega arith) (omega (arith, early, all))
-  | inr late ↦ back k (omega (arith, late, le)) (omega (arith, lt, few))
-])
+pub plain_stands : (bs : List ℕ) → are_plain bs ≡ true → flat_map escaped bs ≡ bs
+plain_stands [] p = refl
+plain_stands (b ∷ bs) p =
+    ap (λ (x : List ℕ). x ++ flat_map escaped bs) (plain_alone b (and_l (is_plain b) (are_plain bs) p))
+    ∙ ap (λ (x : List ℕ). b ∷ x) (plain_stands bs (and_r (is_plain b) (are_plain bs) p))

@@ -4,7 +4,7 @@ use Rattle.std.specs.Prelude.{codes, IfSome, IsTrue}
 use Rattle.std.specs.Borrow.{Bor}
 use Rattle.std.specs.List.{flat_map}
 use Rattle.std.specs.Str.{IsAscii, all_scalars}
-use Rattle.std.proofs.lemmas.Bool.{and_parts, leb-true, ltb-true, ne_eqb, not-true}
+use Rattle.std.proofs.lemmas.Bool.{and_from, and_parts, le-leb, leb-true, ltb-true, ne_eqb, not-true}
 use Rattle.std.proofs.lemmas.List.{append-nil, get_or-take, length-append, length-take-le}
 use Rattle.std.proofs.lemmas.Str.{IsUtf8-from_ascii, chars-IsAscii, encodes-IsAscii, scalars-chars}
 use Rattle.std.proofs.lemmas.Str.Ascii.{IsAscii-cons, IsAscii-nil}
@@ -15,6 +15,8 @@ use Rattle.exi_digits.specs.Splits.{before, behind, is_mark}
 use Rattle.exi_evtext.specs.Lines.{also, escaped, line_of, name_words, quoted, value_words, words}
 use Rattle.exi_evtext.specs.Left.{LinesLeft}
 use Rattle.exi_evtext.specs.Parsing.{event_then, events_left, with_event}
+use Rattle.exi_names.specs.Characters.{are_plain}
+use Rattle.exi_names.specs.Characters.{is_plain as named_plain}
 use Rattle.exi_evtext.specs.Plain.{AllPass, IsLine, IsPlain, is_plain, plain_name}
 use Rattle.exi_evtext.specs.Reading.{event_in}
 use Rattle.exi_evtext.proofs.Feedless.{line_front}
@@ -24,6 +26,7 @@ use Rattle.exi_evtext.proofs.Spelled.{says_read}
 -- ---- plain texts
 record PlainByte (b : ℕ) : Type 0 where
   ascii : b < 128
+  plain : named_plain b ≡ true
   stands : escaped b ≡ b ∷ []
 
 plain_byte : (b : ℕ) → is_plain b ≡ true → PlainByte b
@@ -36,19 +39,25 @@ plain_byte b h =
     let ten : eqb b 10 ≡ false = ne_eqb b 10 (λ e. omega (arith, e)) in
     let thirteen : eqb b 13 ≡ false = ne_eqb b 13 (λ e. omega (arith, e)) in
     let nine : eqb b 9 ≡ false = ne_eqb b 9 (λ e. omega (arith, e)) in
-    record { ascii = omega arith; stands = rw (not-true (eqb b 34) q.1, not-true (eqb b 92) p.1, ten, thirteen, nine) refl }
+    record {
+      ascii = omega arith;
+      plain = and_from (leb 0x20 b && leb b 0x7E && not (eqb b 0x22)) (not (eqb b 0x5C)) (and_from (leb 0x20 b && leb b 0x7E) (not (eqb b 0x22)) (and_from (leb 0x20 b) (leb b 0x7E) r.0 (le-leb b 0x7E (omega (arith, high)))) q.1) p.1;
+      stands = rw (not-true (eqb b 34) q.1, not-true (eqb b 92) p.1, ten, thirteen, nine) refl;
+    }
 
 record PlainBytes (t : List ℕ) : Type 0 where
   ascii : IsAscii t
+  plain : are_plain t ≡ true
   stands : flat_map escaped t ≡ t
 
 plain_bytes : (t : List ℕ) → AllPass is_plain t 0 (length t) → PlainBytes t
-plain_bytes [] h = record { ascii = IsAscii-nil; stands = refl }
+plain_bytes [] h = record { ascii = IsAscii-nil; plain = refl; stands = refl }
 plain_bytes (b ∷ t) h =
     let one = plain_byte b (h 0 (omega arith) (omega arith)) in
     let more = plain_bytes t (λ k from to. h (suc k) (omega arith) (omega arith)) in
     record {
       ascii = IsAscii-cons b t one.ascii more.ascii;
+      plain = and_from (named_plain b) (are_plain t) one.plain more.plain;
       stands = ap (λ (x : List ℕ). x ++ flat_map escaped t) one.stands ∙ ap (λ (x : List ℕ). b ∷ x) more.stands;
     }
 
@@ -61,6 +70,7 @@ plain_front bytes n le h =
     let self = encodes-IsAscii t p.ascii in
     record {
       ascii = p.ascii;
+      plain = p.plain;
       valid = ap all_scalars (sym (chars-IsAscii t p.ascii)) ∙ scalars-chars t (IsUtf8-from_ascii t p.ascii);
       stands = ap (flat_map escaped) self ∙ p.stands;
     }

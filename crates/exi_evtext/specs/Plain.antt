@@ -4,6 +4,7 @@ use Rattle.std.specs.Str.{IsAscii}
 use Rattle.std.specs.List.{flat_map}
 use Rattle.std.specs.Int.{w64, trailing_zeros}
 use Rattle.exi_names.specs.declared.names.QName.{QName}
+use Rattle.exi_names.specs.Characters.{are_plain}
 use Rattle.exi_names.specs.Events.{Happening}
 use Rattle.exi_evtext.specs.Lines.{escaped, line_of}
 use Rattle.exi_evtext.specs.Parsing.{stops_run}
@@ -45,6 +46,7 @@ first_set mask count = if mask == 0 then count else trailing_zeros w64 mask
 -- its bytes are its characters, which a line spells as they are
 pub record IsPlain (text : List ℕ) : Type 0 where
   pub ascii : IsAscii text
+  pub plain : are_plain text ≡ true
   pub valid : IsText text
   pub stands : flat_map escaped (encode_utf8_all text) ≡ text
 

@@ -1,7 +1,7 @@
 //! A text that stands in a line, with what stands behind it.
 
-ghost use Rattle.std.specs.Prelude.{◌≡◌, ◌≤◌, [], OnErr, OnOk, length, take};
-ghost use Rattle.std.specs.Str.{IsAscii};
+ghost use Rattle.std.specs.Prelude.{◌≡◌, ◌≤◌, [], OnErr, OnOk, true, length, take};
+ghost use Rattle.exi_names.specs.Characters.{are_plain};
 
 use exi_names::Txt;
 use std::alloc::AllocError;
@@ -34,14 +34,14 @@ impl<'a> Front<'a> {
         Front { bytes, count }
     }
 
-    /// Puts them, which have to be ASCII, in the place of a text, in its memory.
+    /// Puts them, which have to be plain, in the place of a text, in its memory.
     ///
     /// # Errors
     ///
     /// `AllocError` where memory is refused; the text is then empty.
     #[inline(always)]
     pub fn fill(&self, text: &mut Txt) -> Result<(), AllocError>
-        requires { IsAscii self.now }
+        requires { are_plain self.now ≡ true }
         ensures ok { OnOk result (text.new ≡ self.now) }
         ensures err { OnErr result (text.new ≡ []) }
     {

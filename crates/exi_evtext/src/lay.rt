@@ -1,12 +1,13 @@
 //! Lines of frequent events, laid in a room of bytes: no copy needs a test of capacity, and none asks for memory.
 
-ghost use Rattle.std.specs.Prelude.{◌≡◌, ◌≤◌, ◌<◌, ◌+◌, ◌*◌, ◌++◌, ◌∷◌, [], IfSome, length, take, codes, encode_utf8_all};
+ghost use Rattle.std.specs.Prelude.{◌≡◌, ◌≤◌, ◌<◌, ◌+◌, ◌*◌, ◌++◌, ◌∷◌, [], IfSome, true, length, take, codes, encode_utf8_all};
 ghost use Rattle.std.specs.List.{flat_map};
+ghost use Rattle.exi_names.specs.Characters.{are_plain};
 ghost use Rattle.exi_names.specs.Shown.{named, shows};
 ghost use Rattle.exi_evtext.specs.Lines.{escaped, line_of, name_words, quoted};
 
 use crate::lay_value::lay_typed;
-use crate::quote::{escape, front_stands, is_plain, run_end};
+use crate::quote::{escape, is_plain, run_end};
 use exi_names::{EventRef, NameRef, Txt, ValRef};
 use std::simd::prelude::*;
 
@@ -93,21 +94,19 @@ pub fn lay_run(room: &mut [u8], at: usize, bytes: &[u8]) -> usize
     }
 }
 
-/// The text of so many bytes in front of a room of its own, where they stand for themselves: all of that room is laid at once.
+/// The text of so many bytes in front of a room of its own, which are plain: all of that room is laid at once.
 #[inline(always)]
-fn lay_near(room: &mut [u8], at: usize, bytes: &[u8], count: usize) -> Option<usize>
+fn lay_near(room: &mut [u8], at: usize, bytes: &[u8], count: usize) -> usize
     requires room { at + NEAR ≤ length room.old }
     requires bytes { length bytes.now ≡ 30 }
     requires few { count ≤ 30 }
+    requires plain { are_plain (take count bytes.now) ≡ true }
     ensures len { length room.new ≡ length room.old }
-    ensures within { IfSome result (λ end. end ≤ at + NEAR) }
-    ensures laid { IfSome result (λ end. take end room.new ≡ take at room.old ++ flat_map escaped (take count bytes.now)) }
+    ensures within { result ≤ at + NEAR }
+    ensures laid { take result room.new ≡ take at room.old ++ flat_map escaped (take count bytes.now) }
 {
-    if !front_stands(bytes, count) {
-        return None;
-    }
     lay_ends::<WIDE>(room, at, bytes);
-    Some(at + count)
+    at + count
 }
 
 /// What stands for a byte between quotes.
@@ -178,7 +177,7 @@ fn lay_text<const REACH: usize>(room: &mut [u8], at: usize, text: &Txt) -> Optio
             return None;
         }
         let (bytes, count) = text.room()?;
-        lay_near(room, at, bytes, count)
+        Some(lay_near(room, at, bytes, count))
     } else {
         lay_far(room, at, text)
     }

@@ -6,7 +6,7 @@ ghost use Rattle.exi_names.specs.Shown.{named};
 ghost use Rattle.exi_evtext.specs.Kept.{Keeps};
 ghost use Rattle.exi_evtext.specs.Lines.{also, escaped, name_words, quoted};
 
-use crate::run::{run_width, standing_lanes};
+use crate::run::run_width;
 use exi_names::{NameRef, Txt};
 use std::alloc::AllocError;
 
@@ -61,23 +61,6 @@ fn few_stand(bytes: &[u8]) -> bool
         standing += u8::from(stands(*byte));
     }
     usize::from(standing) == bytes.len()
-}
-
-/// Where the last that are looked at at once begin in a room of 30.
-const LAST: usize = 14;
-
-/// Whether so many bytes in front of a room of 30 surely stand for themselves between quotes.
-#[inline(always)]
-pub fn front_stands(bytes: &[u8], count: usize) -> bool
-    requires room { length bytes.now ≡ 30 }
-    requires few { count ≤ 30 }
-    ensures { IsTrue result → flat_map escaped (take count bytes.now) ≡ take count bytes.now }
-{
-    let front = standing_lanes(bytes, 0);
-    if front < FEW || count <= FEW {
-        return count <= front;
-    }
-    count <= LAST + standing_lanes(bytes, LAST)
 }
 
 /// Whether all bytes surely stand for themselves between quotes. The last few are looked at together, some of them once more.

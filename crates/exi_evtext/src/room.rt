@@ -1,7 +1,7 @@
 //! A room for the event of a line, whose texts' memory is used again.
 
-ghost use Rattle.std.specs.Prelude.{◌≡◌, IfOk, IsTrue};
-ghost use Rattle.std.specs.Str.{IsAscii};
+ghost use Rattle.std.specs.Prelude.{◌≡◌, IfOk, IsTrue, true};
+ghost use Rattle.exi_names.specs.Characters.{are_plain};
 ghost use Rattle.exi_names.specs.Events as happening;
 ghost use Rattle.exi_names.specs.Events.{happens};
 ghost use Rattle.exi_names.specs.Seen as shape;
@@ -60,8 +60,8 @@ fn no_name(alloc: Global) -> QName {
 /// Puts a name without a prefix in the place of one.
 #[inline(always)]
 fn rename(name: &mut QName, uri: &Front<'_>, local: &Front<'_>) -> Result<bool, AllocError>
-    requires uri { IsAscii uri.now }
-    requires local { IsAscii local.now }
+    requires uri { are_plain uri.now ≡ true }
+    requires local { are_plain local.now ≡ true }
     ensures { IfOk result (λ done. IsTrue done → name.new ≡ plain_name uri.now local.now) }
 {
     if name.prefix.is_some() {
@@ -75,7 +75,7 @@ fn rename(name: &mut QName, uri: &Front<'_>, local: &Front<'_>) -> Result<bool, 
 /// Puts a text in the place of one.
 #[inline(always)]
 fn revalue(value: &mut Val, text: &Front<'_>) -> Result<bool, AllocError>
-    requires { IsAscii text.now }
+    requires { are_plain text.now ≡ true }
     ensures { IfOk result (λ done. IsTrue done → shape.seen value.new ≡ shape.text text.now) }
 {
     let Val::Text(held) = value else {
@@ -165,8 +165,8 @@ impl EventRoom {
     /// Holds the start of an element, where it can.
     #[inline(always)]
     pub fn hold_start(&mut self, uri: &Front<'_>, local: &Front<'_>) -> Result<bool, AllocError>
-        requires uri { IsAscii uri.now }
-        requires local { IsAscii local.now }
+        requires uri { are_plain uri.now ≡ true }
+        requires local { are_plain local.now ≡ true }
         ensures { IfOk result (λ done. IsTrue done → self.new ≡ happening.se (plain_name uri.now local.now)) }
     {
         self.held = Held::Start;
@@ -184,9 +184,9 @@ impl EventRoom {
         local: &Front<'_>,
         text: &Front<'_>,
     ) -> Result<bool, AllocError>
-        requires uri { IsAscii uri.now }
-        requires local { IsAscii local.now }
-        requires text { IsAscii text.now }
+        requires uri { are_plain uri.now ≡ true }
+        requires local { are_plain local.now ≡ true }
+        requires text { are_plain text.now ≡ true }
         ensures { IfOk result (λ done. IsTrue done → self.new ≡ happening.at (plain_name uri.now local.now) (shape.text text.now)) }
     {
         self.held = Held::Attribute;
@@ -202,7 +202,7 @@ impl EventRoom {
     /// Holds characters, where it can.
     #[inline(always)]
     pub fn hold_characters(&mut self, text: &Front<'_>) -> Result<bool, AllocError>
-        requires { IsAscii text.now }
+        requires { are_plain text.now ≡ true }
         ensures { IfOk result (λ done. IsTrue done → self.new ≡ happening.ch (shape.text text.now)) }
     {
         self.held = Held::Characters;

@@ -139,17 +139,6 @@ fn run_lanes(bytes: &[u8], at: usize) -> usize
     first_set((marks | ends | tabs).to_bitmask())
 }
 
-/// How many bytes from this place on, of as many as are looked at at once, surely stand for themselves between quotes.
-#[inline(always)]
-pub fn standing_lanes(bytes: &[u8], at: usize) -> usize
-    requires { at + WIDE ≤ length bytes.now }
-    ensures { PassesIn is_inside_run bytes.now at 16 result }
-{
-    let lanes = u8x16::from_slice(&bytes[at..]);
-    let marks = lanes.simd_eq(u8x16::splat(b'"')) | lanes.simd_eq(u8x16::splat(b'\\'));
-    first_set((marks | lanes.simd_lt(u8x16::splat(b' '))).to_bitmask())
-}
-
 /// Whether a byte doesn't stand for itself between quotes.
 fn stops_run(byte: u8) -> bool
     ensures { result ≡ stops_run byte }

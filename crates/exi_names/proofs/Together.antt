@@ -1,14 +1,15 @@
 -- From the mask of sixteen bytes to the bytes themselves.
-use Rattle.std.proofs.Common.{◌≡◌, ◌≢◌, ◌↔◌, ℕ, zero, suc, take, drop, eqb, ◌+◌, ◌-◌, ◌%◌, ◌^◌, ◌<◌, ◌≤◌, Bool, true, false, not, cond, leb, ◌||◌, List, [], ◌∷◌, map, length, get_or, Fits, w8, refl, sym, ap, ap₂, ◌∙◌, arith, inl, inr}
-use Rattle.std.proofs.lemmas.Bool.{cases_lt, eq-eqb, eqb-true, not-true, not-false, false≢true}
-use Rattle.std.proofs.lemmas.Simd.{map-map, tops_compared, mask_l-mod, first_set_mask_l, length-chunk, length-zip2, get_or-zip2, run_in_chunk_le, run_in_chunk_fails, run_in_chunk_stops}
+use Rattle.std.proofs.Common.{◌≡◌, ◌≢◌, ◌↔◌, ℕ, zero, suc, take, drop, eqb, ◌+◌, ◌%◌, ◌^◌, ◌<◌, ◌≤◌, Bool, true, false, not, cond, leb, ◌||◌, ◌&&◌, List, [], ◌∷◌, map, length, get_or, Fits, w8, refl, sym, ap, ap₂, ◌∙◌, arith, inl, inr}
+use Rattle.std.specs.Str.{IsAscii}
+use Rattle.std.proofs.lemmas.Bool.{and_from, cases_lt, eq-eqb, eqb-true, not-true, not-false, false≢true}
+use Rattle.std.proofs.lemmas.Simd.{zip2_of_maps, map-map, tops_compared, mask_l-mod, first_set_mask_l, length-chunk, length-zip2, get_or-zip2, run_in_chunk_le, run_in_chunk_fails, run_in_chunk_stops}
 use Rattle.std.proofs.lemmas.List.{length-map}
 use Rattle.std.specs.List.{prefix_len}
 use lib.Lanes.{chunk, zip2, mask_l, top}
 use Rattle.std.specs.Prelude.{IsTrue}
 use Rattle.std.proofs.lemmas.Bool.{le-leb, leb-true, agree_below, agree_below_at}
 use Rattle.std.proofs.lemmas.List.{get_or-take, length-take-le}
-use Rattle.exi_names.specs.Characters.{between}
+use Rattle.exi_names.specs.Characters.{are_plain, between, is_plain}
 use Rattle.exi_names.specs.Lanes.{ArePlain, AreSame, first_set}
 
 -- the mask of a test of two lists is that of a test of their pairs
@@ -122,14 +123,14 @@ pub itself : (v : List ℕ) → v ≡ map (λ x. x) v
 itself [] = refl
 itself (x ∷ xs) = ap (λ r. x ∷ r) (itself xs)
 
-abbrev plain_byte : ℕ → Bool
-plain_byte b = between 0x20 0x7F b
+pub joined : (h : ℕ → ℕ → ℕ) (f g : ℕ → ℕ) (v : List ℕ) {a b : List ℕ} → a ≡ map f v → b ≡ map g v → zip2 h a b ≡ map (λ x. h (f x) (g x)) v
+joined h f g v p q = zip2_of_maps h f g v p q
 
-plain_lane : (stops : ℕ → Bool) (b : ℕ) → agree_below (λ x. stops x || plain_byte x) (λ _. true) 256 ≡ true → Fits w8 b → stops b ≡ false → plain_byte b ≡ true
-plain_lane stops b all fits goes = sym (ap (λ s. s || plain_byte b) goes) ∙ agree_below_at (λ x. stops x || plain_byte x) (λ _. true) 256 b all fits.fits
+plain_lane : (stops : ℕ → Bool) (b : ℕ) → agree_below (λ x. stops x || is_plain x) (λ _. true) 256 ≡ true → Fits w8 b → stops b ≡ false → is_plain b ≡ true
+plain_lane stops b all fits goes = sym (ap (λ s. s || is_plain b) goes) ∙ agree_below_at (λ x. stops x || is_plain x) (λ _. true) 256 b all fits.fits
 
 pub plain_in : (f : ℕ → ℕ) (xs z : List ℕ) (i n r : ℕ) → i + n ≤ length xs → n ≤ 64 → ((k : ℕ) → Fits w8 (get_or xs k 0))
-    → r ≡ first_set (mask_l (map (top 7) z) % 2 ^ 64) n → z ≡ map f (chunk i n xs) → agree_below (λ x. top 7 (f x) || plain_byte x) (λ _. true) 256 ≡ true → ArePlain xs i n r
+    → r ≡ first_set (mask_l (map (top 7) z) % 2 ^ 64) n → z ≡ map f (chunk i n xs) → agree_below (λ x. top 7 (f x) || is_plain x) (λ _. true) 256 ≡ true → ArePlain xs i n r
 plain_in f xs z i n r room few fits found lanes all =
     let v = chunk i n xs in
     let long = length-chunk i n xs room in
@@ -143,13 +144,47 @@ plain_in f xs z i n r room few fits found lanes all =
     }
 
 -- the bytes in front of which all are plain
-pub front_plain : (xs : List ℕ) (c : ℕ) → c ≤ length xs → ((k : ℕ) → k < c → plain_byte (get_or xs k 0) ≡ true) → (i : ℕ) → i < length (take c xs) → plain_byte (get_or (take c xs) i 0) ≡ true
-front_plain xs c le all i lt =
-    let before : i < c = omega (arith, lt, length-take-le c xs le) in
-    ap plain_byte (get_or-take c xs i 0 before) ∙ all i before
+pub front_plain : (c : ℕ) (xs : List ℕ) → ((k : ℕ) → k < c → is_plain (get_or xs k 0) ≡ true) → are_plain (take c xs) ≡ true
+front_plain zero xs all = refl
+front_plain (suc c) [] all = refl
+front_plain (suc c) (x ∷ xs) all = and_from _ _ (all 0 (omega arith)) (front_plain c xs (λ k lt. all (suc k) (omega (arith, lt))))
 
-pub whole_plain : (xs : List ℕ) (n at c r s : ℕ) → at ≤ n → ArePlain xs 0 n r → n ≤ r → ArePlain xs at n s → c ≤ at + s → (k : ℕ) → k < c → plain_byte (get_or xs k 0) ≡ true
+pub whole_plain : (xs : List ℕ) (n at c r s : ℕ) → at ≤ n → ArePlain xs 0 n r → n ≤ r → ArePlain xs at n s → c ≤ at + s → (k : ℕ) → k < c → is_plain (get_or xs k 0) ≡ true
 whole_plain xs n at c r s le front all back t k lt = elim (cases_lt k n) [
   | inl early ↦ front.plain k (omega arith) (omega (arith, early, all))
   | inr late ↦ back.plain k (omega (arith, late, le)) (omega (arith, lt, t))
 ]
+
+pub and_l : (x y : Bool) → (x && y) ≡ true → x ≡ true
+and_l true y e = refl
+and_l false y e = e
+
+pub and_r : (x y : Bool) → (x && y) ≡ true → y ≡ true
+and_r true y e = e
+and_r false y e = absurd (false≢true e)
+
+-- what is plain is from 20 to 7E, and so from 20 to 7F, and ASCII
+plain_range : (b : ℕ) → is_plain b ≡ true → between 0x20 0x7E b ≡ true
+plain_range b p = and_l (between 0x20 0x7E b) (not (eqb b 0x22)) (and_l (between 0x20 0x7E b && not (eqb b 0x22)) (not (eqb b 0x5C)) p)
+
+plain_least : (b : ℕ) → is_plain b ≡ true → leb 0x20 b ≡ true
+plain_least b p = and_l (leb 0x20 b) (leb b 0x7E) (plain_range b p)
+
+plain_most : (b : ℕ) → is_plain b ≡ true → b ≤ 0x7E
+plain_most b p = leb-true b 0x7E (and_r (leb 0x20 b) (leb b 0x7E) (plain_range b p))
+
+under_128 : (b : ℕ) → is_plain b ≡ true → b < 128
+under_128 b p = let most = plain_most b p in omega (arith, most)
+
+plain_low : (b : ℕ) → is_plain b ≡ true → between 0x20 0x7F b ≡ true
+plain_low b p = let most = plain_most b p in and_from (leb 0x20 b) (leb b 0x7F) (plain_least b p) (le-leb b 0x7F (omega (arith, most)))
+
+pub plain_ascii : (bs : List ℕ) → are_plain bs ≡ true → IsAscii bs
+plain_ascii [] p i = omega arith
+plain_ascii (b ∷ bs) p zero = under_128 b (and_l (is_plain b) (are_plain bs) p)
+plain_ascii (b ∷ bs) p (suc i) = plain_ascii bs (and_r (is_plain b) (are_plain bs) p) i
+
+pub plain_each : (bs : List ℕ) → are_plain bs ≡ true → (i : ℕ) → i < length bs → between 0x20 0x7F (get_or bs i 0) ≡ true
+plain_each [] p i lt = absurd (omega (arith, lt))
+plain_each (b ∷ bs) p zero lt = plain_low b (and_l (is_plain b) (are_plain bs) p)
+plain_each (b ∷ bs) p (suc i) lt = plain_each bs (and_r (is_plain b) (are_plain bs) p) i (omega (arith, lt))

@@ -1,18 +1,21 @@
 //! Where a text keeps its UTF-8.
 
-ghost use Rattle.std.specs.Prelude.{◌≡◌, ◌+◌, ◌<◌, ◌≤◌, ◌++◌, ◌^◌, [], length, take, encode_utf8, get_or, true, ℕ, IfOk, IfSome, IsTrue, OnErr, OnOk, ◌↔◌};
-ghost use Rattle.std.specs.Str.{IsUtf8};
-ghost use Rattle.exi_names.specs.Characters.{between};
+ghost use Rattle.std.specs.Prelude.{◌≡◌, ◌+◌, ◌≤◌, ◌++◌, [], length, take, encode_utf8, true, IfOk, IfSome, IsTrue, OnErr, OnOk, ◌↔◌};
+ghost use Rattle.std.specs.Str.{IsAscii, chars};
+ghost use Rattle.exi_names.specs.Bodies.{kept_count};
+ghost use Rattle.exi_names.specs.Characters.{are_plain};
 ghost use Rattle.std.specs.String.{string_bytes};
 
+use crate::counts::count_chars;
 use crate::lanes::{plain_front, same_front};
 use std::alloc::{AllocError, Global};
 use std::marker::Model;
 
-/// How many bytes a text keeps within itself: with their number and what tells them from a string, they take four words.
+/// How many bytes a text keeps within itself, all of them plain: with their number and what tells them from a string, they
+/// take four words.
 const ROOM: usize = 30;
 
-/// Some bytes of UTF-8 within the value itself.
+/// Some plain bytes within the value itself: each is a character.
 #[derive(Debug, Drop)]
 struct Short {
     len: u8,
@@ -20,14 +23,14 @@ struct Short {
 }
 
 impl Model for Short {
-    ghost use Rattle.std.specs.Prelude.{ℕ, List, ◌≤◌, take};
-    ghost use Rattle.std.specs.Str.{IsUtf8};
+    ghost use Rattle.std.specs.Prelude.{ℕ, List, ◌≡◌, ◌≤◌, take, true};
+    ghost use Rattle.exi_names.specs.Characters.{are_plain};
 
     ghost Value = { List ℕ };
 
     ghost view = { λ s. take s.len s.bytes };
 
-    ghost invariant = { λ s. (s.len ≤ 30) × ∥ IsUtf8 (take s.len s.bytes) ∥₁ };
+    ghost invariant = { λ s. (s.len ≤ 30) × (are_plain (take s.len s.bytes) ≡ true) };
 }
 
 impl Short {
@@ -42,12 +45,39 @@ impl Short {
         }
     }
 
-    /// The first bytes of many: all that may be among them are copied at once.
+    /// The first bytes of a room, where they are plain.
     #[inline(always)]
-    fn of_front(bytes: &[u8], count: usize) -> Short
+    fn of_room(bytes: [u8; ROOM], count: usize) -> Option<Short>
+        requires few { count ≤ 30 }
+        ensures { IfSome result (λ s. s ≡ take count bytes) }
+    {
+        if !plain_front(&bytes, count) {
+            return None;
+        }
+        Some(Short {
+            len: count as u8,
+            bytes,
+        })
+    }
+
+    /// The first bytes of many, where they are plain: all that may be among them are copied at once.
+    #[inline(always)]
+    fn of_front(bytes: &[u8], count: usize) -> Option<Short>
         requires few { count ≤ 30 }
         requires room { 30 ≤ length bytes.now }
-        requires utf8 { IsUtf8 (take count bytes.now) }
+        ensures { IfSome result (λ s. s ≡ take count bytes.now) }
+    {
+        let mut front = [0; ROOM];
+        front.copy_from_slice(&bytes[..ROOM]);
+        Short::of_room(front, count)
+    }
+
+    /// The same, of bytes that are known to be plain.
+    #[inline(always)]
+    fn of_plain(bytes: &[u8], count: usize) -> Short
+        requires few { count ≤ 30 }
+        requires room { 30 ≤ length bytes.now }
+        requires plain { are_plain (take count bytes.now) ≡ true }
         ensures { result ≡ take count bytes.now }
     {
         let mut front = [0; ROOM];
@@ -85,15 +115,16 @@ impl Short {
         more <= ROOM - usize::from(self.len)
     }
 
-    /// Puts bytes at the end.
+    /// With bytes at the end, where they are plain.
     #[inline(always)]
-    fn push_str(&mut self, text: &str)
-        requires fits { length self.old + length text.now ≤ 30 }
-        ensures { self.new ≡ self.old ++ text.now }
+    fn pushed(&self, text: &str) -> Option<Short>
+        requires fits { length self.now + length text.now ≤ 30 }
+        ensures { IfSome result (λ s. s ≡ self.now ++ text.now) }
     {
         let end = usize::from(self.len) + text.len();
-        self.bytes[usize::from(self.len)..end].copy_from_slice(text.as_bytes());
-        self.len = end as u8;
+        let mut bytes = self.bytes;
+        bytes[usize::from(self.len)..end].copy_from_slice(text.as_bytes());
+        Short::of_room(bytes, end)
     }
 
     /// The bytes.
@@ -105,11 +136,22 @@ impl Short {
     }
 }
 
-/// Where bytes lie.
+/// So many characters more than are kept of some.
+#[inline(always)]
+fn added(kept: u32, more: u64) -> u32
+    ensures { result ≡ kept_count (kept + more) }
+{
+    match u32::try_from(more) {
+        Ok(more) => kept.saturating_add(more),
+        Err(_) => u32::MAX,
+    }
+}
+
+/// Where bytes lie. The characters of a string are counted, as far as a word of 32 bits tells.
 #[derive(Debug)]
 enum Form {
     Short(Global, Short),
-    Long(String),
+    Long(u32, String),
 }
 
 /// They are let go by a call: the two forms are then no cases of whoever holds a text.
@@ -117,22 +159,24 @@ impl Drop for Form {
     fn drop(self) {
         match self {
             Form::Short(_, _) => {}
-            Form::Long(_) => {}
+            Form::Long(_, _) => {}
         }
     }
 }
 
-/// The UTF-8 of a text: few bytes within the value itself, more of them in a string.
+/// The UTF-8 of a text: few plain bytes within the value itself, others in a string.
 #[derive(Debug, Drop)]
 pub(crate) struct Body(Form);
 
 impl Model for Body {
     ghost use Rattle.std.specs.Prelude.{ℕ, List};
-    ghost use Rattle.exi_names.specs.Bodies.{form_bytes};
+    ghost use Rattle.exi_names.specs.Bodies.{IsCounted, form_bytes};
 
     ghost Value = { List ℕ };
 
     ghost view = { λ b. form_bytes b.0 };
+
+    ghost invariant = { λ b. IsCounted b.0 };
 }
 
 impl Body {
@@ -144,27 +188,37 @@ impl Body {
         Body(Form::Short(alloc, Short::new()))
     }
 
+    /// The bytes that a string holds, in the string's own memory.
+    pub(crate) fn of_string(text: String) -> Body
+        ensures { result ≡ string_bytes text }
+    {
+        let characters = added(0, count_chars(text.as_str()));
+        Body(Form::Long(characters, text))
+    }
+
     /// These bytes.
     pub(crate) fn of(alloc: Global, text: &str) -> Result<Body, AllocError>
         ensures { IfOk result (λ b. b ≡ text.now) }
     {
-        if text.len() > ROOM {
-            return Ok(Body(Form::Long(String::from_str(alloc, text)?)));
+        if text.len() <= ROOM {
+            if let Some(short) = Short::new().pushed(text) {
+                return Ok(Body(Form::Short(alloc, short)));
+            }
         }
-        let mut short = Short::new();
-        short.push_str(text);
-        Ok(Body(Form::Short(alloc, short)))
+        Ok(Body::of_string(String::from_str(alloc, text)?))
     }
 
     /// The first bytes of some.
     #[inline(always)]
     pub(crate) fn of_front(alloc: Global, bytes: &[u8], count: usize) -> Result<Body, AllocError>
         requires within { count ≤ length bytes.now }
-        requires utf8 { IsUtf8 (take count bytes.now) }
+        requires ascii { IsAscii (take count bytes.now) }
         ensures { IfOk result (λ b. b ≡ take count bytes.now) }
     {
         if count <= ROOM && bytes.len() >= ROOM {
-            return Ok(Body(Form::Short(alloc, Short::of_front(bytes, count))));
+            if let Some(short) = Short::of_front(bytes, count) {
+                return Ok(Body(Form::Short(alloc, short)));
+            }
         }
         Body::of(
             alloc,
@@ -172,29 +226,23 @@ impl Body {
         )
     }
 
-    /// Puts the first bytes of some in place of all. A string's memory is kept.
+    /// Puts the first bytes of some, which have to be plain, in place of all. A string's memory is kept.
     #[inline(always)]
     pub(crate) fn refill(&mut self, bytes: &[u8], count: usize) -> Result<(), AllocError>
         requires within { count ≤ length bytes.now }
-        requires utf8 { IsUtf8 (take count bytes.now) }
+        requires plain { are_plain (take count bytes.now) ≡ true }
         ensures ok { OnOk result (self.new ≡ take count bytes.now) }
         ensures err { OnErr result (self.new ≡ []) }
     {
         if count <= ROOM && bytes.len() >= ROOM {
-            if let Form::Short(_, short) = &mut self.0 {
-                *short = Short::of_front(bytes, count);
+            if let Form::Short(_, own) = &mut self.0 {
+                *own = Short::of_plain(bytes, count);
                 return Ok(());
             }
         }
         self.clear();
-        self.push_str(unsafe { std::str::from_utf8_unchecked(&bytes[..count]) })
-    }
-
-    /// The bytes that a string holds, in the string's own memory.
-    pub(crate) fn of_string(text: String) -> Body
-        ensures { result ≡ string_bytes text }
-    {
-        Body(Form::Long(text))
+        let text = unsafe { std::str::from_utf8_unchecked(&bytes[..count]) };
+        self.push_counted(text, count as u64)
     }
 
     /// The same bytes.
@@ -203,7 +251,7 @@ impl Body {
     {
         match &self.0 {
             Form::Short(alloc, short) => Ok(Body(Form::Short(*alloc, short.copy()))),
-            Form::Long(text) => Ok(Body(Form::Long(text.clone()?))),
+            Form::Long(characters, text) => Ok(Body(Form::Long(*characters, text.clone()?))),
         }
     }
 
@@ -225,33 +273,40 @@ impl Body {
         match &mut self.0 {
             Form::Short(alloc, short) => {
                 if !short.fits(more) {
-                    self.0 = Form::Long(Body::grown(*alloc, short, more)?);
+                    let grown = Body::grown(*alloc, short, more)?;
+                    *self = Body::of_string(grown);
                 }
                 Ok(())
             }
-            Form::Long(text) => text.reserve(more),
+            Form::Long(_, text) => text.reserve(more),
         }
     }
 
-    /// Puts bytes at the end.
+    /// Puts bytes at the end, which are so many characters.
     #[inline(always)]
-    pub(crate) fn push_str(&mut self, text: &str) -> Result<(), AllocError>
+    pub(crate) fn push_counted(&mut self, text: &str, more: u64) -> Result<(), AllocError>
+        requires counted { more ≡ length (chars text.now) }
         ensures ok { OnOk result (self.new ≡ self.old ++ text.now) }
         ensures err { OnErr result (self.new ≡ self.old) }
-        ensures small { OnOk result (length self.new < 2 ^ 63) }
     {
         match &mut self.0 {
-            Form::Short(alloc, short) => {
-                if short.fits(text.len()) {
-                    short.push_str(text);
-                    return Ok(());
+            Form::Short(alloc, own) => {
+                if own.fits(text.len()) {
+                    if let Some(short) = own.pushed(text) {
+                        *own = short;
+                        return Ok(());
+                    }
                 }
-                let mut grown = Body::grown(*alloc, short, text.len())?;
+                let mut grown = Body::grown(*alloc, own, text.len())?;
                 grown.push_str(text)?;
-                self.0 = Form::Long(grown);
+                *self = Body::of_string(grown);
                 Ok(())
             }
-            Form::Long(long) => long.push_str(text),
+            Form::Long(characters, long) => {
+                long.push_str(text)?;
+                *characters = added(*characters, more);
+                Ok(())
+            }
         }
     }
 
@@ -260,10 +315,9 @@ impl Body {
     pub(crate) fn push(&mut self, c: char) -> Result<(), AllocError>
         ensures ok { OnOk result (self.new ≡ self.old ++ encode_utf8 c) }
         ensures err { OnErr result (self.new ≡ self.old) }
-        ensures small { OnOk result (length self.new < 2 ^ 63) }
     {
         let mut buffer = [0; 4];
-        self.push_str(c.encode_utf8(&mut buffer))
+        self.push_counted(c.encode_utf8(&mut buffer), 1)
     }
 
     /// Takes all bytes away, and keeps a string's memory.
@@ -272,8 +326,27 @@ impl Body {
         ensures { self.new ≡ [] }
     {
         match &mut self.0 {
-            Form::Short(_, short) => short.len = 0,
-            Form::Long(text) => text.clear(),
+            Form::Short(_, short) => *short = Short::new(),
+            Form::Long(characters, text) => {
+                text.clear();
+                *characters = 0;
+            }
+        }
+    }
+
+    /// How many characters the bytes are.
+    #[inline(always)]
+    pub(crate) fn count(&self) -> u64
+        ensures { result ≡ length (chars self.now) }
+    {
+        match &self.0 {
+            Form::Short(_, short) => u64::from(short.len),
+            Form::Long(characters, text) => {
+                if *characters < u32::MAX {
+                    return u64::from(*characters);
+                }
+                count_chars(text.as_str())
+            }
         }
     }
 
@@ -284,7 +357,7 @@ impl Body {
     {
         match &self.0 {
             Form::Short(_, short) => short.as_str(),
-            Form::Long(text) => text.as_str(),
+            Form::Long(_, text) => text.as_str(),
         }
     }
 
@@ -299,27 +372,17 @@ impl Body {
         }
     }
 
-    /// Whether the bytes lie within and are surely plain.
-    #[inline(always)]
-    pub(crate) fn is_surely_plain(&self) -> bool
-        ensures { IsTrue result → (i : ℕ) → i < length self.now → between 0x20 0x7F (get_or self.now i 0) ≡ true }
-    {
-        match &self.0 {
-            Form::Short(_, short) => plain_front(&short.bytes, usize::from(short.len)),
-            Form::Long(_) => false,
-        }
-    }
-
-    /// The room within that has the bytes, where one has, and how many of it they are.
+    /// The room within that has the bytes, where one has, and how many of it they are: all of them plain.
     #[inline(always)]
     pub(crate) fn room(&self) -> Option<(&[u8], usize)>
         ensures bytes { IfSome result (λ r. take r.1 r.0.now ≡ self.now) }
+        ensures plain { IfSome result (λ r. are_plain self.now ≡ true) }
         ensures room { IfSome result (λ r. length r.0.now ≡ 30) }
         ensures few { IfSome result (λ r. r.1 ≤ 30) }
     {
         match &self.0 {
             Form::Short(_, short) => Some((&short.bytes, usize::from(short.len))),
-            Form::Long(_) => None,
+            Form::Long(_, _) => None,
         }
     }
 }

@@ -1,7 +1,7 @@
 //! The room of a short text, looked at sixteen bytes at once.
 
-ghost use Rattle.std.specs.Prelude.{◌≡◌, ◌+◌, ◌<◌, ◌≤◌, ◌↔◌, ℕ, true, length, take, get_or, IsTrue};
-ghost use Rattle.exi_names.specs.Characters.{between};
+ghost use Rattle.std.specs.Prelude.{◌≡◌, ◌+◌, ◌≤◌, ◌↔◌, true, length, take, IsTrue};
+ghost use Rattle.exi_names.specs.Characters.{are_plain};
 ghost use Rattle.exi_names.specs.Lanes.{ArePlain, AreSame, first_set};
 
 use std::simd::prelude::*;
@@ -51,23 +51,24 @@ pub fn same_front(bytes: &[u8], others: &[u8], count: usize) -> bool
     count <= LAST + same_lanes(bytes, others, LAST)
 }
 
-/// How many bytes from a place on, of as many as are looked at at once, are from 20 to 7F.
+/// How many bytes from a place on, of as many as are looked at at once, are plain.
 #[inline(always)]
 fn plain_lanes(bytes: &[u8], at: usize) -> usize
     requires { at + WIDE ≤ length bytes.now }
     ensures { ArePlain bytes.now at 16 result }
 {
     let lanes = u8x16::from_slice(&bytes[at..]);
-    let others = lanes.simd_lt(u8x16::splat(b' ')) | lanes.simd_ge(u8x16::splat(0x80));
-    first_set(others.to_bitmask())
+    let marks = lanes.simd_eq(u8x16::splat(b'"')) | lanes.simd_eq(u8x16::splat(b'\\'));
+    let others = lanes.simd_lt(u8x16::splat(b' ')) | lanes.simd_ge(u8x16::splat(0x7F));
+    first_set((marks | others).to_bitmask())
 }
 
-/// True only where so many bytes in front of a room of 30 are from 20 to 7F.
+/// True only where so many bytes in front of a room of 30 are plain.
 #[inline(always)]
 pub fn plain_front(bytes: &[u8], count: usize) -> bool
     requires room { length bytes.now ≡ 30 }
     requires few { count ≤ 30 }
-    ensures { IsTrue result → (i : ℕ) → i < length (take count bytes.now) → between 0x20 0x7F (get_or (take count bytes.now) i 0) ≡ true }
+    ensures { IsTrue result → are_plain (take count bytes.now) ≡ true }
 {
     let front = plain_lanes(bytes, 0);
     if front < WIDE || count <= WIDE {

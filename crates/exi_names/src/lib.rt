@@ -21,6 +21,7 @@
 mod alphabet;
 mod body;
 mod chars;
+mod counts;
 mod datatype;
 mod equality;
 mod event;

@@ -1,8 +1,8 @@
-ghost use Rattle.std.specs.Prelude.{◌≡◌, [], ◌∷◌, ◌++◌, ◌||◌, nat_lt, nat_le, ◌<◌, ◌≤◌, ℕ, true, count_by, get_or, length, take, Some, IfOk, IfSome, OnOk, OnErr, IsTrue, ◌↔◌, encode_utf8_all};
+ghost use Rattle.std.specs.Prelude.{◌≡◌, [], ◌∷◌, ◌++◌, ◌<◌, ◌≤◌, ℕ, true, get_or, length, take, Some, IfOk, IfSome, OnOk, OnErr, IsTrue, ◌↔◌, encode_utf8_all};
 ghost use Rattle.std.proofs.Common.{refl};
 ghost use Rattle.std.specs.Str.{chars, bytes_eq, IsAscii};
 ghost use Rattle.std.specs.String.{string_bytes};
-ghost use Rattle.exi_names.specs.Characters.{between};
+ghost use Rattle.exi_names.specs.Characters.{are_plain, between};
 ghost use Rattle.std.specs.Cmp.Lexicographic.{slice_cmp, nat_list_eq_equiv, nat_list_cmp_total};
 ghost use Rattle.std.specs.Ordering.{nat_cmp};
 ghost use Rattle.std.specs.Cmp;
@@ -11,6 +11,7 @@ ghost use Rattle.std.specs.Hash as fed;
 ghost use Rattle.exi_names.specs.TextLaws.{spelled_tie, fed_alike};
 
 use crate::body::Body;
+use crate::counts::count_chars;
 use std::alloc::{AllocError, Global};
 use std::cmp::Ordering;
 use std::hash::{Hash, Hasher};
@@ -19,22 +20,21 @@ use std::marker::Model;
 /// A text, seen as the list of its characters.
 ///
 /// Texts are equal where they have the same characters, and are ordered by their UTF-8. So a set of
-/// texts is looked up by `&Txt`, and holds each of them once. The number of the characters is kept.
+/// texts is looked up by `&Txt`, and holds each of them once. How many characters it has is kept.
 #[derive(Debug, Drop)]
 pub struct Txt {
-    characters: u64,
     body: Body,
 }
 
 impl Model for Txt {
-    ghost use Rattle.std.specs.Prelude.{◌≡◌, List, ℕ, length};
+    ghost use Rattle.std.specs.Prelude.{List, ℕ};
     ghost use Rattle.std.specs.Str.{IsUtf8, chars};
 
     ghost Value = { List ℕ };
 
     ghost view = { λ t. chars t.body };
 
-    ghost invariant = { λ t. (t.characters ≡ length (chars t.body)) × ∥ IsUtf8 t.body ∥₁ };
+    ghost invariant = { λ t. ∥ IsUtf8 t.body ∥₁ };
 }
 
 impl Txt {
@@ -43,7 +43,6 @@ impl Txt {
         ensures { result ≡ [] }
     {
         Txt {
-            characters: 0,
             body: Body::new(alloc),
         }
     }
@@ -57,7 +56,6 @@ impl Txt {
         ensures { IfOk result (λ t. t ≡ chars text.now) }
     {
         Ok(Txt {
-            characters: count_chars(text),
             body: Body::of(alloc, text)?,
         })
     }
@@ -75,12 +73,12 @@ impl Txt {
         ensures { IfOk result (λ t. t ≡ take count bytes.now) }
     {
         Ok(Txt {
-            characters: count as u64,
             body: Body::of_front(alloc, bytes, count)?,
         })
     }
 
-    /// Puts the first bytes of some, which have to be ASCII, in place of all characters. Memory that the text has is kept.
+    /// Puts the first bytes of some in place of all characters. They have to be plain, from 20 to 7E and neither a quote nor a
+    /// backslash. Memory that the text has is kept.
     ///
     /// # Errors
     ///
@@ -88,13 +86,11 @@ impl Txt {
     #[inline(always)]
     pub fn refill(&mut self, bytes: &[u8], count: usize) -> Result<(), AllocError>
         requires within { count ≤ length bytes.now }
-        requires ascii { IsAscii (take count bytes.now) }
+        requires plain { are_plain (take count bytes.now) ≡ true }
         ensures ok { OnOk result (self.new ≡ take count bytes.now) }
         ensures err { OnErr result (self.new ≡ []) }
     {
-        self.characters = 0;
         self.body.refill(bytes, count)?;
-        self.characters = count as u64;
         Ok(())
     }
 
@@ -102,9 +98,7 @@ impl Txt {
     pub fn from_string(text: String) -> Txt
         ensures { result ≡ chars (string_bytes text) }
     {
-        let characters = count_chars(text.as_str());
         Txt {
-            characters,
             body: Body::of_string(text),
         }
     }
@@ -118,7 +112,6 @@ impl Txt {
         ensures { IfOk result (λ t. t ≡ self.now) }
     {
         Ok(Txt {
-            characters: self.characters,
             body: self.body.copy()?,
         })
     }
@@ -134,7 +127,6 @@ impl Txt {
         ensures err { OnErr result (self.new ≡ self.old) }
     {
         self.body.push(c)?;
-        self.characters += 1;
         Ok(())
     }
 
@@ -147,8 +139,7 @@ impl Txt {
         ensures ok { OnOk result (self.new ≡ self.old ++ chars text.now) }
         ensures err { OnErr result (self.new ≡ self.old) }
     {
-        self.body.push_str(text)?;
-        self.characters += count_chars(text);
+        self.body.push_counted(text, count_chars(text))?;
         Ok(())
     }
 
@@ -164,9 +155,8 @@ impl Txt {
         ensures err { OnErr result (self.new ≡ self.old) }
     {
         // What is ASCII is UTF-8, and is each its own character.
-        self.body
-            .push_str(unsafe { std::str::from_utf8_unchecked(bytes) })?;
-        self.characters += bytes.len() as u64;
+        let text = unsafe { std::str::from_utf8_unchecked(bytes) };
+        self.body.push_counted(text, bytes.len() as u64)?;
         Ok(())
     }
 
@@ -188,7 +178,6 @@ impl Txt {
         ensures { self.new ≡ [] }
     {
         self.body.clear();
-        self.characters = 0;
     }
 
     /// How many characters the text has.
@@ -196,7 +185,7 @@ impl Txt {
     pub fn count(&self) -> u64
         ensures { result ≡ length self.now }
     {
-        self.characters
+        self.body.count()
     }
 
     /// The characters in UTF-8.
@@ -214,28 +203,28 @@ impl Txt {
         ensures same { IsTrue result ↔ (self.now ≡ other.now) }
         ensures test { result ≡ bytes_eq self.now other.now }
     {
-        // Most texts that differ have another number of characters.
-        if self.characters != other.characters {
-            return false;
-        }
         self.body.same(&other.body)
     }
 
-    /// True only where each byte of the text's UTF-8 is from 20 to 7F. A text that has no [`room`](Txt::room) may answer
-    /// false whatever its bytes are: all that a room has are looked at at once, and no more.
+    /// True only where each byte of the text's UTF-8 is from 20 to 7F. A text that has no [`room`](Txt::room) may answer false
+    /// whatever its bytes are.
     #[inline(always)]
     pub fn is_surely_plain(&self) -> bool
         ensures { IsTrue result → (i : ℕ) → i < length (encode_utf8_all self.now) → between 0x20 0x7F (get_or (encode_utf8_all self.now) i 0) ≡ true }
     {
-        self.body.is_surely_plain()
+        match self.room() {
+            Some(_) => true,
+            None => false,
+        }
     }
 
-    /// The room of 30 bytes that a short text has within itself, and how many of them are its UTF-8: the first. What lies
-    /// behind them is not told. A text whose bytes lie in a string has none, however few they are: one that is long, or was,
-    /// or came from a string.
+    /// The room of 30 bytes that a short text has within itself, and how many of them are its UTF-8: the first, each of them
+    /// plain, from 20 to 7E and neither a quote nor a backslash. What lies behind them is not told. A text whose bytes lie in a
+    /// string has none, however few they are: one that is long, or was, or has a byte that is not plain, or came from a string.
     #[inline(always)]
     pub fn room(&self) -> Option<(&[u8], usize)>
         ensures bytes { IfSome result (λ r. take r.1 r.0.now ≡ encode_utf8_all self.now) }
+        ensures plain { IfSome result (λ r. are_plain (encode_utf8_all self.now) ≡ true) }
         ensures room { IfSome result (λ r. length r.0.now ≡ 30) }
         ensures few { IfSome result (λ r. r.1 ≤ 30) }
     {
@@ -289,68 +278,4 @@ impl Hash for Txt {
     fn hash<H: Hasher>(&self, state: &mut H) {
         self.as_str().hash(state);
     }
-}
-
-/// How many characters there are.
-fn count_chars(text: &str) -> u64
-    ensures { result ≡ length (chars text.now) }
-{
-    count_begins(text.as_bytes()) as u64
-}
-
-/// How many bytes are counted at once.
-const WIDE: usize = 16;
-
-/// How many of a few bytes begin a character in UTF-8. Counts of one byte each are added side by side.
-#[inline(always)]
-fn count_few(bytes: &[u8]) -> u8
-    requires few { length bytes.now ≤ 16 }
-    ensures { result ≡ count_by (λ byte. nat_lt byte 0x80 || nat_le 0xC0 byte) bytes.now }
-{
-    let mut count: u8 = 0;
-    for byte in bytes {
-        count += u8::from(*byte < 0x80 || 0xC0 <= *byte);
-    }
-    count
-}
-
-/// How many of fewer than eight bytes begin a character in UTF-8.
-#[inline(always)]
-fn count_under_eight(bytes: &[u8]) -> usize
-    requires few { length bytes.now ≤ 7 }
-    ensures { result ≡ count_by (λ byte. nat_lt byte 0x80 || nat_le 0xC0 byte) bytes.now }
-{
-    if bytes.len() < 4 {
-        return usize::from(count_few(bytes));
-    }
-    let (front, rest) = bytes.split_at(4);
-    usize::from(count_few(front)) + usize::from(count_few(rest))
-}
-
-/// How many of fewer than sixteen bytes begin a character in UTF-8: eight, four and at most three are counted apart, so
-/// that those of a short text are soon counted too.
-#[inline(always)]
-fn count_under_sixteen(bytes: &[u8]) -> usize
-    requires few { length bytes.now ≤ 15 }
-    ensures { result ≡ count_by (λ byte. nat_lt byte 0x80 || nat_le 0xC0 byte) bytes.now }
-{
-    if bytes.len() < 8 {
-        return count_under_eight(bytes);
-    }
-    let (front, rest) = bytes.split_at(8);
-    usize::from(count_few(front)) + count_under_eight(rest)
-}
-
-/// How many of the bytes begin a character in UTF-8.
-fn count_begins(bytes: &[u8]) -> usize
-    ensures { result ≡ count_by (λ byte. nat_lt byte 0x80 || nat_le 0xC0 byte) bytes.now }
-{
-    let mut count = 0;
-    let mut left = bytes;
-    while left.len() >= WIDE {
-        let (front, rest) = left.split_at(WIDE);
-        count += usize::from(count_few(front));
-        left = rest;
-    }
-    count + count_under_sixteen(left)
 }

@@ -1,7 +1,7 @@
 use Rattle.std.proofs.Common.{◌≡◌, ◌+◌, length}
 use Rattle.std.specs.List.{count_by}
 use Rattle.exi_names.proofs.Counting.{begins}
-use Rattle.exi_names.proofs.txt.count_begins.Given as goal
+use Rattle.exi_names.proofs.counts.count_begins.Given as goal
 
 -- what is counted and what is left make the whole count
 abbrev pub invariant-loop-left : goal.invariant-loop-left
