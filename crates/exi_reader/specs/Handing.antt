@@ -324,6 +324,11 @@ HandsAny took broke (Ok None) new read before after = Hands took broke (Ok tt) n
 HandsAny took broke (Ok (Some byte)) new read before after = HandsFragment took broke (Ok byte) new read before after
 HandsAny took broke (Err h) new read before after = Hands took broke (Err h) new.config read before after
 
+-- what a call tells whose answer is whether it tells nothing, and which puts what it tells else where it is asked to
+abbrev pub told_apart : Bool → Result (Option ℕ) Halt → Result (Option ℕ) Halt
+told_apart true seldom = Ok None
+told_apart false seldom = seldom
+
 -- ---- what a step needs, and sequential processing keeps
 -- what a code tells stands in the tables
 abbrev pub StandsIn : Partitions → Telling → Type 0

@@ -19,6 +19,7 @@ ghost use Rattle.exi_reader.specs.Handing.{
   making,
   opening_to,
   telling_of,
+  told_apart,
 };
 ghost use Rattle.exi_reader.specs.Plans.{
   characters_plan,
@@ -481,8 +482,8 @@ impl<'a, T: Tables + Drop> Stepper<'a, T> {
 
     /// CH, of a datatype, inside an element: [`typed_characters`](Stepper::typed_characters), on a way of its own for each
     /// datatype that is frequent.
-    #[inline(never)]
-    pub fn typed_inside<E: EventOut>(
+    #[inline(always)]
+    fn typed_event<E: EventOut>(
         &mut self,
         bit: u64,
         datatype: &Datatype,
@@ -517,6 +518,72 @@ impl<'a, T: Tables + Drop> Stepper<'a, T> {
             | Datatype::Chars(_)
             | Datatype::Name { .. } => self.typed_apart(bit, datatype, to, out),
         }
+    }
+
+    /// The same, apart. It answers whether there is nothing more to tell, and puts what there is in `seldom`: the frequent way
+    /// writes no answer.
+    #[inline(never)]
+    fn typed_inside_apart<E: EventOut>(
+        &mut self,
+        bit: u64,
+        datatype: &Datatype,
+        to: u32,
+        out: &mut E,
+        seldom: &mut Result<Option<u64>, Halt>,
+    ) -> bool
+        requires few { NoneLonger (2 ^ 31) self.old.config.tables }
+        requires roomy { IsRoomy self.old.config.meter self.old.config.tables }
+        requires name { IsName self.old.config.tables (innermost self.old.config.elements) }
+        requires learns { CanLearn (room_in self.old.config.elements self.old.config.outer) self.old.config.learned }
+        ensures hands { HandsAny E.took E.broke (told_apart result seldom.new) self.new
+            (making self.old.bytes bit (characters_plan self.old.setting nowhere self.old.config.elements (represented datatype.now) (leading_to to)) self.old.config) out.old out.new }
+        ensures setting { self.new.setting ≡ self.old.setting }
+        ensures bytes { self.new.bytes ≡ self.old.bytes }
+        ensures root { OnFault (told_apart result seldom.new) (self.new.config.root ≡ self.old.config.root) }
+        ensures same { E.same out.old out.new }
+        ensures later { E.stops out.old ≤ E.stops out.new }
+        ensures stopped { IsErrOf (told_apart result seldom.new) Halt.Stopped → Rose (E.stops out.old) (E.stops out.new) }
+    {
+        match self.typed_event(bit, datatype, to, out) {
+            Ok(None) => true,
+            Ok(Some(byte)) => {
+                *seldom = Ok(Some(byte));
+                false
+            }
+            Err(halt) => {
+                *seldom = Err(halt);
+                false
+            }
+        }
+    }
+
+    /// CH, of a datatype, inside an element, in a call of its own.
+    #[inline(always)]
+    pub fn typed_inside<E: EventOut>(
+        &mut self,
+        bit: u64,
+        datatype: &Datatype,
+        to: u32,
+        out: &mut E,
+    ) -> Result<Option<u64>, Halt>
+        requires few { NoneLonger (2 ^ 31) self.old.config.tables }
+        requires roomy { IsRoomy self.old.config.meter self.old.config.tables }
+        requires name { IsName self.old.config.tables (innermost self.old.config.elements) }
+        requires learns { CanLearn (room_in self.old.config.elements self.old.config.outer) self.old.config.learned }
+        ensures hands { HandsAny E.took E.broke result self.new
+            (making self.old.bytes bit (characters_plan self.old.setting nowhere self.old.config.elements (represented datatype.now) (leading_to to)) self.old.config) out.old out.new }
+        ensures setting { self.new.setting ≡ self.old.setting }
+        ensures bytes { self.new.bytes ≡ self.old.bytes }
+        ensures root { OnFault result (self.new.config.root ≡ self.old.config.root) }
+        ensures same { E.same out.old out.new }
+        ensures later { E.stops out.old ≤ E.stops out.new }
+        ensures stopped { IsErrOf result Halt.Stopped → Rose (E.stops out.old) (E.stops out.new) }
+    {
+        let mut seldom = Ok(None);
+        if self.typed_inside_apart(bit, datatype, to, out, &mut seldom) {
+            return Ok(None);
+        }
+        seldom
     }
 
     /// EE.

@@ -36,7 +36,14 @@ pub fn opener(book: &Book, name: NameRef<'_>, inner: Option<u32>) -> Option<u32>
 {
     match inner {
         Some(grammar) => Some(grammar),
-        None => element_grammar(book.schema().globals(), name),
+        None => {
+            // Without a schema there is none, and the name need not be looked at.
+            let globals = book.schema().globals();
+            if globals.is_empty() {
+                return None;
+            }
+            element_grammar(globals, name)
+        }
     }
 }
 

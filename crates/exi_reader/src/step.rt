@@ -2,7 +2,7 @@ ghost use Rattle.std.specs.Prelude.{◌≡◌, ◌≤◌, None, IsErrOf};
 ghost use Rattle.exi_names.specs.Events.{Rose};
 ghost use Rattle.exi_names.specs.Datatypes as datatype;
 ghost use Rattle.exi_names.specs.Datatypes.{represented};
-ghost use Rattle.exi_reader.specs.Handing.{HandsAny, HasLevels, HasNames, HasRoom, IsSteady, OnFault, alone_of, making, rule_in, telling_of};
+ghost use Rattle.exi_reader.specs.Handing.{HandsAny, HasLevels, HasNames, HasRoom, IsSteady, OnFault, alone_of, making, rule_in, telling_of, told_apart};
 ghost use Rattle.exi_reader.specs.OneEvent.{followed, moved_limit, one};
 ghost use Rattle.exi_reader.specs.Plans.{alone_in, nowhere, plan_on};
 ghost use Rattle.exi_reader.specs.Rules.{attribute, built_in_terminal, characters, element, end_element, untyped};
@@ -497,9 +497,9 @@ impl<'a, T: Tables + Drop> Stepper<'a, T> {
         }
     }
 
-    /// One event, by any rule. It stands apart, so that [`step`](Stepper::step) is small enough to be taken in line.
-    #[inline(never)]
-    fn any_step<E: EventOut>(&mut self, bit: u64, out: &mut E) -> Result<Option<u64>, Halt>
+    /// One event, by any rule.
+    #[inline(always)]
+    fn any_event<E: EventOut>(&mut self, bit: u64, out: &mut E) -> Result<Option<u64>, Halt>
         requires steady { IsSteady self.old }
         requires bit { bit ≡ self.old.config.place }
         ensures hands { HandsAny E.took E.broke result self.new (one self.old.setting self.old.bytes self.old.config) out.old out.new }
@@ -521,6 +521,58 @@ impl<'a, T: Tables + Drop> Stepper<'a, T> {
             Err(fault) => return Err(Halt::Fault(fault)),
         };
         self.follow_seldom(bit, alone, rule, out)
+    }
+
+    /// The same, apart, so that [`step`](Stepper::step) is small enough to be taken in line. It answers whether there is nothing
+    /// more to tell, and puts what there is in `seldom`: the frequent way writes no answer.
+    #[inline(never)]
+    fn any_step_apart<E: EventOut>(
+        &mut self,
+        bit: u64,
+        out: &mut E,
+        seldom: &mut Result<Option<u64>, Halt>,
+    ) -> bool
+        requires steady { IsSteady self.old }
+        requires bit { bit ≡ self.old.config.place }
+        ensures hands { HandsAny E.took E.broke (told_apart result seldom.new) self.new (one self.old.setting self.old.bytes self.old.config) out.old out.new }
+        ensures setting { self.new.setting ≡ self.old.setting }
+        ensures bytes { self.new.bytes ≡ self.old.bytes }
+        ensures root { OnFault (told_apart result seldom.new) (self.new.config.root ≡ self.old.config.root) }
+        ensures same { E.same out.old out.new }
+        ensures later { E.stops out.old ≤ E.stops out.new }
+        ensures stopped { IsErrOf (told_apart result seldom.new) Halt.Stopped → Rose (E.stops out.old) (E.stops out.new) }
+    {
+        match self.any_event(bit, out) {
+            Ok(None) => true,
+            Ok(Some(byte)) => {
+                *seldom = Ok(Some(byte));
+                false
+            }
+            Err(halt) => {
+                *seldom = Err(halt);
+                false
+            }
+        }
+    }
+
+    /// One event, by any rule, in a call of its own.
+    #[inline(always)]
+    fn any_step<E: EventOut>(&mut self, bit: u64, out: &mut E) -> Result<Option<u64>, Halt>
+        requires steady { IsSteady self.old }
+        requires bit { bit ≡ self.old.config.place }
+        ensures hands { HandsAny E.took E.broke result self.new (one self.old.setting self.old.bytes self.old.config) out.old out.new }
+        ensures setting { self.new.setting ≡ self.old.setting }
+        ensures bytes { self.new.bytes ≡ self.old.bytes }
+        ensures root { OnFault result (self.new.config.root ≡ self.old.config.root) }
+        ensures same { E.same out.old out.new }
+        ensures later { E.stops out.old ≤ E.stops out.new }
+        ensures stopped { IsErrOf result Halt.Stopped → Rose (E.stops out.old) (E.stops out.new) }
+    {
+        let mut seldom = Ok(None);
+        if self.any_step_apart(bit, out, &mut seldom) {
+            return Ok(None);
+        }
+        seldom
     }
 
     /// One event.

@@ -4,7 +4,7 @@ use Rattle.exi_reader.specs.Handing.{HandsAny, Standing, alone_of}
 use Rattle.exi_reader.specs.Plans.{Given, alone_in}
 use Rattle.exi_reader.proofs.StepParts.{one_without}
 use Rattle.exi_reader.proofs.Stepping.{step_followed, step_forms, step_levels, step_names, step_room}
-use Rattle.exi_reader.proofs.stepper.Stepper.any_step.Goals as goal
+use Rattle.exi_reader.proofs.stepper.Stepper.any_event.Goals as goal
 
 pub returns-in-Err-clause-hands : goal.returns-in-Err-clause-hands
 returns-in-Err-clause-hands g c = (
