@@ -16,7 +16,7 @@ exi: $(shell find crates/*/src crates/*/specs crates/*/proofs) crates.txt HANDLE
 demo:
 	@tools/demo
 
-# What the gate runs: each proof, test and edit that has to be refused, and the program end to end.
+# What the gate runs: each proof and test, wrong bodies that have to be refused, and the program end to end.
 test:
 	@tests/progress
 
