@@ -6,6 +6,7 @@ ghost use Rattle.exi_gram.specs.Switches.{conflicts};
 ghost use Rattle.exi_reader.specs.Reading.{IsJob, IsStartIn, job_of};
 
 use crate::agree::agreed;
+use crate::books::book_of;
 use crate::ends::push_end;
 use crate::fields::bytes_of;
 use crate::lines::Lines;
@@ -36,6 +37,35 @@ pub fn answer(alloc: Global, fields: &[&str]) -> Result<Option<String>, AllocErr
     match bytes_of(alloc, hex)? {
         Some(bytes) => told(alloc, flags, limits, start, bytes.as_slice()),
         None => Ok(None),
+    }
+}
+
+/// `informed FLAGS EVENTS:TEXT:DEPTH START HEX SCHEMA`: a body by the schema that an event text says. What was charged is left
+/// out of the answer.
+pub fn answer_informed(alloc: Global, fields: &[&str]) -> Result<Option<String>, AllocError> {
+    let ["informed", flags, limits, start, hex, schema] = fields else {
+        return Ok(None);
+    };
+    let (Some(limits), Some(options)) = (limits_of(limits), options_of(flags)) else {
+        return Ok(None);
+    };
+    let (Some(bytes), Some(schema)) = (bytes_of(alloc, hex)?, bytes_of(alloc, schema)?) else {
+        return Ok(None);
+    };
+    let Some(book) = book_of(alloc, options, schema.as_slice())? else {
+        return Ok(None);
+    };
+    match told_by(alloc, &book, limits, start, bytes.as_slice())? {
+        Some(text) => Ok(Some(without_tally(alloc, text.as_str())?)),
+        None => Ok(None),
+    }
+}
+
+/// An answer without what was charged.
+fn without_tally(alloc: Global, text: &str) -> Result<String, AllocError> {
+    match text.rsplit_once(" tally ") {
+        Some((front, _)) => String::from_str(alloc, front),
+        None => String::from_str(alloc, text),
     }
 }
 
@@ -120,7 +150,7 @@ fn also_by_turns(
 }
 
 /// Three numbers, none of them above the limit of a stream.
-fn limits_of(text: &str) -> Option<Limits> {
+pub fn limits_of(text: &str) -> Option<Limits> {
     let (events, others) = text.split_once(':')?;
     let (text, depth) = others.split_once(':')?;
     let events = events.parse::<u64>().ok()?;

@@ -61,6 +61,22 @@ fn schema_of(alloc: Global, events: &[Event]) -> Result<Schema, SchemaStop> {
     Ok(known.schema)
 }
 
+/// The book by the schema that an event text says, where it says one.
+pub fn book_of(alloc: Global, options: Options, text: &[u8]) -> Result<Option<Book>, AllocError>
+    requires no_conflict { conflicts options ≡ false }
+{
+    let events = match parse_events(alloc, text) {
+        Ok(events) => events,
+        Err(TextStop::Syntax(_)) => return Ok(None),
+        Err(TextStop::Memory) => return Err(AllocError),
+    };
+    match schema_of(alloc, events.as_slice()) {
+        Ok(schema) => Ok(Some(book(alloc, schema, options)?)),
+        Err(SchemaStop::Fault(_)) => Ok(None),
+        Err(SchemaStop::Memory) => Err(AllocError),
+    }
+}
+
 /// The answer for the events of a document.
 fn of_events(alloc: Global, options: Options, events: &[Event]) -> Result<String, AllocError>
     requires no_conflict { conflicts options ≡ false }

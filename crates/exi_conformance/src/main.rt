@@ -13,8 +13,10 @@
 //! place DATATYPE TEXT           the place of the value in an enumeration, or none
 //! write DATATYPE ALIGN SKIP TEXT    HEX BITS, or none
 //! body FLAGS EVENTS:TEXT:DEPTH START HEX    events and end: see the module `bodies`
+//! informed FLAGS EVENTS:TEXT:DEPTH START HEX SCHEMA    the same by a schema: see the module `bodies`
 //! book FLAGS HEX                every grammar of a schema with its codes: see the module `books`
 //! codes FLAGS                   the codes of a stream without a schema: see the module `codes`
+//! compose FLAGS EVENTS:TEXT:DEPTH HEX [SCHEMA]    what is written of events: see the module `composes`
 //! events HEX                    the events of a text: see the module `events`
 //! header FLAGS BLOCK MOST CAPACITY ID TOLD COOKIE    what is written of options: see the module `headers`
 //! tables MOST CAPACITY CALL ..  what each call answers: see the module `tables`
@@ -29,6 +31,7 @@ mod bodies;
 mod books;
 mod calls;
 mod codes;
+mod composes;
 mod datatypes;
 mod ends;
 mod events;
@@ -64,7 +67,9 @@ fn answer_by(alloc: Global, fields: &[&str]) -> Result<Option<String>, AllocErro
         ["value" | "place" | "write", ..] => texts::answer(alloc, fields),
         ["book", ..] => books::answer(alloc, fields),
         ["body", ..] => bodies::answer(alloc, fields),
+        ["informed", ..] => bodies::answer_informed(alloc, fields),
         ["codes", ..] => codes::answer(alloc, fields),
+        ["compose", ..] => composes::answer(alloc, fields),
         ["events", ..] => events::answer(alloc, fields),
         ["header", ..] => headers::answer(alloc, fields),
         ["tables", ..] => tables::answer(alloc, fields),
