@@ -14,7 +14,7 @@ use Rattle.exi_reader.specs.declared.halt.Halt.TheVariants as halt
 
 module _ {T : Type 0} (took : T → List Happening → T → Type 0) (broke : T → Happening → T → Type 0) (bit : ℕ) (made read : Result Given Failure) (is : read ≡ at_event bit made) (before after : T) where
   pub hands_none : (c : Config) → Hands took broke (Ok tt) c made before after → Hands took broke (Ok tt) c read before after
-  hands_none c h = (h.0, is ∙ ap (at_event bit) h.1, h.2)
+  hands_none c h = (h.0, is ∙ ap (at_event bit) h.1, h.2, h.3)
 
   pub hands_some : (byte : ℕ) (s : Standing) → HandsFragment took broke (Ok byte) s made before after → HandsFragment took broke (Ok byte) s read before after
   hands_some byte s h = (is ∙ ap (at_event bit) h.0, h.1)

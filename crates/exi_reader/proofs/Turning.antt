@@ -293,7 +293,7 @@ module _ {T : Type 0} (took : T → List Happening → T → Type 0) (broke : T 
   turn_in s = turn s.setting s.bytes s.config
 
   went : (s new : Standing) → HandsAny took broke (Ok None) new (step_of s) before after → has_ended new.config ≡ false → Turns took broke (Ok told.Went) (view s false) (view new false) before after
-  went s new h k = (h.0, turn_went s.setting s.bytes s.config new.config h.0 h.1 k, refl, h.2)
+  went s new h k = (h.0, turn_went s.setting s.bytes s.config new.config h.0 h.1 k, refl, h.2, h.3)
 
   pub turns_went : (s new : Standing) (w : Bool) (r : Reading) → view s w ≡ r → r.waits ≡ false → HandsAny took broke (Ok None) new (step_of s) before after → has_ended new.config ≡ false → Turns took broke (Ok told.Went) r (view new w) before after
   turns_went s new true r e g h k = true_no_false (going s true r e g)

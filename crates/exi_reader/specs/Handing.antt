@@ -36,6 +36,7 @@ use Rattle.exi_reader.specs.Changes as changes
 use Rattle.exi_reader.specs.Changes.{Effect, effect_of, effected, emptied, emptied_elements, has_level, innermost, leads, moved_elements, moves, outer_behind, put_aside, restated, retyped, room_in, root_in, stays}
 use Rattle.exi_reader.specs.Configurations.{Body, Config, Setting, body_outer, built_in, read_state_in, reached, rules_of, spot_in}
 use Rattle.exi_reader.specs.Contents.{attribute_value_at}
+use Rattle.exi_reader.specs.Fragments.{fragments_in}
 use Rattle.exi_reader.specs.OneEvent.{behind, event_charge, level_charge, remembered, unless}
 use Rattle.exi_reader.specs.Plans.{Given, Plan, barred_in, is_event, no_element, wrong_element}
 use Rattle.exi_reader.specs.Plans as plans
@@ -214,10 +215,10 @@ abbrev pub push_halt : PushStop → Halt
 push_halt push.Memory = halt.Memory
 push_halt push.Stopped = halt.Stopped
 
--- The event was handed on, or there was none; or the content is at fault, with all charges before; or memory was refused,
--- before or behind the event; or the event stopped what takes the events.
+-- The event was handed on, or there was none, and no fragment begins; or the content is at fault, with all charges before; or
+-- memory was refused, before or behind the event; or the event stopped what takes the events.
 abbrev pub Hands : {T : Type 0} → (T → List Happening → T → Type 0) → (T → Happening → T → Type 0) → Result (Unit {0}) Halt → Config → Result Given Failure → T → T → Type 0
-Hands took broke (Ok x) new read before after = (e : Option Happening) × (read ≡ Ok (e, new)) × took before (listed e) after
+Hands took broke (Ok x) new read before after = (e : Option Happening) × (read ≡ Ok (e, new)) × took before (listed e) after × (fragments_in (listed e) ≡ 0)
 Hands took broke (Err (halt.Fault f)) new read before after = (read ≡ Err (record { fault = f; meter = new.meter })) × took before [] after
 Hands took broke (Err halt.Memory) new read before after = took before [] after ⊎ ((e : Happening) × (next : Config) × (read ≡ Ok (Some e, next)) × took before (e ∷ []) after)
 Hands took broke (Err halt.Stopped) new read before after = (e : Happening) × (next : Config) × (read ≡ Ok (Some e, next)) × broke before e after

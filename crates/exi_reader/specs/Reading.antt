@@ -7,6 +7,7 @@ use Rattle.exi_names.specs.Events.{Happening}
 use Rattle.exi_names.specs.Events as event
 use Rattle.exi_names.specs.StartTables.{IsStart}
 use Rattle.exi_reader.specs.Configurations.{Config, IsSetting, Setting, first_config}
+use Rattle.exi_reader.specs.Fragments.{fragments_in}
 use Rattle.exi_reader.specs.Handing.{listed}
 use Rattle.exi_reader.specs.Runs.{Job, IsSequence, Leads, Turn, closing, ends, goes, turn}
 use Rattle.exi_reader.specs.declared.end.End.{End}
@@ -70,10 +71,10 @@ abbrev pub event_of : Turn → Option Happening
 event_of (goes e next) = e
 event_of (ends e end) = e
 
--- The turn of the definition was made, and its event handed on, if there is one; or memory was refused, before or behind
--- the event; or the event stopped what takes the events
+-- The turn of the definition was made, and its event handed on, if there is one: where reading just goes on, it begins no
+-- fragment; or memory was refused, before or behind the event; or the event stopped what takes the events
 abbrev pub Turns : {T : Type 0} → (T → List Happening → T → Type 0) → (T → Happening → T → Type 0) → Result Made ReadStop → Reading → Reading → T → T → Type 0
-Turns took broke (Ok told.Went) old new before after = (e : Option Happening) × (turn old.setting old.bytes old.config ≡ goes e new.config) × (new.waits ≡ false) × took before (listed e) after
+Turns took broke (Ok told.Went) old new before after = (e : Option Happening) × (turn old.setting old.bytes old.config ≡ goes e new.config) × (new.waits ≡ false) × took before (listed e) after × (fragments_in (listed e) ≡ 0)
 Turns took broke (Ok (told.AtFragment byte)) old new before after = (turn old.setting old.bytes old.config ≡ goes (Some (event.sc byte)) new.config) × (new.waits ≡ true) × took before (event.sc byte ∷ []) after
 Turns took broke (Ok (told.Ended end)) old new before after = (e : Option Happening) × (turn old.setting old.bytes old.config ≡ ends e end) × took before (listed e) after
 Turns took broke (Err stop.Memory) old new before after = took before [] after ⊎ ((e : Happening) × (event_of (turn old.setting old.bytes old.config) ≡ Some e) × took before (e ∷ []) after)

@@ -1,4 +1,4 @@
-use Rattle.std.proofs.Common.{Some}
+use Rattle.std.proofs.Common.{Some, refl}
 use Rattle.exi_names.specs.Datatypes as datatype
 use Rattle.exi_names.specs.Events as event
 use Rattle.exi_names.specs.Seen as value
@@ -15,6 +15,7 @@ returns-in_ok-see_text-in-Stands-clause-hands g c = (
       (string_item _ _ _ _ _ (rw (c.in-Stands.is, c.innermost-name.ensures, c.align-align.ensures, c.options.ensures.options) at c.in_ok-text.ensures.read))
       c.in_ok-refuse.ensures),
   c.in_ok-see_text-in-Stands.ensures.ok,
+  refl,
 )
 
 pub returns-in_ok-add_value-in-Missed-clause-hands : goal.returns-in_ok-add_value-in-Missed-clause-hands
@@ -25,4 +26,5 @@ returns-in_ok-add_value-in-Missed-clause-hands g c = (
       (string_item _ _ _ _ _ (rw (c.in-Missed.is, c.innermost-name.ensures, c.align-align.ensures, c.options.ensures.options) at c.in_ok-text.ensures.read))
       c.in_ok-refuse.ensures),
   c.in_ok-see_text-in-Missed.ensures.ok,
+  refl,
 )

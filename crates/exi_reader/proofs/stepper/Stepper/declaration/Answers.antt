@@ -1,4 +1,4 @@
-use Rattle.std.proofs.Common.{Some}
+use Rattle.std.proofs.Common.{Some, refl}
 use Rattle.exi_names.specs.Events as event
 use Rattle.exi_typed.specs.Places.{declaration_in}
 use Rattle.exi_typed.specs.Strings.{Declaration}
@@ -14,4 +14,5 @@ returns-clause-hands g c =
       rw (← c.self.view_is, c.go_to.ensures.elements, c.go_to.ensures.outer)
           (made_by _ _ (declaration_plan c.self.inside.book.now (alone_of c.args.alone) (leading_to c.args.to)) _ d _ (rw (c.align-align.ensures, c.options.ensures.options) at c.in_ok-declaration.ensures.read) c.in_ok-refuse.ensures),
       rw (c.declaration_texts.ensures.uri, c.declaration_texts.ensures.prefix) at c.in_ok-see.ensures.ok,
+      refl,
     )

@@ -1,4 +1,4 @@
-use Rattle.std.proofs.Common.{Some, None, true, false, sym, ◌∙◌}
+use Rattle.std.proofs.Common.{Some, None, true, false, sym, ◌∙◌, refl}
 use Rattle.exi_names.specs.Events as event
 use Rattle.exi_typed.specs.Places.{name_in}
 use Rattle.exi_reader.proofs.StepParts.{element_told}
@@ -10,6 +10,7 @@ returns-then-is_event-clause-hands g c = (
   rw (← c.self.view_is, c.in_ok-open.ensures.elements, c.in_ok-open.ensures.learned, c.opener-inner.ensures, c.go_to.ensures.elements, c.go_to.ensures.outer, c.in_ok-learn_name.ensures.ok, c.in_ok-meet_root.ensures.1, c.name_ref-told.ensures)
       (element_told c.self.inside.book.now _ _ _ _ _ _ _ _ _ c.in_ok-name.ensures.read (rw (c.name_ref-told.ensures) at c.in_ok-meet_root.ensures.0) true (sym c.is_event.ensures ∙ c.if-is_event.true)),
   rw (c.name_ref-told.ensures) at c.in_ok-see_start.ensures.ok,
+  refl,
 )
 
 pub returns-clause-hands : goal.returns-clause-hands
@@ -18,4 +19,5 @@ returns-clause-hands g c = (
   rw (← c.self.view_is, c.in_ok-open.ensures.elements, c.in_ok-open.ensures.learned, c.opener-inner.ensures, c.go_to.ensures.elements, c.go_to.ensures.outer, c.in_ok-learn_name.ensures.ok, c.in_ok-meet_root.ensures.1, c.name_ref-told.ensures)
       (element_told c.self.inside.book.now _ _ _ _ _ _ _ _ _ c.in_ok-name.ensures.read (rw (c.name_ref-told.ensures) at c.in_ok-meet_root.ensures.0) false (sym c.is_event.ensures ∙ c.if-is_event.false)),
   g.met.E.EventOut.none c.args.out.now,
+  refl,
 )

@@ -1,4 +1,4 @@
-use Rattle.std.proofs.Common.{Some, None, true, false, sym, ◌∙◌}
+use Rattle.std.proofs.Common.{Some, None, true, false, sym, ◌∙◌, refl}
 use Rattle.exi_names.specs.Events as event
 use Rattle.exi_reader.proofs.StepParts.{end_event, end_within}
 use Rattle.exi_reader.proofs.stepper.Stepper.end_document.Goals as goal
@@ -8,6 +8,7 @@ returns-then-is_event-clause-hands g c = (
   Some event.ed,
   rw (← c.self.view_is) (end_event _ _ _ _ (sym c.is_event.ensures ∙ c.if-is_event.true)),
   c.in_ok-see.ensures.ok,
+  refl,
 )
 
 pub returns-in-Some-clause-hands : goal.returns-in-Some-clause-hands
@@ -16,4 +17,5 @@ returns-in-Some-clause-hands g c = (
   rw (← c.self.view_is, c.skip_to_byte.ensures.place, c.into_parts-tables.ensures.tables, c.into_parts-tables.ensures.learned, c.into_parts-tables.ensures.elements, c.into_parts-tables.ensures.outer, c.leave.ensures.value)
       (end_within _ _ _ _ _ _ (sym c.is_event.ensures ∙ c.if-is_event.false) c.in_ok-refuse.ensures c.in-Some.ensures),
   g.met.E.EventOut.none c.args.out.now,
+  refl,
 )

@@ -11,4 +11,5 @@ returns-clause-hands g c = (
   rw (← c.self.view_is, c.close.ensures.elements, c.close.ensures.meter, c.in_ok-learn.ensures.ok)
       (made_by _ _ (element_end_plan (alone_of c.args.alone)) _ tt _ refl c.in_ok-refuse.ensures),
   c.in_ok-see_end.ensures.ok,
+  refl,
 )

@@ -1,4 +1,4 @@
-use Rattle.std.proofs.Common.{Some}
+use Rattle.std.proofs.Common.{Some, refl}
 use Rattle.exi_names.specs.Events as event
 use Rattle.exi_reader.specs.Handing.{alone_of, leading_to}
 use Rattle.exi_reader.specs.Plans.{entity_plan}
@@ -11,4 +11,5 @@ returns-clause-hands g c = (
   rw (← c.self.view_is, c.go_to.ensures.elements, c.go_to.ensures.outer)
       (made_by _ _ (entity_plan c.self.inside.book.now (alone_of c.args.alone) (leading_to c.args.to)) _ c.in_ok-name.name _ c.in_ok-name.ensures.read c.in_ok-refuse.ensures),
   c.in_ok-see.ensures.ok,
+  refl,
 )

@@ -8,4 +8,5 @@ returns-clause-hands g c = (
   Some (event.ch (seen c.args.value.now)),
   rw (← c.self.view_is, c.go_to.ensures.elements, c.go_to.ensures.outer, c.in_ok-learn.ensures.ok) refl,
   c.in_ok-see_characters.ensures.ok,
+  refl,
 )

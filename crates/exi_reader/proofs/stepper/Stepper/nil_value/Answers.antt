@@ -1,4 +1,4 @@
-use Rattle.std.proofs.Common.{◌≡◌, Some, sym, ap, subst, ◌∙◌}
+use Rattle.std.proofs.Common.{◌≡◌, Some, sym, ap, subst, ◌∙◌, refl}
 use Rattle.std.proofs.lemmas.Result.{err_from_is_err_and}
 use Rattle.exi_bits.specs.declared.fault.Kind.TheVariants as kind
 use Rattle.exi_names.specs.Events as event
@@ -42,4 +42,5 @@ returns-clause-hands g c =
       Some (event.at (name_in (g.T.Tables.held c.self.inside.tables) c.args.name).name (seen c.in_ok-value.value)),
       rw (← c.self.view_is, c.empty_by.ensures) (made_emptying c.self.inside.book.now _ c.args.bit (alone_of c.args.alone) (name_in (g.T.Tables.held c.self.inside.tables) c.args.name) c.args.to _ (seen c.in_ok-value.value) _ c.requires.nil c.in_ok-value.ensures.read c.in_ok-refuse.ensures),
       rw (told) at c.in_ok-see_value.ensures.ok,
+      refl,
     )

@@ -1,4 +1,4 @@
-use Rattle.std.proofs.Common.{◌≡◌, Some, sym, ap, subst, ◌∙◌}
+use Rattle.std.proofs.Common.{◌≡◌, Some, sym, ap, subst, ◌∙◌, refl}
 use Rattle.std.proofs.lemmas.Result.{err_from_is_err_and}
 use Rattle.exi_names.specs.Events as event
 use Rattle.exi_names.specs.Seen as value
@@ -35,4 +35,5 @@ returns-clause-hands g c =
       Some (event.at (name_in (g.T.Tables.held c.self.inside.tables) c.args.name).name (value.name (name_in (g.T.Tables.held c.read_type.new.tables) c.in_ok-found.found.name).name)),
       rw (← c.self.view_is, c.retype.ensures.elements, c.retype.ensures.outer) (made_typing c.self.inside.book.now _ _ _ c.args.valuing (name_in (g.T.Tables.held c.self.inside.tables) c.args.name) c.args.to _ _ _ _ c.requires.acts c.in_ok-found.ensures.read c.in_ok-refuse.ensures c.in_ok-found.ensures.grammar),
       rw (told, found) at c.in_ok-see_name.ensures.ok,
+      refl,
     )
