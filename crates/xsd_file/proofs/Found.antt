@@ -1,18 +1,18 @@
 -- What the bytes of a schema document make known, once and for all.
-use Rattle.std.proofs.Common.{◌≡◌, ◌≤◌, ◌+◌, ◌^◌, ℕ, List, [], ◌∷◌, ◌++◌, length, map, Option, Some, None, Result, Ok, Err, refl, sym, ap, ◌∙◌, subst, arith}
-use Rattle.std.proofs.lemmas.List.{length-append}
+use Rattle.std.proofs.Common.{◌≡◌, ◌≤◌, ◌+◌, ◌^◌, ℕ, List, [], ◌∷◌, ◌++◌, length, Option, Some, None, Result, Ok, Err, refl, sym, ap, ◌∙◌, subst, arith}
 use Rattle.exi_bits.specs.declared.fault.Fault.{Fault}
 use Rattle.exi_header.specs.declared.header.Header.{Header}
 use Rattle.exi_meter.specs.Metering.{Bounds}
 use Rattle.exi_names.specs.Events.{Happening}
-use Rattle.exi_opening.specs.Openings.{job_of}
+use Rattle.exi_opening.specs.Openings.{job_of, setting_of}
 use Rattle.exi_reader.proofs.Sequences.{leads_count}
 use Rattle.exi_reader.specs.Laws.{ASequenceIsThere, OneSequence}
+use Rattle.exi_reader.specs.Configurations.{Setting}
 use Rattle.exi_reader.specs.Runs.{IsSequence, Job, events_of, first}
 use Rattle.exi_reader.specs.declared.end.End.{End}
 use Rattle.exi_reader.specs.declared.start.Start.{Start}
 use Rattle.exi_reader.specs.declared.start.Start.TheVariants as start
-use Rattle.xsd_file.specs.Documents.{Comes, IsProcessed, ReadsFrom, IsBody, IsDocument, IsDocumentFrom, by_end, document_bounds, document_header}
+use Rattle.xsd_file.specs.Documents.{Comes, IsProcessed, Reads, ReadsFrom, IsBody, IsDocument, IsDocumentFrom, by_end, document_bounds, document_header}
 use Rattle.xsd_file.specs.Laws.{ADocumentIsThere, OneDocument}
 use Rattle.xsd_file.specs.declared.refusal.SchemaRefusal.{SchemaRefusal}
 use Rattle.xsd_file.specs.declared.refusal.SchemaRefusal.TheVariants as refusal
@@ -80,3 +80,14 @@ pub comes_from : (j : Job) (es : List Happening) (last : End) (r : Result KnownS
 comes_from j es last (Ok found) p c = (es, last, p, sym c)
 comes_from j es last (Err (halt.Refused why)) p c = (es, last, p, sym c)
 comes_from j es last (Err halt.Memory) p c = tt
+
+-- what a body makes known is what the document does whose header stands before it
+document_from : (bytes : List ℕ) (h : Header) (s : Setting) (found : Result Known SchemaRefusal) → document_header bytes ≡ Ok h → s ≡ setting_of h.options → IsBody (record { setting = s; bytes = bytes; body = h.body }) found → IsDocument bytes found
+document_from bytes h s found is same b =
+    subst (λ (d : Result Header Fault). IsDocumentFrom bytes d found) (sym is)
+    (subst (λ (z : Setting). IsBody (record { setting = z; bytes = bytes; body = h.body }) found) same b)
+
+pub reads_behind : (bytes : List ℕ) (h : Header) (s : Setting) (r : Result KnownSchema SchemaHalt) → document_header bytes ≡ Ok h → s ≡ setting_of h.options → ReadsFrom (record { setting = s; bytes = bytes; body = h.body }) r → Reads bytes r
+reads_behind bytes h s (Ok found) is same b = document_from bytes h s _ is same b
+reads_behind bytes h s (Err (halt.Refused why)) is same b = document_from bytes h s _ is same b
+reads_behind bytes h s (Err halt.Memory) is same b = tt
