@@ -168,7 +168,9 @@ impl<'a, T: Tables + Drop> Stepper<'a, T> {
     /// Puts the body aside, and stands in the fragment that begins here.
     pub fn enter(&mut self) -> Result<(), AllocError>
         requires name { IsName self.old.config.tables (innermost self.old.config.elements) }
-        ensures { OnOk result (self.new ≡ with_config self.old (put_aside self.old.setting self.old.config)) }
+        ensures aside { OnOk result (self.new ≡ with_config self.old (put_aside self.old.setting self.old.config)) }
+        ensures setting { self.new.setting ≡ self.old.setting }
+        ensures bytes { self.new.bytes ≡ self.old.bytes }
     {
         let tables = first_tables(self.alloc, self.book)?;
         let overlay = mem::replace(&mut self.overlay, Overlay::new(self.alloc));

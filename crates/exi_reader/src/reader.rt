@@ -181,6 +181,8 @@ impl<'a, T: Tables + Drop> Reader<'a, T> {
         requires at_fragment { self.old.waits ≡ true }
         ensures same { OnOk result (self.new ≡ record self.old { waits = false }) }
         ensures reached { OnOk result (IsReached self.new) }
+        ensures setting { self.new.setting ≡ self.old.setting }
+        ensures bytes { self.new.bytes ≡ self.old.bytes }
     {
         self.stepper.enter()?;
         self.waits = false;
