@@ -19,3 +19,4 @@ pub mod Cursors
 pub mod Lays
 pub mod Lanes
 pub mod Straight
+pub mod Refills

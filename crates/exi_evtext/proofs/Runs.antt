@@ -1,11 +1,12 @@
 -- Texts between quotes, read run by run.
-use Rattle.std.proofs.Common.{◌≡◌, ◌<◌, ◌+◌, ℕ, Bool, true, false, eqb, List, [], ◌∷◌, ◌++◌, get_or, length, take, drop, Option, Some, None, refl, sym, ap, ◌∙◌, inl, inr, append_assoc}
-use Rattle.std.proofs.lemmas.Bool.{cases_Bool}
+use Rattle.std.proofs.Common.{◌≡◌, ◌<◌, ◌≤◌, ◌+◌, ℕ, zero, suc, Bool, true, false, eqb, List, [], ◌∷◌, ◌++◌, get_or, length, take, drop, Option, Some, None, refl, sym, ap, ◌∙◌, inl, inr, append_assoc, arith}
+use Rattle.std.proofs.lemmas.Bool.{cases_Bool, not-true}
 use Rattle.std.proofs.lemmas.List.{append-nil, drop_more, take_more}
 use Rattle.std.specs.Prelude.{option_map, Result, Ok, Err}
 use Rattle.exi_evtext.specs.declared.stop.LineStop.{LineStop}
 use Rattle.exi_evtext.specs.declared.stop.LineStop.TheVariants as stop
 use Rattle.exi_evtext.specs.Reading.{content_at, is_bare, unescaped, with_byte, with_escaped}
+use Rattle.exi_evtext.specs.Plain.{AllPass, is_inside_run}
 use Rattle.exi_evtext.specs.Parsing.{Runs, Steps, behind_run, escape_at, front, mark_at, run_at, run_width, stops_run}
 
 abbrev Found : Type 0
@@ -19,7 +20,7 @@ front_byte : (b : ℕ) (before : List ℕ) (o : Found) → with_byte b (front be
 front_byte b before None = refl
 front_byte b before (Some found) = refl
 
-front_front : (a b : List ℕ) (o : Found) → front a (front b o) ≡ front (a ++ b) o
+pub front_front : (a b : List ℕ) (o : Found) → front a (front b o) ≡ front (a ++ b) o
 front_front a b None = refl
 front_front a b (Some found) = ap (λ (x : List ℕ). Some (x, found.1)) (sym (append_assoc a b found.0))
 
@@ -51,12 +52,12 @@ run_stops (c ∷ bytes) b more e = elim (cases_Bool (stops_run c)) [
   | inr h ↦ run_stops bytes b more (rw h at e)
 ]
 
-byte_front : (b : ℕ) (o : Found) → with_byte b o ≡ front (b ∷ []) o
+pub byte_front : (b : ℕ) (o : Found) → with_byte b o ≡ front (b ∷ []) o
 byte_front b None = refl
 byte_front b (Some found) = refl
 
 -- what is read behind a mark, or behind a backslash
-abbrev by_mark : Option (Option ℕ × List ℕ) → Found
+abbrev pub by_mark : Option (Option ℕ × List ℕ) → Found
 by_mark None = None
 by_mark (Some (None, bytes)) = Some ([], bytes)
 by_mark (Some (Some b, bytes)) = with_byte b (content_at false bytes)
@@ -121,3 +122,24 @@ run_more s i lt plain h =
 -- no byte is asked
 pub run_none : (s : List ℕ) → front (take 0 s) (content_at false (drop 0 s)) ≡ content_at false s
 run_none s = front_none (content_at false s)
+
+-- so many bytes stand for themselves
+pub run_all : (s : List ℕ) (n : ℕ) → n ≤ length s → AllPass is_inside_run s 0 n → front (take n s) (content_at false (drop n s)) ≡ content_at false s
+run_all s zero le pass = front_none (content_at false s)
+run_all [] (suc n) le pass = absurd (omega (arith, le))
+run_all (b ∷ s) (suc n) le pass =
+    let plain : stops_run b ≡ false = not-true (stops_run b) (pass 0 (omega arith) (omega arith)) in
+    sym (front_byte b (take n s) (content_at false (drop n s)))
+    ∙ ap (with_byte b) (run_all s n (omega (arith, le)) (λ k from to. pass (suc k) (omega arith) (omega arith)))
+    ∙ sym (plain_byte b s plain)
+
+-- what a mark in front tells is read
+pub mark_read : (s : List ℕ) (mark : Option ℕ × List ℕ) → mark_at s ≡ Some mark → content_at false s ≡ by_mark (Some mark)
+mark_read [] mark e = absurd cc
+mark_read (b ∷ more) mark e = elim (cases_Bool (eqb b 34)) [
+  | inl q ↦ let k : Some (None, more) ≡ Some mark = rw q at e in rw q (ap by_mark k)
+  | inr q ↦ elim (cases_Bool (eqb b 92)) [
+    | inl s ↦ let k : option_map (λ found. (Some found.0, found.1)) (escape_at more) ≡ Some mark = rw (q, s) at e in rw (q, s) (behind_backslash more ∙ mapped_mark (escape_at more) ∙ ap by_mark k)
+    | inr s ↦ let k : None ≡ Some mark = rw (q, s) at e in absurd cc
+  ]
+]

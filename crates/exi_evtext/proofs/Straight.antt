@@ -93,8 +93,13 @@ value_parts s inside t rest behind p s1 s2 s3 =
     let whole : s ≡ codes "text \"" ++ (t ++ 34 ∷ 10 ∷ behind) = s1 ∙ ap (λ (x : List ℕ). codes "text \"" ++ x) (s2 ∙ ap (λ (x : List ℕ). t ++ 34 ∷ x) s3) in
     whole ∙ ap (λ (x : List ℕ). codes "text " ++ x) (sym (quoted_plain t (10 ∷ behind) p))
 
+pub last_parts : (r : Option (List ℕ × Bor (List ℕ))) (s inside : List ℕ) → s ≡ codes "text \"" ++ inside → IfSome r (λ found. IsPlain found.0) → IfSome r (λ found. inside ≡ found.0 ++ 34 ∷ 10 ∷ found.1.now)
+    → IfSome r (λ found. s ≡ value_words (shape.text found.0) ++ 10 ∷ found.1.now)
+last_parts None s inside e plain parts = tt
+last_parts (Some found) s inside e plain parts = value_parts s inside found.0 (10 ∷ found.1.now) found.1.now plain e parts refl
+
 -- ---- lines
-line_is : (e : Happening) (rest : List ℕ) → line_of e ++ rest ≡ words e ++ 10 ∷ rest
+pub line_is : (e : Happening) (rest : List ℕ) → line_of e ++ rest ≡ words e ++ 10 ∷ rest
 unfolding line_of
 line_is e rest = append_assoc (words e) (10 ∷ []) rest
 

@@ -1,6 +1,6 @@
 -- What a call that reads from the front of bytes tells of them, and the events of a whole text, line by line.
 use Rattle.std.specs.Prelude.{◌≡◌, ◌||◌, ◌==◌, ℕ, suc, Bool, true, false, if◌then◌else◌, List, [], ◌∷◌, ◌++◌, take, drop, Option, Some, None, option_map, Result, Ok, Err}
-use Rattle.std.specs.Str.{bytes_eq, chars, is_utf8}
+use Rattle.std.specs.Str.{IsUtf8, bytes_eq, chars, is_utf8}
 use Rattle.std.specs.List.{slice_split}
 use Rattle.exi_names.specs.Events.{Happening, happens}
 use Rattle.exi_names.specs.Lists as lists
@@ -112,6 +112,18 @@ abbrev pub Steps : Result Bool LineStop → List ℕ → List ℕ → List ℕ �
 Steps (Ok true) had has old new = front had (content_at false old) ≡ front has (content_at false new)
 Steps (Ok false) had has old new = front had (content_at false old) ≡ Some (has, new)
 Steps (Err e) had has old new = StopsAs e (content_at false old)
+
+-- what is read where a part is taken: more is to come, or the quote closed
+abbrev pub behind_part : Bool → List ℕ → List ℕ → Option (List ℕ × List ℕ)
+behind_part true bytes new = front bytes (content_at false new)
+behind_part false bytes new = Some (bytes, new)
+
+-- the characters of UTF-8 in front of what is read are put behind a text
+pub record TakesPart (more : Bool) (text new_text old new : List ℕ) : Type 0 where
+  pub bytes : List ℕ
+  pub utf8 : IsUtf8 bytes
+  pub is : new_text ≡ text ++ chars bytes
+  pub read : content_at false old ≡ behind_part more bytes new
 
 -- ---- a whole text
 abbrev pub with_event : Happening → Result (List Happening) ℕ → Result (List Happening) ℕ

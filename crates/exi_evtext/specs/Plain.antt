@@ -1,6 +1,6 @@
 -- Texts that are plain: each of their bytes is ASCII and stands for itself between quotes.
-use Rattle.std.specs.Prelude.{◌≡◌, ◌+◌, ◌≤◌, ◌<◌, ◌==◌, ◌&&◌, not, nat_le, nat_lt, ℕ, Bool, true, false, List, length, ◌++◌, None, slice_index, encode_utf8_all, if◌then◌else◌}
-use Rattle.std.specs.Str.{IsAscii}
+use Rattle.std.specs.Prelude.{◌≡◌, ◌+◌, ◌≤◌, ◌<◌, ◌==◌, ◌&&◌, not, nat_le, nat_lt, ℕ, Bool, true, false, List, length, ◌++◌, None, take, drop, slice_index, encode_utf8_all, if◌then◌else◌}
+use Rattle.std.specs.Str.{IsAscii, IsUtf8}
 use Rattle.std.specs.List.{flat_map}
 use Rattle.std.specs.Int.{w64, trailing_zeros}
 use Rattle.exi_names.specs.declared.names.QName.{QName}
@@ -38,6 +38,18 @@ is_inside_line b = not (b == 10)
 
 abbrev pub is_inside_run : ℕ → Bool
 is_inside_run b = not (stops_run b)
+
+-- so many bytes from a place on are UTF-8 that stands for itself between quotes
+pub record IsTextIn (bytes : List ℕ) (at width : ℕ) : Type 0 where
+  pub within : at + width ≤ length bytes
+  pub utf8 : IsUtf8 (take width (drop at bytes))
+  pub pass : AllPass is_inside_run bytes at (at + width)
+
+-- and so many in front
+pub record IsTextFront (bytes : List ℕ) (width : ℕ) : Type 0 where
+  pub within : width ≤ length bytes
+  pub utf8 : IsUtf8 (take width bytes)
+  pub pass : AllPass is_inside_run bytes 0 width
 
 -- the place of the lowest bit that is set, or how many bits are looked at
 abbrev pub first_set : ℕ → ℕ → ℕ

@@ -75,7 +75,8 @@ fn plain_width(bytes: &[u8]) -> usize
 
 /// The byte that one behind a backslash stands for.
 fn unescaped(byte: u8) -> Option<u8>
-    ensures { result ≡ unescaped byte }
+    ensures is { result ≡ unescaped byte }
+    ensures ascii { IfSome result (λ byte. byte < 128) }
 {
     match byte {
         b'"' => Some(b'"'),
@@ -90,6 +91,7 @@ fn unescaped(byte: u8) -> Option<u8>
 /// The byte that an escape stands for, behind its backslash, and what stands behind it.
 fn escape(bytes: &[u8]) -> Option<(u8, &[u8])>
     ensures read { Reads result (escape_at bytes.now) }
+    ensures ascii { IfSome result (λ found. found.0 < 128) }
     ensures shorter { IfSome result (λ found. length found.1.now < length bytes.now) }
 {
     let (byte, rest) = bytes.split_first()?;
@@ -97,8 +99,9 @@ fn escape(bytes: &[u8]) -> Option<(u8, &[u8])>
 }
 
 /// What stands behind a quote that closes, or the byte that an escape stands for and what stands behind it.
-fn mark(bytes: &[u8]) -> Option<(Option<u8>, &[u8])>
+pub fn mark(bytes: &[u8]) -> Option<(Option<u8>, &[u8])>
     ensures read { Reads result (mark_at bytes.now) }
+    ensures ascii { IfSome result (λ found. IfSome found.0 (λ byte. byte < 128)) }
     ensures shorter { IfSome result (λ found. length found.1.now < length bytes.now) }
 {
     let (mark, rest) = bytes.split_first()?;

@@ -1,6 +1,6 @@
 //! The most frequent lines, read straight: no search for the line's end, no copy but that of the texts.
 
-ghost use Rattle.std.specs.Prelude.{◌≡◌, ◌∷◌, ◌++◌, IfOk, IfSome, IsTrue};
+ghost use Rattle.std.specs.Prelude.{◌≡◌, ◌∷◌, ◌++◌, IfOk, IfSome, IsTrue, codes};
 ghost use Rattle.exi_names.specs.Seen.{text};
 ghost use Rattle.exi_evtext.specs.Lines.{name_words, value_words};
 ghost use Rattle.exi_evtext.specs.Plain.{IsLine, IsPlain, plain_name};
@@ -49,14 +49,23 @@ fn plain_name(bytes: &[u8]) -> Option<(Front<'_>, Front<'_>, &[u8])>
     Some((uri, local, rest))
 }
 
+/// A plain text that ends the line, behind the quote that opens it, and what stands behind the line.
+#[inline(always)]
+fn plain_last(bytes: &[u8]) -> Option<(Front<'_>, &[u8])>
+    ensures plain { IfSome result (λ found. IsPlain found.0) }
+    ensures parts { IfSome result (λ found. bytes.now ≡ found.0 ++ 34 ∷ 10 ∷ found.1.now) }
+{
+    let (text, rest) = plain_opened(bytes)?;
+    Some((text, behind_mark(b'\n', rest)?))
+}
+
 /// A text as a value that ends the line, and what stands behind the line.
 #[inline(always)]
 fn plain_value(bytes: &[u8]) -> Option<(Front<'_>, &[u8])>
     ensures plain { IfSome result (λ found. IsPlain found.0) }
     ensures parts { IfSome result (λ found. bytes.now ≡ value_words (text found.0) ++ 10 ∷ found.1.now) }
 {
-    let (text, rest) = plain_opened(inside_text(bytes)?)?;
-    Some((text, behind_mark(b'\n', rest)?))
+    plain_last(inside_text(bytes)?)
 }
 
 /// What stands behind the line, where the room holds its event.
@@ -98,19 +107,33 @@ fn attribute<'a>(bytes: &'a [u8], room: &mut EventRoom) -> Result<Option<&'a [u8
     Ok(if_held(room.hold_attribute(&uri, &local, &text)?, behind))
 }
 
-/// Characters that are a text.
+/// Characters that are a text of any bytes, behind the quote that opens it.
+#[inline(never)]
+fn any_text<'a>(bytes: &'a [u8], room: &mut EventRoom) -> Result<Option<&'a [u8]>, AllocError>
+    ensures { IfOk result (λ found. IfSome found (λ behind. IsLine (codes "CH text \"" ++ bytes.now) room.new behind.now)) }
+{
+    let Some(rest) = room.hold_opened(bytes)? else {
+        return Ok(None);
+    };
+    Ok(behind_mark(b'\n', rest))
+}
+
+/// Characters that are a text; most often it is plain.
 #[inline(always)]
 fn characters<'a>(bytes: &'a [u8], room: &mut EventRoom) -> Result<Option<&'a [u8]>, AllocError>
     ensures { IfOk result (λ found. IfSome found (λ behind. IsLine (67 ∷ 72 ∷ 32 ∷ bytes.now) room.new behind.now)) }
 {
-    let Some((text, behind)) = plain_value(bytes) else {
+    let Some(inside) = inside_text(bytes) else {
         return Ok(None);
+    };
+    let Some((text, behind)) = plain_last(inside) else {
+        return any_text(inside, room);
     };
     Ok(if_held(room.hold_characters(&text)?, behind))
 }
 
-/// Reads the line in front into a room, where it is one of the most frequent and its texts are plain; the answer is what
-/// stands behind it.
+/// Reads the line in front into a room, where it is one of the most frequent and its texts are plain, but for that of
+/// characters; the answer is what stands behind it.
 #[inline(always)]
 pub fn read_frequent<'a>(
     bytes: &'a [u8],

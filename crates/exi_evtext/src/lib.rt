@@ -26,7 +26,8 @@
 //! ```
 //!
 //! Runs of characters that stand for themselves are copied at once. The most frequent lines are laid in a room that the
-//! caller has, with no test of capacity behind each part; texts of few bytes are tested and copied all at once.
+//! caller has, with no test of capacity behind each part; texts of few bytes are tested and copied all at once. A text that
+//! is read as characters is looked at once: its escapes, the quote that closes it and its UTF-8 are found in one pass.
 #![tactic(auto)]
 
 mod cursor;
@@ -42,6 +43,7 @@ mod print;
 mod quote;
 mod read_event;
 mod read_value;
+mod refill;
 mod room;
 mod run;
 mod scalar;

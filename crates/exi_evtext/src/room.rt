@@ -1,13 +1,16 @@
 //! A room for the event of a line, whose texts' memory is used again.
 
-ghost use Rattle.std.specs.Prelude.{◌≡◌, IfOk, IsTrue, true};
+ghost use Rattle.std.specs.Prelude.{◌≡◌, IfOk, IfSome, IsTrue, Some, true};
 ghost use Rattle.exi_names.specs.Characters.{are_plain};
 ghost use Rattle.exi_names.specs.Events as happening;
 ghost use Rattle.exi_names.specs.Events.{happens};
 ghost use Rattle.exi_names.specs.Seen as shape;
 ghost use Rattle.exi_evtext.specs.Plain.{plain_name};
+ghost use Rattle.exi_evtext.specs.Reading.{opened_value};
+ghost use Rattle.exi_evtext.specs.Rooms.{HoldsOpened};
 
 use crate::front::Front;
+use crate::refill::refill;
 use exi_names::{Event, QName, Txt, Val, Whole};
 use std::alloc::{AllocError, Global};
 use std::marker::Model;
@@ -83,6 +86,18 @@ fn revalue(value: &mut Val, text: &Front<'_>) -> Result<bool, AllocError>
     };
     text.fill(held)?;
     Ok(true)
+}
+
+/// Puts the text that bytes begin with, behind the quote that opens it, in the place of one; the answer is what stands
+/// behind the quote that closes it.
+#[inline(always)]
+fn reopen<'a>(value: &mut Val, bytes: &'a [u8]) -> Result<Option<&'a [u8]>, AllocError>
+    ensures { IfOk result (λ found. IfSome found (λ behind. opened_value bytes.now ≡ Some (shape.seen value.new, behind.now))) }
+{
+    let Val::Text(held) = value else {
+        return Ok(None);
+    };
+    refill(held, bytes)
 }
 
 /// An integer as a value.
@@ -210,5 +225,18 @@ impl EventRoom {
             return Ok(false);
         };
         revalue(value, text)
+    }
+
+    /// Holds characters of the text that bytes begin with, behind the quote that opens it, where it can; the answer is what
+    /// stands behind the quote that closes it.
+    #[inline(always)]
+    pub fn hold_opened<'a>(&mut self, bytes: &'a [u8]) -> Result<Option<&'a [u8]>, AllocError>
+        ensures { IfOk result (λ found. IfSome found (λ behind. HoldsOpened bytes.now self.new behind.now)) }
+    {
+        self.held = Held::Other;
+        let Event::Ch(value) = &mut self.other else {
+            return Ok(None);
+        };
+        reopen(value, bytes)
     }
 }

@@ -8,7 +8,7 @@ ghost use Rattle.exi_evtext.specs.Plain.{AllPass, IsRunIn, IsWidth, PassesIn, fi
 use std::simd::prelude::*;
 
 /// How many bytes are looked at at once.
-const WIDE: usize = 16;
+pub const WIDE: usize = 16;
 
 /// The place of the lowest bit that is set, or the number of all that are looked at.
 #[inline(always)]
@@ -24,7 +24,7 @@ fn first_set(mask: u64) -> usize
 
 /// How many bytes from this place on are plain, of as many as are looked at at once.
 #[inline(always)]
-fn plain_lanes(bytes: &[u8], at: usize) -> usize
+pub fn plain_lanes(bytes: &[u8], at: usize) -> usize
     requires { at + WIDE ≤ length bytes.now }
     ensures { PassesIn is_plain bytes.now at 16 result }
 {
