@@ -1,7 +1,7 @@
 -- Which production a writer looks for, for an event: the first, by the number of parts in its code and then by the code, of
 -- those for such events (EXI 1.0, sections 6.2 and 8.4).
 use Rattle.std.specs.Prelude.{◌≡◌, ℕ, ◌==◌, ◌&&◌, Bool, true, false, List, Option, Some, None, if◌then◌else◌}
-use Rattle.std.specs.Option.{is_some}
+use Rattle.std.specs.Option.{is_some, option_map}
 use Rattle.exi_builtin.specs.declared.learnable.Learnable.{Learnable}
 use Rattle.exi_builtin.specs.declared.learnable.Learnable.TheVariants as learnable
 use Rattle.exi_builtin.specs.Learning.{same_name}
@@ -16,7 +16,7 @@ use Rattle.exi_names.specs.StartTables.{IsStart}
 use Rattle.exi_tables.specs.Partitions.{Partitions, least_place, locals, uris}
 use Rattle.exi_reader.specs.Configurations.{Config, IsSetting, Setting, rules_of}
 use Rattle.exi_reader.specs.Sound.{IsSound}
-use Rattle.exi_reader.specs.Rules.{Rule, Telling, Terminal, attribute, characters, comment, declaration, document_type, element, end_document, end_element, entity, instruction, book_rule, known, self_contained, spelled, start_document, under}
+use Rattle.exi_reader.specs.Rules.{Rule, Telling, Terminal, attribute, built_in_terminal, characters, comment, declaration, document_type, element, end_document, end_element, entity, instruction, book_rule, known, self_contained, spelled, start_document, under}
 use Rattle.exi_reader.specs.declared.rule.Content.{Content}
 use Rattle.exi_reader.specs.declared.rule.Content.TheVariants as content
 use Rattle.exi_reader.specs.declared.rule.Telling.{Telling as Told}
@@ -140,6 +140,10 @@ special (content.Attribute own v) = named_one true own
 special content.Characters = Some (learnable.Ch true)
 special content.EndElement = Some (learnable.Ee true)
 special wanted = None
+
+-- what it stands for
+abbrev pub special_terminal : Content → Option Terminal
+special_terminal wanted = option_map built_in_terminal (special wanted)
 
 abbrev pub general : Content → Option Learnable
 general (content.Element own) = Some learnable.SeAny

@@ -1,4 +1,4 @@
-ghost use Rattle.std.specs.Prelude.{◌≡◌, None};
+ghost use Rattle.std.specs.Prelude.{◌≡◌, None, Some, IfSome};
 ghost use Rattle.exi_builtin.specs.Learning.{IsRoom, state_behind};
 ghost use Rattle.exi_builtin.specs.Learning.{Learning};
 ghost use Rattle.exi_reader.specs.Configurations.{Setting, built_in};
@@ -6,8 +6,8 @@ ghost use Rattle.exi_reader.specs.Rules.{fragment_start, start_document};
 ghost use Rattle.exi_reader.specs.Handing.{rule_in, telling_of, terminal_in};
 ghost use Rattle.exi_reader.specs.Rules.{built_in_terminal};
 ghost use Rattle.exi_choice.specs.declared.choice.Way.TheVariants as Way;
-ghost use Rattle.exi_choice.specs.Choices.{Chooses};
-ghost use Rattle.exi_choice.specs.Wanted.{general, is_of, is_told, special};
+ghost use Rattle.exi_choice.specs.Choices.{Chooses, IsChoice};
+ghost use Rattle.exi_choice.specs.Wanted.{general, is_of, is_told, special, special_terminal};
 
 use exi_builtin::{Learnable, Overlay, Room};
 use exi_gram::{Book, Code};
@@ -77,6 +77,7 @@ pub fn choose_start<'a>(wanted: Content) -> Option<Choice<'a>>
 }
 
 /// The production of a built-in state for the event alone, where it may have one.
+#[inline(always)]
 fn special(wanted: Content) -> Option<Learnable>
     ensures { result ≡ special wanted }
 {
@@ -90,6 +91,7 @@ fn special(wanted: Content) -> Option<Learnable>
 }
 
 /// The production of a built-in state for all events of the kind.
+#[inline(always)]
 fn general(wanted: Content) -> Option<Learnable>
     ensures { result ≡ general wanted }
 {
@@ -109,6 +111,7 @@ fn general(wanted: Content) -> Option<Learnable>
 }
 
 /// A production of a built-in state, with its code.
+#[inline(always)]
 fn coded_as<'a>(room: Room, production: Learnable, code: Code) -> Choice<'a>
     ensures rule { rule_in result.rule ≡ record { on = built_in_terminal production; to = state_behind room production; inner = None } }
     ensures way { result.way ≡ Way.BuiltIn room code }
@@ -117,6 +120,25 @@ fn coded_as<'a>(room: Room, production: Learnable, code: Code) -> Choice<'a>
         rule: Rule::of_built_in(production, state_behind(room, production)),
         way: Way::BuiltIn(room, code),
     }
+}
+
+/// The production of a built-in state for an event alone, where it has one: [`choose_built_in`] then takes it.
+#[inline(always)]
+pub fn choose_special<'a>(
+    book: &'a Book,
+    overlay: &Overlay,
+    room: Room,
+    wanted: Content,
+) -> Option<Choice<'a>>
+    requires room { IsRoom overlay.now room }
+    ensures choice { IfSome result (λ choice. IsChoice book.now overlay.now wanted (built_in book.now overlay.now room) choice) }
+    ensures on { IfSome result (λ choice. Some (rule_in choice.rule).on ≡ special_terminal wanted) }
+{
+    let options = book.options();
+    let _ = overlay.learned(room);
+    let production = special(wanted)?;
+    let code = overlay.code_of(room, production, options)?;
+    Some(coded_as(room, production, code))
 }
 
 /// The production of a built-in state that stands for an event: the one for it alone before the one for its kind.

@@ -15,7 +15,7 @@ mod places;
 mod sought;
 mod wanted;
 
-pub use choice::{Choice, Way};
+pub use choice::{Choice, Way, choose_special};
 pub use declared::{Declared, declaration_of};
 pub use fit::Fit;
 pub use found::{Found, find_built_in, find_in_book, find_start};

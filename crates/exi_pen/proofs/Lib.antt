@@ -1,9 +1,11 @@
+pub mod AtOnce
 pub mod Begun
 pub mod Effects
 pub mod EventKinds
 pub mod EventNames
 pub mod EventValues
 pub mod FittedValues
+pub mod NamesAtOnce
 pub mod Places
 pub mod PutCodes
 pub mod Putting

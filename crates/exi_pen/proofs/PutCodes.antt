@@ -18,6 +18,7 @@ use Rattle.exi_gram.specs.declared.code.Code.{Code}
 use Rattle.exi_gram.specs.declared.options.Options.{Options}
 use Rattle.exi_reader.specs.Configurations.{Setting, alone_rules, built_in, element_rules, in_book, outer_rules, rules_in, rules_of}
 use Rattle.exi_reader.specs.Handing.{AreThere, IsThere, IsThereIn}
+use Rattle.exi_reader.specs.Plans.{alone_in, nowhere}
 use Rattle.exi_reader.specs.Rules.{Rule, book_rule, fragment_start}
 use Rattle.exi_reader.specs.Stacks.{first_element}
 use Rattle.exi_reader.specs.declared.frames.Element.{Element}
@@ -122,6 +123,14 @@ pub room_rules : (p q : Page) (e : Element) (room : Room) (o : Option Element) �
     → rules_of q.setting q.config ≡ built_in q.setting q.config.learned room
 room_rules p q e room o same first is there =
     subst (λ (z : Page). rules_of z.setting z.config ≡ built_in z.setting z.config.learned room) same (rules_at p e (state.BuiltIn room) (sym first ∙ is) there)
+
+inside_first : (es : List Element) (o : Outer) (e : Element) → first_element es ≡ Some e → alone_in es o ≡ nowhere
+inside_first [] o e h = absurd cc
+inside_first (x ∷ es) o e h = refl
+
+pub room_inside : (p q : Page) (e : Element) (o : Option Element) → p ≡ q → o ≡ first_element p.config.elements → o ≡ Some e → alone_in q.config.elements q.config.outer ≡ nowhere
+room_inside p q e o same first is =
+    subst (λ (z : Page). alone_in z.config.elements z.config.outer ≡ nowhere) same (inside_first p.config.elements p.config.outer e (sym first ∙ is))
 
 pub room_there : (p q : Page) (e : Element) (room : Room) (o : Option Element) → p ≡ q → o ≡ first_element p.config.elements → o ≡ Some e → e.state ≡ state.BuiltIn room
     → AreThere q.setting q.config.learned q.config.elements → IsRoom q.config.learned room

@@ -46,7 +46,7 @@ use Rattle.exi_pen.proofs.Places.{found_at, found_known, found_name, told_known,
 abbrev pub next : Page → List Bool → Partitions → Page
 next p out tables = record { setting = p.setting; bits = out; config = record p.config { place = length out; tables = tables } }
 
-next_is : (p : Page) (out text : List Bool) (tables held : Partitions) → out ≡ p.bits ++ text → tables ≡ held → next p out tables ≡ put_page p text held
+pub next_is : (p : Page) (out text : List Bool) (tables held : Partitions) → out ≡ p.bits ++ text → tables ≡ held → next p out tables ≡ put_page p text held
 next_is p out text tables held b t = ap (λ (z : List Bool). next p z tables) b ∙ ap (λ (z : Partitions). next p (p.bits ++ text) z) t
 
 -- what has a spelling is put

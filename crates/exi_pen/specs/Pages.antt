@@ -1,5 +1,6 @@
 -- How a writer writes one event: in its own words, and in parts. The parts together are the one event of the definition.
-use Rattle.std.specs.Prelude.{◌≡◌, ◌<◌, ◌+◌, ◌*◌, not, ℕ, Bool, true, false, List, ◌++◌, length, Option, Some, None, Result, Ok, Err, if◌then◌else◌, ◌^◌}
+use Rattle.std.specs.Prelude.{◌≡◌, ◌<◌, ◌+◌, ◌*◌, ◌&&◌, not, ℕ, Bool, true, false, List, ◌++◌, length, Option, Some, None, Result, Ok, Err, if◌then◌else◌, ◌^◌}
+use Rattle.std.specs.Option.{is_none}
 use Rattle.exi_bits.specs.declared.fault.Kind.{Kind}
 use Rattle.exi_builtin.specs.declared.learnable.Learned.{Learned}
 use Rattle.exi_builtin.specs.declared.learnable.Learned.TheVariants as used
@@ -9,7 +10,7 @@ use Rattle.exi_names.specs.declared.names.NameId.{NameId}
 use Rattle.exi_names.specs.declared.names.QName.{QName}
 use Rattle.exi_names.specs.Events.{Happening}
 use Rattle.exi_tables.specs.Partitions.{Partitions}
-use Rattle.exi_reader.specs.Configurations.{Body, Config, IsSetting, Setting, first_config}
+use Rattle.exi_reader.specs.Configurations.{Body, Config, IsSetting, Setting, first_config, rules_of}
 use Rattle.exi_reader.specs.declared.start.Start.{Start}
 use Rattle.exi_reader.specs.declared.start.Start.TheVariants as start
 use Rattle.exi_reader.specs.Changes.{Effect, closed, effect_of, effected, enclosing, learns, moves, opened, opener, put_aside, room_in}
@@ -24,14 +25,22 @@ use Rattle.exi_reader.specs.declared.rule.Rule.{Rule as Kept}
 use Rattle.exi_reader.specs.declared.rule.Telling.{Telling as Told}
 use Rattle.exi_reader.specs.declared.rule.Valuing.TheVariants as valuing
 use Rattle.exi_typed.specs.Strings.{Named}
-use Rattle.exi_writing.specs.Pieces.{Piece}
+use Rattle.exi_typed.specs.Written.{after_string, string_bits}
+use Rattle.exi_writing.specs.Pieces.{Piece, can_be_spelled}
 use Rattle.exi_writing.specs.OneEvent.{Refused, Written, behind_code, by_code, chosen, followed, limit, matches, not_derived, padding, written_by}
 use Rattle.exi_toll.specs.declared.stop.PutStop.{PutStop}
 use Rattle.exi_toll.specs.declared.stop.PutStop.TheVariants as stop
-use Rattle.exi_choice.specs.Fitting.{fit_in, fitted, of_attribute, of_characters, value_in}
+use Rattle.exi_choice.specs.Choices.{IsFound, way_parts}
+use Rattle.exi_choice.specs.Fitting.{Having, fit_in, fitted, of_attribute, of_characters, value_in}
 use Rattle.exi_choice.specs.Wanted.{Seeking, of_kind, place_told, seeking, suits}
 use Rattle.exi_names.specs.Seen.{Value}
 use Rattle.exi_names.specs.StartTables.{IsStart}
+use Rattle.exi_choice.specs.declared.choice.Choice.{Choice}
+use Rattle.exi_choice.specs.declared.choice.Way.{Way}
+use Rattle.exi_choice.specs.declared.fit.Fit.TheVariants as fit
+use Rattle.exi_gram.specs.Codes.{code_bits}
+use Rattle.exi_gram.specs.Laws.{codes}
+use Rattle.exi_gram.specs.Switches.{align_of, prefixes}
 use Rattle.exi_pen.specs.declared.pen.Begun.{Begun}
 use Rattle.exi_toll.specs.Charges.{Charged, charge, charge_event, charge_level, is_within}
 
@@ -136,6 +145,10 @@ PutsLast (Err stop.NotDerived) w old new toll charged = (w ≡ None) × (new.con
 PutsLast (Err (stop.Limit k)) w old new toll charged = ⊥
 PutsLast (Err stop.Memory) w old new toll charged = Unit {0}
 
+-- a string is written under a name
+abbrev pub text_page : NameId → List ℕ → Page → Page
+text_page name x p = put_page p (string_bits None (align_of p.setting.options) p.config.tables name x) (after_string p.config.tables name x)
+
 abbrev pub id_of : Option (Piece Named) → NameId → Type 0
 id_of None id = Unit {0}
 id_of (Some piece) id = id ≡ piece.item.id
@@ -158,6 +171,20 @@ WritesFragment (Ok x) old new w = (v : Written) × (w ≡ Ok v) × (fragment_pag
 WritesFragment (Err stop.NotDerived) old new w = (w ≡ Err not_derived) × (new.config.meter ≡ old.config.meter)
 WritesFragment (Err (stop.Limit k)) old new w = w ≡ Err (limit k new.config.meter)
 WritesFragment (Err stop.Memory) old new w = Unit {0}
+
+-- ---- by the production for the event alone
+-- behind the code of a way
+abbrev pub way_page : Page → Way → Page
+way_page p w = with_bits p (code_bits (align_of p.setting.options) (codes (rules_of p.setting p.config)) (way_parts p.setting w))
+
+-- it is found for each such event whose value is written in it as it is
+abbrev pub IsSpecial : Page → Content → Choice → Type 0
+IsSpecial p wanted choice = (h : Having) → fit_in p.setting.schema (rule_in choice.rule).on h ≡ Some (value_in h)
+    → IsFound p.setting p.config.learned (record { on = wanted; having = h }) (rules_of p.setting p.config) (record { choice = choice; value = fit.Own })
+
+-- the texts of a name have a spelling, and no prefix is to be written
+abbrev pub is_whole : Page → QName → Bool
+is_whole p n = is_none n.prefix && (not (prefixes p.setting.options) && (can_be_spelled n.uri && can_be_spelled n.local))
 
 -- ---- what an event needs, and writing keeps
 pub record IsReady (p : Page) : Type 0 where
@@ -227,6 +254,9 @@ at_config p c = record { setting = p.setting; bits = p.bits; config = c }
 abbrev pub paid_config : Metering → Config → Config
 paid_config m c = record c { meter = m; after_start = false }
 
+abbrev pub paid_page : Page → Metering → Page
+paid_page p m = at_config p (paid_config m p.config)
+
 -- the state that follows
 abbrev pub moved_page : ℕ → Page → Metering → Page
 moved_page to p m = at_config p (moves to (paid_config m p.config))
@@ -256,6 +286,10 @@ rooted_config name c = record c { root = root_at (alone_in c.elements c.outer) c
 
 abbrev pub opened_page : Telling → ℕ → Option ℕ → Named → Page → Metering → Page
 opened_page t to inner n p m = at_config p (record (opened n.id (opener p.setting n.name inner) (moves to (learned_config t (used.Se n.id) (rooted_config n.name (paid_config m p.config))))) { after_start = is_event (alone_in p.config.elements p.config.outer) })
+
+-- an element is opened inside another, by a code that told its name
+abbrev pub opened_here : Setting → Rule → NameId → QName → Config → Config
+opened_here g r id name c = record (opened id (opener g name r.inner) (moves r.to c)) { after_start = true }
 
 -- behind ED
 abbrev pub ending_page : Page → Metering → Page

@@ -3,6 +3,7 @@ ghost use Rattle.exi_names.specs.Events as event;
 ghost use Rattle.exi_names.specs.Seen.{seen};
 ghost use Rattle.exi_names.specs.Shown.{named};
 ghost use Rattle.exi_choice.specs.Fitting.{fitted};
+ghost use Rattle.exi_choice.specs.Wanted.{told_of};
 ghost use Rattle.exi_pen.specs.Pages.{IsReady, Writes, WritesFragment, by_chosen};
 ghost use Rattle.exi_writing.specs.Pruned.{pruned_name, pruned_value};
 
@@ -12,7 +13,8 @@ use exi_builtin::Learned;
 use exi_choice::Fit;
 use exi_choice::laws::chosen_suits;
 use exi_names::{NameRef, Txt, Val};
-use exi_reader::{Content, Telling};
+use exi_pieces::can_be_spelled;
+use exi_reader::{Content, Telling, Valuing, is_type};
 use exi_tables::Tables;
 use exi_toll::PutStop;
 
@@ -53,12 +55,29 @@ impl<'a, T: Tables + Drop> Pen<'a, T> {
         ensures writes { Writes result self.old self.new (by_chosen self.old.setting self.old.config (event.se (pruned_name self.old.setting.options (named name.entry)))) }
     {
         let name = self.kept(name);
+        let place = self.told_of(name);
+        if let Telling::Known(id) = place {
+            if let Some(choice) = self.special(Content::Element(place)) {
+                if self.is_whole(name) {
+                    return self.element_by(choice, id, name);
+                }
+            }
+        }
+        self.element_apart(name, place)
+    }
+
+    /// The same, by any production, where the name is as it is kept, and a code can tell so much of it.
+    #[inline(never)]
+    fn element_apart(&mut self, name: NameRef<'_>, place: Telling) -> Result<(), PutStop>
+        requires ready { IsReady self.old }
+        requires place { place ≡ told_of self.old.config.tables (named name) }
+        ensures writes { Writes result self.old self.new (by_chosen self.old.setting self.old.config (event.se (named name.entry))) }
+    {
         if self.is_other(name) {
             chosen_suits();
             return Err(PutStop::NotDerived);
         }
         let mut toll = self.toll();
-        let place = self.told_of(name);
         let rule = self.begin_element(place, &mut toll)?;
         let told = telling(rule);
         let id = self.put_told(&mut toll, told, name)?;
@@ -67,6 +86,18 @@ impl<'a, T: Tables + Drop> Pen<'a, T> {
 
     /// EE.
     pub fn end_element(&mut self) -> Result<(), PutStop>
+        requires ready { IsReady self.old }
+        ensures writes { Writes result self.old self.new (by_chosen self.old.setting self.old.config event.ee) }
+    {
+        if let Some(choice) = self.special(Content::EndElement) {
+            return self.end_by(choice);
+        }
+        self.end_apart()
+    }
+
+    /// The same, by any production.
+    #[inline(never)]
+    fn end_apart(&mut self) -> Result<(), PutStop>
         requires ready { IsReady self.old }
         ensures writes { Writes result self.old self.new (by_chosen self.old.setting self.old.config event.ee) }
     {
@@ -81,8 +112,31 @@ impl<'a, T: Tables + Drop> Pen<'a, T> {
         ensures writes { Writes result self.old self.new (by_chosen self.old.setting self.old.config (event.at (pruned_name self.old.setting.options (named name.entry)) (pruned_value self.old.setting.options (seen value.now)))) }
     {
         let name = self.kept(name);
-        let mut toll = self.toll();
         let told = self.told_of(name);
+        if let (Telling::Known(id), Val::Text(text)) = (told, value) {
+            let on = Content::Attribute(told, Valuing::Untyped);
+            if let Some(choice) = self.special(on) {
+                if !is_type(id) && self.is_whole(name) && can_be_spelled(text) {
+                    return self.attribute_by(choice, id, name, text);
+                }
+            }
+        }
+        self.attribute_apart(name, told, value)
+    }
+
+    /// The same, by any production, and of any value, where the name is as it is kept, and a code can tell so much of it.
+    #[inline(never)]
+    fn attribute_apart(
+        &mut self,
+        name: NameRef<'_>,
+        told: Telling,
+        value: &Val,
+    ) -> Result<(), PutStop>
+        requires ready { IsReady self.old }
+        requires told { told ≡ told_of self.old.config.tables (named name) }
+        ensures writes { Writes result self.old self.new (by_chosen self.old.setting self.old.config (event.at (named name.entry) (pruned_value self.old.setting.options (seen value.now)))) }
+    {
+        let mut toll = self.toll();
         let begun = self.begin_attribute(told, name, value, &mut toll)?;
         let rule = begun.rule;
         let tells = telling(rule);
@@ -95,6 +149,22 @@ impl<'a, T: Tables + Drop> Pen<'a, T> {
 
     /// CH.
     pub fn characters(&mut self, value: &Val) -> Result<(), PutStop>
+        requires ready { IsReady self.old }
+        ensures writes { Writes result self.old self.new (by_chosen self.old.setting self.old.config (event.ch (pruned_value self.old.setting.options (seen value.now)))) }
+    {
+        if let Some(choice) = self.special(Content::Characters) {
+            if let Val::Text(text) = value {
+                if can_be_spelled(text) {
+                    return self.characters_by(choice, text);
+                }
+            }
+        }
+        self.characters_apart(value)
+    }
+
+    /// The same, by any production, and of any value.
+    #[inline(never)]
+    fn characters_apart(&mut self, value: &Val) -> Result<(), PutStop>
         requires ready { IsReady self.old }
         ensures writes { Writes result self.old self.new (by_chosen self.old.setting self.old.config (event.ch (pruned_value self.old.setting.options (seen value.now)))) }
     {

@@ -9,6 +9,7 @@ mod kinds;
 mod moves;
 mod pen;
 mod puts;
+mod quick;
 mod step;
 
 pub use pen::Pen;

@@ -6,6 +6,7 @@ ghost use Rattle.exi_gram.specs.Laws.{codes};
 ghost use Rattle.exi_gram.specs.Switches.{align_of};
 ghost use Rattle.exi_reader.specs.Configurations.{alone_rules, built_in, in_book, outer_rules, rules_of};
 ghost use Rattle.exi_reader.specs.Handing.{AreThere, IsThere, alone_of};
+ghost use Rattle.exi_reader.specs.Plans.{alone_in, nowhere};
 ghost use Rattle.exi_reader.specs.declared.rule.Content.TheVariants as content;
 ghost use Rattle.std.specs.Option.{is_some};
 ghost use Rattle.exi_pen.specs.Pages.{Begins, BeginsKind, IsReady, attribute_wanted, characters_wanted, no_element_for, with_bits};
@@ -147,7 +148,7 @@ impl<'a, T: Tables + Drop> Pen<'a, T> {
 
     /// Writes the code of a production.
     #[inline(always)]
-    fn put_code(&mut self, way: Way) -> Result<(), AllocError>
+    pub fn put_code(&mut self, way: Way) -> Result<(), AllocError>
         requires way { IsWay self.old.setting self.old.config.learned (rules_of self.old.setting self.old.config) way }
         ensures ok { OnOk result (self.new ≡ with_bits self.old (code_bits (align_of self.old.setting.options) (codes (rules_of self.old.setting self.old.config)) (way_parts self.old.setting way))) }
         ensures meter { self.new.config.meter ≡ self.old.config.meter }
@@ -234,8 +235,9 @@ impl<'a, T: Tables + Drop> Pen<'a, T> {
 
     /// The built-in state in which the innermost element is, where there is one.
     #[inline(always)]
-    fn room(&self) -> Option<Room>
+    pub fn room(&self) -> Option<Room>
         requires there { AreThere self.now.setting self.now.config.learned self.now.config.elements }
+        ensures inside { IfSome result (λ room. alone_in self.now.config.elements self.now.config.outer ≡ nowhere) }
         ensures room { IfSome result (λ room. IsRoom self.now.config.learned room) }
         ensures rules { IfSome result (λ room. rules_of self.now.setting self.now.config ≡ built_in self.now.setting self.now.config.learned room) }
     {
@@ -324,7 +326,7 @@ impl<'a, T: Tables + Drop> Pen<'a, T> {
     }
 
     /// The same, where it is likely in a state of the book, for SE.
-    #[inline(never)]
+    #[inline(always)]
     fn begin_element_by(&mut self, told: Telling, toll: &mut Toll) -> Result<Rule<'a>, PutStop>
         requires ready { IsReady self.old }
         ensures begins { BeginsKind (content.Element told) result self.old self.new toll.old toll.new }
@@ -334,7 +336,7 @@ impl<'a, T: Tables + Drop> Pen<'a, T> {
     }
 
     /// The same, where it is likely in a state of the book, for EE.
-    #[inline(never)]
+    #[inline(always)]
     fn begin_end_by(&mut self, toll: &mut Toll) -> Result<Rule<'a>, PutStop>
         requires ready { IsReady self.old }
         ensures begins { BeginsKind content.EndElement result self.old self.new toll.old toll.new }
@@ -402,7 +404,7 @@ impl<'a, T: Tables + Drop> Pen<'a, T> {
     }
 
     /// The same, where it is likely in a state of the book.
-    #[inline(never)]
+    #[inline(always)]
     fn begin_attribute_by(
         &mut self,
         told: Telling,
@@ -469,7 +471,7 @@ impl<'a, T: Tables + Drop> Pen<'a, T> {
     }
 
     /// The same, where they are likely in a state of the book.
-    #[inline(never)]
+    #[inline(always)]
     fn begin_characters_by(&mut self, value: &Val, toll: &mut Toll) -> Result<Begun<'a>, PutStop>
         requires ready { IsReady self.old }
         ensures begins { Begins (characters_wanted (seen value.now)) result self.old self.new toll.old toll.new }

@@ -8,6 +8,8 @@ mod pieces;
 mod spelled;
 mod values;
 
-pub use pieces::{put_declaration, put_known, put_literal, put_name, put_spelled, put_under};
+pub use pieces::{
+    pay_name, put_declaration, put_known, put_literal, put_name, put_spelled, put_under,
+};
 pub use spelled::{can_be_spelled, can_name, can_tell};
 pub use values::put_value;

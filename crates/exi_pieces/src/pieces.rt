@@ -33,9 +33,9 @@ use exi_typed::{
 };
 use std::alloc::{AllocError, Global};
 
-/// Charges the texts of a name.
+/// Charges the characters of a name's URI, local name and prefix, where it has one, each in its turn.
 #[inline(always)]
-fn pay_name(toll: &mut Toll, name: NameRef<'_>)
+pub fn pay_name(toll: &mut Toll, name: NameRef<'_>)
     ensures { toll.new ≡ charge (name_units (named name.entry)) toll.old }
 {
     toll.text(name.uri.count());

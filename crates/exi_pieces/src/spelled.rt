@@ -9,6 +9,7 @@ use exi_tables::Tables;
 use exi_text::is_writable;
 
 /// Whether a text has a spelling: each of its characters is an XML character.
+#[inline(always)]
 pub fn can_be_spelled(text: &Txt) -> bool
     ensures { result ≡ can_be_spelled text.now }
 {

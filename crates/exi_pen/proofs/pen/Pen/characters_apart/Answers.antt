@@ -7,7 +7,7 @@ use Rattle.exi_pen.proofs.EventNames.{datatype_of, few_begun, grow_begun, inside
 use Rattle.exi_pen.proofs.EventValues.{characters_are_wanted, characters_ends, characters_known, characters_roomy, characters_spelled, characters_stop, grow_last, pruned_in}
 use Rattle.exi_pen.proofs.Putting.{few_start}
 use Rattle.exi_pen.proofs.Wrote.{begin_stop}
-use Rattle.exi_pen.proofs.pen.Pen.characters.Goals as goal
+use Rattle.exi_pen.proofs.pen.Pen.characters_apart.Goals as goal
 
 pub put_by-requires-clause-name : goal.put_by-requires-clause-name
 put_by-requires-clause-name g c = inside_begun (seen c.args.value.now) c.args.self.now c.begin_characters.new.self c.toll-toll.result c.begin_characters.new.toll c.in_ok-begun.begun.rule c.inside-name.result c.requires.ready c.in_ok-begun.ensures.begins.0 c.inside-name.ensures

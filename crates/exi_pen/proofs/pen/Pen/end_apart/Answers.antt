@@ -2,7 +2,7 @@ use Rattle.exi_choice.specs.Wanted.{of_kind}
 use Rattle.exi_pen.proofs.EventKinds.{close_ends}
 use Rattle.exi_pen.proofs.EventNames.{grow_begun, keeps_close, levels_begun}
 use Rattle.exi_reader.specs.declared.rule.Content.TheVariants as content
-use Rattle.exi_pen.proofs.pen.Pen.end_element.Goals as goal
+use Rattle.exi_pen.proofs.pen.Pen.end_apart.Goals as goal
 
 pub close_on-requires-clause-room : goal.close_on-requires-clause-room
 close_on-requires-clause-room g c = grow_begun (of_kind content.EndElement) c.args.self.now c.begin_end.new.self c.toll-toll.result c.begin_end.new.toll c.in_ok-begin_end.field-0 c.requires.ready c.in_ok-begin_end.ensures.begins
