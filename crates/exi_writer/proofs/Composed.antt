@@ -25,6 +25,7 @@ use Rattle.exi_writing.specs.OneEvent.{Refused, Written, written}
 use Rattle.exi_writing.specs.Runs.{Run, in_front, nothing_from, then_run, written_all}
 use Rattle.exi_writing.proofs.OneEvent.{bind_parts, one_going, one_sound}
 use Rattle.exi_pen.specs.Pages.{IsReady, Page}
+use Rattle.exi_writer.proofs.Names.{written_again}
 use Rattle.exi_writer.specs.Writing.{Composing, IsComposed, MayGoOn, composed_behind}
 
 -- ---- bytes that begin with given bits
@@ -101,6 +102,7 @@ composed_same v w a b c k = rw (← a, ← b, ← c) record {
   is_setting = k.is_setting;
   names = k.names;
   sound = k.sound;
+  named = k.named;
   place = k.place;
   aligned = k.aligned;
   leads = k.leads;
@@ -156,6 +158,7 @@ composed_on law w new e v k h setting text config going =
       is_setting = k.is_setting;
       names = k.names;
       sound = one_sound w.setting w.config e v k.sound h;
+      named = written_again w.setting w.config e v h;
       place = b.place;
       aligned = b.aligned;
       leads = λ bytes more octets are. (

@@ -1,7 +1,9 @@
 pub mod Choices
 pub mod Composed
+pub mod Entering
 pub mod Lists
 pub mod Moves
+pub mod Names
 pub mod Parts
 pub mod PlainRules
 pub mod Putting

@@ -15,6 +15,7 @@ use Rattle.exi_reader.specs.declared.end.End.TheVariants as end
 use Rattle.exi_reader.specs.declared.start.Start.TheVariants as start
 use Rattle.exi_writing.specs.Sound.{AreSound, HasSoundTables}
 use Rattle.exi_writer.proofs.Composed.{ready}
+use Rattle.exi_writer.proofs.Names.{resumed_again}
 use Rattle.exi_writer.proofs.Putting.{no_wait, view}
 use Rattle.exi_writer.specs.Writing.{Composing, IsAtFragment, IsComposed, IsPart, MayGoOn, is_named, spliced_behind}
 
@@ -67,6 +68,7 @@ part_composed law w text tally at whole fitting part =
       is_setting = k.is_setting;
       names = k.names;
       sound = resumed_sound w.config.aside behind refl record { here = k.sound.here; aside = k.sound.aside };
+      named = resumed_again w.config.aside behind refl;
       place = resumed_place w.config.aside behind;
       aligned = λ b. whole_both w.bits text at.byte (sym k.place ∙ at.at.place) whole;
       leads = λ bytes more octets are. (

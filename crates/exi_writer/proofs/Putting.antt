@@ -36,7 +36,8 @@ use Rattle.exi_writing.specs.Runs.{Run, in_front, nothing_from, own, put, then_r
 use Rattle.exi_writing.proofs.OneEvent.{one_going}
 use Rattle.exi_writer.proofs.Composed.{composed_on, composed_same, fragment_at, may_all, may_same, ready}
 use Rattle.exi_writer.proofs.Moves.{Away, begin_goes, end_goes, next_away, sc_given, start_goes}
-use Rattle.exi_writer.specs.Writing.{Composes, Composing, IsAtFragment, IsComposed, IsUncharged, MayGoOn, PutsOne, WritesAll, closing_events, closing_in, composed_behind, composing_at, page_after, put_so_far}
+use Rattle.exi_writer.proofs.Names.{fragment_again, name_aside}
+use Rattle.exi_writer.specs.Writing.{Composes, Composing, IsAtFragment, IsComposed, IsUncharged, MayGoOn, PutsOne, WritesAll, can_be_named, closing_events, closing_in, composed_behind, composing_at, page_after, put_so_far}
 
 -- ---- events one after another
 pub all_refused : (g : Setting) (c : Config) (e : Happening) (es : List Happening) (why : Refused) → written g c e ≡ Err why → written_all g c (e ∷ es) ≡ Err why
@@ -216,7 +217,14 @@ sc_fragment law p q byte v k h is =
     let same : p.setting ≡ q.setting = ap (λ (z : Page). z.setting) (sym is) in
     let next : v.given.1 ≡ put_aside p.setting q.config = ap (λ (z : Page). z.config) (sym is) ∙ ap (λ (g : Setting). put_aside g q.config) (sym same) in
     let at = fragment_at law (view p false) (event.sc byte) v given.0 q.config here h given.1 next in
-    record { composed = sc_composed law p q (event.sc byte) v k h is; byte = at.0; at = subst (λ (g : Setting). AtFragment g at.0 (put_aside g q.config)) same at.1 }
+    let there : AtFragment q.setting at.0 (put_aside q.setting q.config) = subst (λ (g : Setting). AtFragment g at.0 (put_aside g q.config)) same at.1 in
+    let named = fragment_again p.setting p.config q.config byte v here.named h next in
+    record {
+      composed = sc_composed law p q (event.sc byte) v k h is;
+      byte = at.0;
+      at = there;
+      named = ap (λ (z : List Body). can_be_named (name_aside z)) (sym there.aside) ∙ named;
+    }
 
 sc_is : OneIsRead → (p q : Page) (e : Happening) → begins_fragment e ≡ true → MayGoOn (view p false) → WritesFragment (Ok true) p q (written p.setting p.config e) → IsAtFragment (view q true)
 sc_is law p q e is k h =

@@ -37,6 +37,7 @@ first_composed g s limits head within setting names starts aligned = record {
   is_setting = setting;
   names = names;
   sound = record { here = first_sound _; aside = tt };
+  named = λ h. absurd cc;
   place = starts_at s (length head) starts;
   aligned = aligned;
   leads = λ bytes more octets are. ([], refl);

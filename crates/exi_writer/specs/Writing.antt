@@ -1,14 +1,16 @@
 -- What the calls of a writer promise, in the words of the definition of writing.
-use Rattle.std.specs.Prelude.{◌≡◌, ◌*◌, ◌%◌, ◌/◌, ℕ, Bool, true, false, List, [], ◌∷◌, ◌++◌, length, Option, Some, None, Result, Ok, Err, IfOk, if◌then◌else◌}
+use Rattle.std.specs.Prelude.{◌≡◌, ◌+◌, ◌*◌, ◌%◌, ◌/◌, ◌&&◌, ℕ, Bool, true, false, List, [], ◌∷◌, ◌++◌, length, Option, Some, None, Result, Ok, Err, IfOk, if◌then◌else◌}
+use Rattle.std.specs.Option.{is_none}
 use Rattle.exi_bits.specs.Bits.{IsBytes, bits}
 use Rattle.exi_bits.specs.Written.{IsWholeBytes}
 use Rattle.exi_bits.specs.declared.align.Align.{Align}
+use Rattle.exi_bits.specs.declared.fault.Kind.TheVariants as kind
 use Rattle.exi_gram.specs.Switches.{align_of}
-use Rattle.exi_meter.specs.Metering.{Bounds, IsWithinStream, Metering, with_tally}
+use Rattle.exi_meter.specs.Metering.{Bounds, IsWithinStream, Metering, text_fits, with_tally}
 use Rattle.exi_meter.specs.declared.tally.Tally.{Tally}
 use Rattle.exi_names.specs.declared.names.QName.{QName}
 use Rattle.exi_names.specs.Events.{Happening}
-use Rattle.exi_reader.specs.Changes.{resumed, same_texts}
+use Rattle.exi_reader.specs.Changes.{innermost, resumed, same_texts, texts_of}
 use Rattle.exi_reader.specs.Configurations.{Body, Config, IsSetting, Setting, first_config}
 use Rattle.exi_reader.specs.Plans.{Alone, alone_in, at_end, at_first, at_start, nowhere}
 use Rattle.exi_reader.specs.Runs.{IsSequence, Leads, has_ended}
@@ -20,6 +22,7 @@ use Rattle.exi_writing.specs.OneEvent.{Refused, limit, not_derived}
 use Rattle.exi_names.specs.Events as event
 use Rattle.exi_names.specs.StartTables.{IsStart}
 use Rattle.exi_pen.specs.Pages.{Page, first_page}
+use Rattle.exi_writing.specs.Pieces.{can_be_spelled}
 use Rattle.exi_writing.specs.Pruned.{pruned_name}
 use Rattle.exi_pen.specs.Steps.{begins_fragment}
 use Rattle.exi_writing.specs.Runs.{Refusal, Run, body, opened, put, put_from, written_all}
@@ -39,6 +42,14 @@ pub record Composing : Type 0 where
   pub config : Config
   pub waits : Bool
 
+-- a name that can be written where no prefixes are kept
+abbrev pub can_be_named : QName → Bool
+can_be_named n = can_be_spelled n.uri && (can_be_spelled n.local && is_none n.prefix)
+
+-- directly behind SE the name of its element can be written again
+abbrev pub CanNameAgain : Config → Type 0
+CanNameAgain c = c.after_start ≡ true → can_be_named (texts_of c.tables (innermost c.elements)) ≡ true
+
 -- Whatever bytes begin with the bits that are written, reading them leads where the writer stands
 pub record IsComposed (w : Composing) : Type 0 where
   pub body : ℕ
@@ -48,6 +59,7 @@ pub record IsComposed (w : Composing) : Type 0 where
   pub is_setting : IsSetting w.setting
   pub names : IsStart w.setting.schema.names
   pub sound : HasSoundTables w.config
+  pub named : CanNameAgain w.config
   pub place : w.config.place ≡ length w.bits
   pub aligned : IsWholeBytes (align_of w.setting.options) w.bits
   pub leads : (bytes : List ℕ) (more : List Bool) → IsBytes bytes → bits bytes ≡ w.bits ++ more → (turns : List (Option Happening)) × Leads w.setting bytes (first_config w.setting body start limits) turns w.config
@@ -56,11 +68,12 @@ pub record IsComposed (w : Composing) : Type 0 where
 abbrev pub MayGoOn : Composing → Type 0
 MayGoOn w = has_ended w.config ≡ false → IsComposed w
 
--- directly behind SC: the fragment begins at this byte
+-- directly behind SC: the fragment begins at this byte, and its element has a name that can be written again
 pub record IsAtFragment (w : Composing) : Type 0 where
   pub composed : IsComposed w
   pub byte : ℕ
   pub at : AtFragment w.setting byte w.config
+  pub named : can_be_named at.body.name ≡ true
 
 -- the element that is open has this name
 abbrev pub is_named : List Body → QName → Bool
@@ -98,6 +111,19 @@ IsUncharged (Ok x) old new = Unit {0}
 IsUncharged (Err stop.NotDerived) old new = new.config.meter ≡ old.config.meter
 IsUncharged (Err (stop.Limit k)) old new = Unit {0}
 IsUncharged (Err stop.Memory) old new = Unit {0}
+
+-- whether the charge of the name of the element that is open is within the limit of text
+abbrev pub name_fits : Metering → List Body → Bool
+name_fits m [] = true
+name_fits m (b ∷ bs) = text_fits m (length b.name.uri + length b.name.local)
+
+-- its fragment is entered: the limit of text is answered exactly where that charge passes it, and no other limit; that no
+-- production stands is never answered
+abbrev pub Enters : {X : Type 0} → Result X PutStop → Bool → Type 0
+Enters (Ok x) fits = fits ≡ true
+Enters (Err stop.NotDerived) fits = ⊥
+Enters (Err (stop.Limit k)) fits = (k ≡ kind.TextLimit) × (fits ≡ false)
+Enters (Err stop.Memory) fits = Unit {0}
 
 -- the same of a page
 abbrev pub page_after : Page → Run → Page

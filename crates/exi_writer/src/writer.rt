@@ -7,7 +7,7 @@ ghost use Rattle.exi_pen.specs.Steps.{left_of};
 ghost use Rattle.exi_reader.specs.Runs.{has_ended};
 ghost use Rattle.exi_writing.specs.Pruned.{pruned};
 ghost use Rattle.exi_writing.specs.Runs.{own, written_all};
-ghost use Rattle.exi_writer.specs.Writing.{CanBegin, Composes, IsAtFragment, IsPart, IsUncharged, MayGoOn, PutsOne, Starts, spliced_behind, steps_of};
+ghost use Rattle.exi_writer.specs.Writing.{CanBegin, Composes, Enters, IsAtFragment, IsPart, IsUncharged, MayGoOn, PutsOne, Starts, name_fits, spliced_behind, steps_of};
 
 use crate::fragments::{leave_fragment, start_fragment};
 use crate::start::WriteStart;
@@ -166,13 +166,14 @@ impl<'a, T: Tables + Drop> Writer<'a, T> {
     ///
     /// # Errors
     ///
-    /// `PutStop::Limit` where the charge of that element's name passes, `PutStop::NotDerived` where writing has no spelling of
-    /// that name, and `PutStop::Memory` where memory is refused.
+    /// `PutStop::Limit` exactly where the charge of that element's name passes the limit of text, and `PutStop::Memory` where memory
+    /// is refused; `PutStop::NotDerived` never, since that name was written before.
     /// Only [`Writer::tally`] may then be called, as after a refusal of [`Writer::put`].
     pub fn enter(&mut self) -> Result<(), PutStop>
         requires waits { self.old.waits ≡ true }
         requires at_fragment { IsAtFragment self.old }
         ensures entered { Composes result self.old self.new false (written_all self.old.setting self.old.config (own self.old.config)) }
+        ensures name { Enters result (name_fits self.old.config.meter self.old.config.aside) }
         ensures composed { OnOk result (MayGoOn self.new) }
         ensures waits { OnOk result (self.new.waits ≡ false) }
         ensures refused { OnErr result (has_ended self.new.config ≡ false) }
