@@ -5,7 +5,7 @@ ghost use Rattle.exi_reader.specs.Handing.{valuing_in};
 ghost use Rattle.exi_reader.specs.Rules.{by_name};
 ghost use Rattle.exi_choice.specs.Fitting.{declared_in, declaring, is_nil_at, is_type_at};
 
-use exi_gram::Schema;
+use exi_gram::Book;
 use exi_names::{Datatype, NameId, NameRef};
 use exi_reader::{Valuing, attribute_datatype, is_nil, is_type};
 
@@ -42,19 +42,15 @@ fn is_nil_at(id: Option<NameId>) -> bool
 
 /// The same by the attribute's name alone, in a grammar of a schema.
 #[inline(never)]
-fn declaration_by_name<'a>(
-    schema: &'a Schema,
-    id: Option<NameId>,
-    name: NameRef<'_>,
-) -> Declared<'a>
-    ensures { declaring result ≡ declared_in schema.now by_name id (named name.entry) }
+fn declaration_by_name<'a>(book: &'a Book, id: Option<NameId>, name: NameRef<'_>) -> Declared<'a>
+    ensures { declaring result ≡ declared_in book.now.schema by_name id (named name.entry) }
 {
     if is_type_at(id) {
         Declared::Type
     } else if is_nil_at(id) {
         Declared::Nil
     } else {
-        Declared::Datatype(attribute_datatype(schema, name))
+        Declared::Datatype(attribute_datatype(book, name))
     }
 }
 
@@ -62,13 +58,13 @@ fn declaration_by_name<'a>(
 /// 8.4.3 and 8.5.4.4), whose least places are told where it stands in the string tables.
 #[inline(always)]
 pub fn declaration_of<'a>(
-    schema: &'a Schema,
+    book: &'a Book,
     valuing: Valuing,
     datatype: Option<&'a Datatype>,
     id: Option<NameId>,
     name: NameRef<'_>,
 ) -> Declared<'a>
-    ensures { declaring result ≡ declared_in schema.now (valuing_in valuing (option_copied datatype.entry)) id (named name.entry) }
+    ensures { declaring result ≡ declared_in book.now.schema (valuing_in valuing (option_copied datatype.entry)) id (named name.entry) }
 {
     match valuing {
         Valuing::Typed => Declared::Datatype(datatype),
@@ -79,6 +75,6 @@ pub fn declaration_of<'a>(
                 Declared::Datatype(None)
             }
         }
-        Valuing::ByName => declaration_by_name(schema, id, name),
+        Valuing::ByName => declaration_by_name(book, id, name),
     }
 }

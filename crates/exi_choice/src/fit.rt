@@ -11,7 +11,7 @@ ghost use Rattle.exi_choice.specs.Fitting.{IsPlainOf, declaring, fit_as, fit_for
 
 use crate::declared::{Declared, declaration_of};
 use crate::wanted::Valued;
-use exi_gram::Schema;
+use exi_gram::Book;
 use exi_lexical::laws::written_is_read;
 use exi_lexical::{canon, value_of};
 use exi_moment::is_moment;
@@ -341,15 +341,15 @@ fn fit_declared(
 #[inline(always)]
 pub fn fit_on(
     alloc: Global,
-    schema: &Schema,
+    book: &Book,
     rule: Rule<'_>,
     valued: Valued<'_>,
 ) -> Result<Option<Fit>, AllocError>
-    ensures { IfOk result (λ f. fitted (value_in (having valued.entry)) f ≡ fit_in schema.now (rule_in rule.entry).on (having valued.entry)) }
+    ensures { IfOk result (λ f. fitted (value_in (having valued.entry)) f ≡ fit_in book.now.schema (rule_in rule.entry).on (having valued.entry)) }
 {
     match (rule.on, valued) {
         (Content::Attribute(_, valuing), Valued::Attribute { id, name, value }) => {
-            let declared = declaration_of(schema, valuing, rule.datatype, id, name);
+            let declared = declaration_of(book, valuing, rule.datatype, id, name);
             fit_declared(alloc, declared, value)
         }
         (Content::Characters, Valued::Characters(value)) => {

@@ -13,7 +13,7 @@ use crate::sought::sought_for;
 use crate::wanted::Wanted;
 use exi_builtin::{Overlay, Room};
 use exi_candidates::next_candidate;
-use exi_gram::{Book, Coded, Schema};
+use exi_gram::{Book, Coded};
 use exi_reader::Rule;
 use std::alloc::{AllocError, Global};
 
@@ -35,17 +35,17 @@ pub struct Found<'a> {
 #[inline(always)]
 fn fit_at(
     alloc: Global,
-    schema: &Schema,
+    book: &Book,
     coded: &Coded,
     wanted: Wanted<'_>,
 ) -> Result<Option<Fit>, AllocError>
-    ensures { IfOk result (λ f. Takes schema.now (wanting wanted.entry) (coded_of coded.now) f) }
+    ensures { IfOk result (λ f. Takes book.now.schema (wanting wanted.entry) (coded_of coded.now) f) }
 {
     let rule = Rule::of_book(&coded.production, coded.named);
     if !is_for(wanted.on, rule.on) {
         return Ok(None);
     }
-    fit_on(alloc, schema, rule, wanted.valued)
+    fit_on(alloc, book, rule, wanted.valued)
 }
 
 /// The first production that stands for an event and in which its value has a spelling: its place, and what is written of
@@ -57,12 +57,12 @@ fn fit_at(
 #[inline(always)]
 fn first_of_all(
     alloc: Global,
-    schema: &Schema,
+    book: &Book,
     coded: &[Coded],
     wanted: Wanted<'_>,
 ) -> Result<Option<(u32, Fit)>, AllocError>
     requires few { length coded.now ≤ most_productions }
-    ensures { IfOk result (λ found. FindsFirst schema.now (wanting wanted.entry) (map coded_of coded.now) found) }
+    ensures { IfOk result (λ found. FindsFirst book.now.schema (wanting wanted.entry) (map coded_of coded.now) found) }
 {
     let mut first = None;
     // More than any code has.
@@ -70,7 +70,7 @@ fn first_of_all(
     for (place, coded) in coded.iter().enumerate() {
         let parts = coded.code.parts();
         if parts < fewest {
-            if let Some(value) = fit_at(alloc, schema, coded, wanted)? {
+            if let Some(value) = fit_at(alloc, book, coded, wanted)? {
                 let found = Some((place as u32, value));
                 if parts == 1 {
                     return Ok(found);
@@ -105,7 +105,7 @@ fn first_of_candidates(
     let sought = sought_for(wanted.on);
     let mut after = None;
     while let Some(place) = next_candidate(book, grammar, state, sought, after) {
-        if let Some(value) = fit_at(alloc, schema, &coded[place as usize], wanted)? {
+        if let Some(value) = fit_at(alloc, book, &coded[place as usize], wanted)? {
             return Ok(Some((place, value)));
         }
         after = Some(place);
@@ -134,7 +134,7 @@ fn first_in(
 {
     let coded = book.state(grammar, state).coded();
     if coded.len() <= FEW {
-        first_of_all(alloc, book.schema(), coded, wanted)
+        first_of_all(alloc, book, coded, wanted)
     } else {
         first_of_candidates(alloc, book, grammar, state, wanted)
     }
@@ -180,16 +180,16 @@ pub fn find_in_book<'a>(
 #[inline(always)]
 fn find<'a>(
     alloc: Global,
-    schema: &Schema,
+    book: &Book,
     choice: Option<Choice<'a>>,
     wanted: Wanted<'_>,
 ) -> Result<Option<Found<'a>>, AllocError>
-    ensures { IfOk result (λ found. Keeps schema.now (wanting wanted.entry) choice.entry found) }
+    ensures { IfOk result (λ found. Keeps book.now.schema (wanting wanted.entry) choice.entry found) }
 {
     let Some(choice) = choice else {
         return Ok(None);
     };
-    let Some(value) = fit_on(alloc, schema, choice.rule, wanted.valued)? else {
+    let Some(value) = fit_on(alloc, book, choice.rule, wanted.valued)? else {
         return Ok(None);
     };
     Ok(Some(Found { choice, value }))
@@ -213,7 +213,7 @@ pub fn find_built_in<'a>(
     ensures { IfOk result (λ found. Finds book.now overlay.now (wanting wanted.entry) (built_in book.now overlay.now room) found) }
 {
     let choice = choose_built_in(book, overlay, room, wanted.on);
-    find(alloc, book.schema(), choice, wanted)
+    find(alloc, book, choice, wanted)
 }
 
 /// The production of a fragment's start that stands for an event.

@@ -6,7 +6,7 @@ ghost use Rattle.exi_gram.specs.Switches.{conflicts};
 
 use crate::maker::Maker;
 use crate::places::Places;
-use exi_gram::{Book, CodeTable, CodedState, Index, Items, Options, Schema};
+use exi_gram::{Book, CodeTable, CodedState, Globals, Index, Items, Options, Schema};
 use std::alloc::{AllocError, Global};
 
 /// The states of all grammars of a schema, as the options leave them.
@@ -78,7 +78,7 @@ fn all_indexes(
 
 /// The book by which a stream of this schema, or without one, is read and written with these options. They
 /// may not conflict ([`Options::conflicts`](exi_gram::Options::conflicts)). It takes memory in proportion to
-/// the productions of the schema's grammars.
+/// the productions of the schema's grammars and to what the schema declares.
 ///
 /// # Errors
 ///
@@ -92,5 +92,6 @@ pub fn book(alloc: Global, schema: Schema, options: Options) -> Result<Book, All
     let states = states_for(alloc, &schema, &options)?;
     let tables = all_tables(alloc, states.as_slice())?;
     let indexes = all_indexes(alloc, states.as_slice())?;
-    Ok(Book::of(options, schema, states, tables, indexes))
+    let globals = Globals::of(alloc, &schema)?;
+    Ok(Book::of(options, schema, states, tables, indexes, globals))
 }

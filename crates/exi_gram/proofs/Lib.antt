@@ -4,8 +4,10 @@ pub mod CodeLaws
 pub mod CodeLists
 pub mod CodeSets
 pub mod CodeTells
+pub mod Hashes
 pub mod Indexed
 pub mod Leaving
+pub mod LookUps
 pub mod PartLaws
 pub mod Plain
 pub mod Puts

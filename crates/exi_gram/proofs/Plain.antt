@@ -1,5 +1,5 @@
 -- A book without a schema has the Document grammar alone.
-use Rattle.std.proofs.Common.{◌≡◌, Bool, false, List, [], ◌∷◌, map, refl, sym, ap, ◌∙◌, subst}
+use Rattle.std.proofs.Common.{◌≡◌, false, List, [], ◌∷◌, map, refl, ap, ◌∙◌}
 use Rattle.exi_gram.specs.Additions.{made_states}
 use Rattle.exi_gram.specs.Books.{Contents, IsBook, IsPlainBook, state_of}
 use Rattle.exi_gram.specs.Codes.{Productions}

@@ -1,6 +1,6 @@
 -- The productions of a schema's grammars with their codes (EXI 1.0, sections 8.5.4.3 and 8.5.4.4): those of the normal grammar,
 -- and what is added to them for what the schema does not describe, or where it is kept to strictly.
-use Rattle.std.specs.Prelude.{ℕ, suc, ◌+◌, ◌==◌, ◌&&◌, ◌||◌, not, Bool, true, false, None, Some, List, [], ◌∷◌, ◌++◌, length, map, filter, get_or, drop, if◌then◌else◌}
+use Rattle.std.specs.Prelude.{ℕ, suc, ◌+◌, ◌==◌, ◌||◌, not, Bool, true, false, List, [], ◌∷◌, ◌++◌, length, map, filter, get_or, drop, if◌then◌else◌}
 use Rattle.std.specs.List.{flat_map}
 use Rattle.exi_gram.specs.declared.class.Class.{Class}
 use Rattle.exi_gram.specs.declared.class.Class.TheVariants as class

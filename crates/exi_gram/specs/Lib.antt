@@ -15,3 +15,4 @@ pub mod Wholes
 pub mod Candidates
 pub mod Cells
 pub mod CodeTrees
+pub mod Globals

@@ -1,25 +1,29 @@
 ghost use Rattle.std.specs.Prelude.{◌≡◌, ◌<◌, ◌++◌, false, IfOk, OnOk, OnErr, length};
+ghost use Rattle.std.specs.Option.{option_copied};
 ghost use Rattle.exi_bits.specs.Bits.{IsAligned};
 ghost use Rattle.exi_bits.specs.Unsigned.{Reads};
 ghost use Rattle.exi_bits.specs.Written.{IsWholeBytes};
 ghost use Rattle.exi_items.specs.Fronts.{HoldsFront};
+ghost use Rattle.exi_names.specs.Shown.{named};
 ghost use Rattle.exi_gram.specs.Books.{IsBook, IsPlainBook, IsStateOf, state_at, tables_of};
 ghost use Rattle.exi_gram.specs.Candidates.{FindInAll, candidates};
 ghost use Rattle.exi_gram.specs.Codes.{code_at, code_bits, coded};
 ghost use Rattle.exi_gram.specs.CodeTrees.{place_read};
+ghost use Rattle.exi_gram.specs.Globals.{FindsDeclared, attribute_datatype, element_grammar, represented_by, type_grammar};
 ghost use Rattle.exi_gram.specs.Laws.{codes, placed};
 ghost use Rattle.exi_gram.specs.Switches.{align_of};
 ghost use Rattle.exi_gram.specs.Tables.{parts_at, size};
 
 use crate::class::Class;
 use crate::code_table::CodeTable;
+use crate::globals::Globals;
 use crate::index::Index;
 use crate::items::Items;
 use crate::options::Options;
 use crate::schema::Schema;
 use crate::state::CodedState;
 use exi_bits::{BitIn, BitOut, Fault};
-use exi_names::NameId;
+use exi_names::{Datatype, NameId, NameRef};
 use exi_steps::Steps;
 use std::alloc::AllocError;
 use std::marker::{Brand, Model};
@@ -34,6 +38,7 @@ pub struct Book {
     states: Items<Items<CodedState>>,
     tables: Items<Items<CodeTable>>,
     indexes: Items<Items<Index>>,
+    globals: Globals,
 }
 
 impl Model for Book {
@@ -50,27 +55,32 @@ impl Model for Book {
 
     ghost use Rattle.exi_gram.specs.Books.{tables_of};
     ghost use Rattle.exi_gram.specs.Candidates.{FindInAll};
+    ghost use Rattle.exi_gram.specs.Globals.{FindsDeclared};
     ghost use Rattle.std.specs.Prelude.{◌≡◌};
 
     ghost invariant = { λ b.
         IsBook (record { options = b.options; schema = b.schema; states = b.states })
         × (b.tables ≡ tables_of b.states)
-        × FindInAll b.indexes b.states };
+        × FindInAll b.indexes b.states
+        × FindsDeclared b.globals b.schema };
 }
 
 impl Book {
     /// The book of these options and this schema. The states have to be those of the schema's grammars
-    /// under the options, with a table and an index for each of them, and the options may not conflict.
+    /// under the options, with a table and an index for each of them, and an index of what the schema
+    /// declares by name; and the options may not conflict.
     pub fn of(
         options: Options,
         schema: Schema,
         states: Items<Items<CodedState>>,
         tables: Items<Items<CodeTable>>,
         indexes: Items<Items<Index>>,
+        globals: Globals,
     ) -> Book
         requires book { IsBook (record { options = options; schema = schema; states = states }) }
         requires tables { tables ≡ tables_of states }
         requires indexes { FindInAll indexes states }
+        requires globals { FindsDeclared globals schema }
         ensures { result ≡ record { options = options; schema = schema; states = states } }
     {
         Book {
@@ -79,6 +89,7 @@ impl Book {
             states,
             tables,
             indexes,
+            globals,
         }
     }
 
@@ -136,6 +147,30 @@ impl Book {
     {
         let indexes = self.indexes.as_slice()[grammar as usize].as_slice();
         indexes[state as usize].find(class, name)
+    }
+
+    /// The place of the grammar of the global element of this name, where there is one (EXI 1.0, section
+    /// 8.5.4.1.6). The prefix plays no part. It takes no memory and no walk over the elements.
+    pub fn element_grammar(&self, name: NameRef<'_>) -> Option<u32>
+        ensures { result ≡ element_grammar self.now.schema.globals (named name.entry) }
+    {
+        self.globals.element_grammar(&self.schema, name)
+    }
+
+    /// The datatype of the global attribute of this name, where there is one; any other attribute has a
+    /// string. The prefix plays no part. It takes no memory and no walk over the attributes.
+    pub fn attribute_datatype(&self, name: NameRef<'_>) -> Option<&Datatype>
+        ensures { represented_by (option_copied result) ≡ attribute_datatype self.now.schema.attributes (named name.entry) }
+    {
+        self.globals.attribute_datatype(&self.schema, name)
+    }
+
+    /// The place of the grammar of the type of this name, where there is one. The prefix plays no part. It
+    /// takes no memory and no walk over the types.
+    pub fn type_grammar(&self, name: NameRef<'_>) -> Option<u32>
+        ensures { result ≡ type_grammar self.now.schema.types (named name.entry) }
+    {
+        self.globals.type_grammar(&self.schema, name)
     }
 }
 

@@ -16,7 +16,7 @@ use exi_choice::Declared;
 use exi_names::{NameId, NameRef, QName, Val};
 use exi_reader::{
     Alone, Asides, Content, Rule, Telling, Valuing, alone_in, close, empty_by, go_to, learn,
-    learn_name, open, opener, retype, type_grammar,
+    learn_name, open, opener, retype,
 };
 use exi_tables::Tables;
 use exi_toll::{PutStop, Toll};
@@ -167,7 +167,7 @@ impl<'a, T: Tables + Drop> Pen<'a, T> {
         ensures { result ≡ named_type self.now.setting (seen value.now) }
     {
         match value {
-            Val::Name(name) => type_grammar(self.book.schema(), name.as_ref()),
+            Val::Name(name) => self.book.type_grammar(name.as_ref()),
             Val::Text(_)
             | Val::Bool { .. }
             | Val::Int(_)

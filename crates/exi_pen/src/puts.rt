@@ -108,8 +108,13 @@ impl<'a, T: Tables + Drop> Pen<'a, T> {
     pub fn declared(&self, rule: Rule<'a>, told: Telling, name: NameRef<'_>) -> Declared<'a>
         ensures { declaring result ≡ declared_in self.now.setting.schema (valuing_on (rule_in rule.entry).on) (place_told told) (named name.entry) }
     {
-        let schema = self.book.schema();
-        declaration_of(schema, valuing(rule), rule.datatype, place_told(told), name)
+        declaration_of(
+            self.book,
+            valuing(rule),
+            rule.datatype,
+            place_told(told),
+            name,
+        )
     }
 
     /// The name of the innermost element.

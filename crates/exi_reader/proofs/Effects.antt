@@ -14,7 +14,7 @@ use Rattle.exi_names.specs.Seen as value
 use Rattle.exi_reader.specs.Changes.{Effect, effect_of, emptied, leads, nil_effect, opener, retyped, stays, type_effect}
 use Rattle.exi_reader.specs.Configurations.{IsSetting, Setting}
 use Rattle.exi_reader.specs.Contents.{is_nil, named_type}
-use Rattle.exi_reader.specs.Globals.{element_grammar, is_named, same_texts, type_grammar}
+use Rattle.exi_gram.specs.Globals.{element_grammar, is_named, same_texts, type_grammar}
 use Rattle.exi_reader.specs.Rules.{Valuing, by_name, typed, untyped}
 
 abbrev FullElement : Outline → ElementEntry → Type 0

@@ -18,7 +18,6 @@ mod Joining
 mod KeptCodes
 mod Learns
 mod Lasts
-mod LookUps
 mod Metering
 mod Names
 mod Passing

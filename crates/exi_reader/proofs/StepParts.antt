@@ -32,7 +32,7 @@ use Rattle.exi_reader.specs.Handing.{characters_made, charged_at, charges_on, le
 use Rattle.exi_reader.specs.OneEvent.{at_event, behind, charge_at, followed, moved_limit, one, remembered, unless}
 use Rattle.exi_reader.specs.Changes.{Effect, effect_of, effected, emptied, enclosing, inner_state, innermost, leads, learns_name, moved_elements, moves, opener, outer_behind, resumed, retyped, room_in, stays, with_inner}
 use Rattle.exi_reader.specs.Contents.{acts_as_type, attribute_value_at, both_at, four_texts_at, is_missing, is_nil, named_type, represented_by, text_at, told_name_at, two_texts_at}
-use Rattle.exi_reader.specs.Globals.{attribute_datatype, type_grammar}
+use Rattle.exi_gram.specs.Globals.{attribute_datatype, type_grammar}
 use Rattle.exi_reader.specs.Plans.{Alone, Given, Plan, alone_in, at_end, at_first, at_start, attribute_plan, characters_plan, element_made, element_plan, end_plan, is_event, no_element, nowhere, plan_on, seen_in, start_plan, wrong_element}
 use Rattle.exi_reader.specs.Rules.{Rule, Telling, Terminal, Valuing, attribute, by_name, characters, comment, declaration, document_type, element, end_document, end_element, entity, instruction, known, self_contained, spelled, start_document, typed, under, untyped}
 

@@ -23,7 +23,7 @@ use Rattle.exi_values.proofs.Goings.{values_go_on}
 use Rattle.std.specs.Prelude.{IfOk}
 use Rattle.exi_reader.specs.Configurations.{Setting}
 use Rattle.exi_reader.specs.Contents.{acts_as_type, attribute_value_at, is_missing, represented_by, type_value}
-use Rattle.exi_reader.specs.Globals.{type_grammar}
+use Rattle.exi_gram.specs.Globals.{type_grammar}
 use Rattle.exi_reader.specs.Rules.{Valuing, by_name, typed, untyped}
 
 -- ---- any value keeps each name

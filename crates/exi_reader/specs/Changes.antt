@@ -13,8 +13,8 @@ use Rattle.exi_names.specs.Seen as value
 use Rattle.exi_tables.specs.Partitions.{Partitions, locals, uris}
 use Rattle.exi_reader.specs.Configurations.{Body, Config, Setting, first_tables}
 use Rattle.exi_reader.specs.Contents.{is_nil, named_type}
-pub use Rattle.exi_reader.specs.Globals.{same_texts}
-use Rattle.exi_reader.specs.Globals.{element_grammar}
+pub use Rattle.exi_gram.specs.Globals.{same_texts}
+use Rattle.exi_gram.specs.Globals.{element_grammar}
 use Rattle.exi_reader.specs.Rules.{Telling, Valuing, by_name, known, spelled, typed, under, untyped}
 use Rattle.exi_reader.specs.declared.frames.Element.{Element}
 use Rattle.exi_reader.specs.declared.frames.Outer.{Outer}

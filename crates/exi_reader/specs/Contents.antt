@@ -23,7 +23,7 @@ use Rattle.exi_values.specs.Refused.{RefusesValued}
 use Rattle.exi_values.specs.Spelled.{SpellsValued}
 use Rattle.exi_values.specs.Valued.{valued_at}
 use Rattle.exi_reader.specs.Configurations.{Setting}
-use Rattle.exi_reader.specs.Globals.{attribute_datatype, type_grammar}
+use Rattle.exi_gram.specs.Globals.{attribute_datatype, type_grammar}
 use Rattle.exi_reader.specs.Rules.{Telling, Valuing, by_name, known, nil_name, spelled, typed, under, untyped}
 
 -- ---- nothing

@@ -3,7 +3,6 @@ pub mod Configurations
 pub mod Contents
 pub mod Fews
 pub mod Fragments
-pub mod Globals
 pub mod Handing
 pub mod Joins
 pub mod Laws

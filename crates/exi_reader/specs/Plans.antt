@@ -18,7 +18,7 @@ use Rattle.exi_typed.specs.Strings.{Declaration, Named, declaration_at}
 use Rattle.exi_reader.specs.Changes.{closed, effect_of, effected, innermost, learns, learns_name, moves, opened, opener, put_aside, resumed, rooted}
 use Rattle.exi_reader.specs.Configurations.{Body, Config, Setting}
 use Rattle.exi_reader.specs.Contents.{RefusesAttribute, RefusesCharacters, RefusesFourTexts, RefusesNothing, RefusesText, RefusesTold, RefusesTwoTexts, SpellsAttribute, SpellsCharacters, SpellsFourTexts, SpellsNothing, SpellsText, SpellsTold, SpellsTwoTexts, attribute_at, characters_at, four_texts_at, nothing_at, text_at, told_name_at, two_texts_at}
-use Rattle.exi_reader.specs.Globals.{same_texts}
+use Rattle.exi_gram.specs.Globals.{same_texts}
 use Rattle.exi_reader.specs.Rules.{Rule, Telling, Terminal, Valuing, attribute, characters, comment, declaration, document_type, element, end_document, end_element, entity, instruction, self_contained, start_document}
 use Rattle.exi_reader.specs.declared.frames.Element.{Element}
 use Rattle.exi_reader.specs.declared.frames.Outer.{Outer}

@@ -7,7 +7,7 @@ use Rattle.exi_names.specs.Events.{Happening}
 use Rattle.exi_names.specs.StartTables.{IsStart}
 use Rattle.exi_names.specs.declared.names.QName.{QName}
 use Rattle.exi_reader.specs.Configurations.{Body, Config, IsSetting}
-use Rattle.exi_reader.specs.Globals.{same_texts}
+use Rattle.exi_gram.specs.Globals.{same_texts}
 use Rattle.exi_reader.specs.Laws.{IsWithinLimits}
 use Rattle.exi_reader.specs.Metered.{Due, due_fits, limit_of}
 use Rattle.exi_reader.specs.Runs.{IsRun, IsSequence, Job, Leads, events_of, first}

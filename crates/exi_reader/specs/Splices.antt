@@ -14,7 +14,7 @@ use Rattle.exi_names.specs.StartTables.{IsStart}
 use Rattle.exi_reader.specs.Changes.{resumed}
 use Rattle.exi_reader.specs.Configurations.{Body, Config, IsSetting, Setting, first_tables}
 use Rattle.exi_reader.specs.Runs.{IsRun, IsSequence, Job, Leads, events_of, is_end}
-use Rattle.exi_reader.specs.Globals.{same_texts}
+use Rattle.exi_gram.specs.Globals.{same_texts}
 use Rattle.exi_reader.specs.declared.end.End.{End}
 use Rattle.exi_reader.specs.declared.end.End.TheVariants as end
 use Rattle.exi_reader.specs.declared.frames.Outer.TheVariants as outer

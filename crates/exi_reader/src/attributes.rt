@@ -364,7 +364,7 @@ impl<'a, T: Tables + Drop> Stepper<'a, T> {
             return self.nil_value(bit, alone, name, to, out);
         }
         let book = self.book;
-        let datatype = attribute_datatype(book.schema(), name_ref(&self.tables, name));
+        let datatype = attribute_datatype(book, name_ref(&self.tables, name));
         self.declared_value(bit, alone, datatype, name, to, out)
     }
 

@@ -48,7 +48,7 @@ pub use aside::{Aside, Asides};
 pub use attributes::{empty_by, retype};
 pub use charges::Charges;
 pub use codes::state_behind;
-pub use declared::{attribute_datatype, opener, type_grammar};
+pub use declared::{attribute_datatype, opener};
 pub use elements::Elements;
 pub use end::End;
 pub use ends::{first_outer, first_tables};

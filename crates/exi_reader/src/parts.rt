@@ -31,14 +31,13 @@ ghost use Rattle.exi_reader.specs.Changes.{
   with_inner,
 };
 ghost use Rattle.exi_reader.specs.Contents.{acts_as_type, attribute_value_at, is_nil, text_at, told_name_at, under_at};
-ghost use Rattle.exi_reader.specs.Globals.{type_grammar};
+ghost use Rattle.exi_gram.specs.Globals.{type_grammar};
 ghost use Rattle.exi_reader.specs.declared.alone.Alone.TheVariants as alone;
 ghost use Rattle.exi_reader.specs.Handing.{CanLearn, IsTold, Meets, alone_of, learned_by, telling_of, valuing_in};
 ghost use Rattle.exi_reader.specs.Plans.{alone_in};
 
 use crate::alone::Alone;
 use crate::aside::Asides;
-use crate::declared::type_grammar;
 use crate::elements::Elements;
 use crate::frames::{Element, Outer, State};
 use crate::rule::{Telling, Valuing};
@@ -526,7 +525,7 @@ pub fn read_type<T: Tables>(
     let bit = input.at();
     let keep = keeps_prefixes(options);
     let name = read_name_value(alloc, input, keep, options.align(), tables, meter)?;
-    let grammar = type_grammar(book.schema(), name_ref(tables, name));
+    let grammar = book.type_grammar(name_ref(tables, name));
     if is_strict(options) && grammar.is_none() {
         return Err(Stop::Fault(Fault {
             kind: Kind::BadType,

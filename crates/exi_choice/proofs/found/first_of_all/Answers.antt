@@ -11,7 +11,7 @@ use Rattle.exi_choice.proofs.found.first_of_all.Goals.{then-parts-fewest+in_ok-v
 
 pub loop-place-preserved : goal.loop-place-preserved
 loop-place-preserved c =
-    let o = c.args.schema.now in
+    let o = c.args.book.now.schema in
     let s = wanting c.args.wanted in
     let cs = map coded_of c.args.coded.now in
     let place = c.loop-place.place in
@@ -26,7 +26,7 @@ loop-place-preserved c =
 
 pub returns-then-parts-eq1 : goal.returns-then-parts-eq1
 returns-then-parts-eq1 c =
-    let o = c.args.schema.now in
+    let o = c.args.book.now.schema in
     let s = wanting c.args.wanted in
     let cs = map coded_of c.args.coded.now in
     let place = c.loop-place.place in
@@ -37,4 +37,4 @@ returns-then-parts-eq1 c =
     (this_taken o s cs place d at c.loop-place.fewest c.loop-place.first c.in-Some.value (few_mapped c.args.coded.now c.requires.few) (rw c.parts-parts.ensures at c.if-parts-fewest.true) (rw c.in-Some.is at c.in_ok-value.ensures) c.loop-place.invariant)
 
 pub returns : goal.returns
-returns c = first_found c.args.schema.now (wanting c.args.wanted) c.args.coded.now c.loop-place.place c.loop-place.fewest c.loop-place.first c.requires.few c.loop-place-test.false c.loop-place.invariant
+returns c = first_found c.args.book.now.schema (wanting c.args.wanted) c.args.coded.now c.loop-place.place c.loop-place.fewest c.loop-place.first c.requires.few c.loop-place-test.false c.loop-place.invariant

@@ -5,4 +5,4 @@ use Rattle.exi_choice.proofs.Searching.{SoFar}
 use Rattle.exi_choice.proofs.found.first_of_all.Given as goal
 
 abbrev pub invariant-loop-place : goal.invariant-loop-place
-invariant-loop-place l = SoFar l.schema (wanting l.wanted) (map coded_of l.coded) l.place l.fewest l.first
+invariant-loop-place l = SoFar l.book.schema (wanting l.wanted) (map coded_of l.coded) l.place l.fewest l.first

@@ -31,7 +31,7 @@ returns-in-Some-2 c =
     let coded = c.index-coded-place.result in
     let within = place_kept b c.args.grammar c.args.state s ks kept _ _ place c.in-Some.ensures in
     this_found b c.args.grammar c.args.state s ks kept c.loop-place.after c.loop-place.invariant.behind place (rw c.sought_for-sought.ensures at c.in-Some.ensures) (coded_of coded) (kept_at b c.args.grammar c.args.state s ks kept place coded within c.index-coded-place.is) c.in-Some-2.value
-    (rw (c.in-Some-2.is, c.schema-schema.ensures.schema) at c.in_ok-value.ensures)
+    (rw c.in-Some-2.is at c.in_ok-value.ensures)
 
 pub loop-place-smaller : goal.loop-place-smaller
 loop-place-smaller c = less_left c.args.book.now c.args.grammar c.args.state (wanting c.args.wanted) c.coded-coded.result.now c.loop-place.invariant.kept _ c.loop-place.after c.in-Some.place c.in-Some.ensures
@@ -49,7 +49,7 @@ loop-place-preserved c =
       kept = kept;
       there = place_there b c.args.grammar c.args.state s ks kept _ _ place c.in-Some.ensures;
       behind = still_behind b c.args.grammar c.args.state s ks kept c.loop-place.after c.loop-place.invariant.behind place (rw c.sought_for-sought.ensures at c.in-Some.ensures) (coded_of coded) (kept_at b c.args.grammar c.args.state s ks kept place coded within c.index-coded-place.is)
-          (rw (c.in_default-2.is, c.schema-schema.ensures.schema) at c.in_ok-value.ensures);
+          (rw c.in_default-2.is at c.in_ok-value.ensures);
     }
 
 pub returns : goal.returns

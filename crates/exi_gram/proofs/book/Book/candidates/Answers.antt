@@ -1,4 +1,4 @@
-use Rattle.std.proofs.Common.{◌≡◌, ◌<◌, ℕ, List, length, sym, get_or, [], ap, ◌∙◌, subst, arith}
+use Rattle.std.proofs.Common.{◌≡◌, List, length, get_or, [], ap, ◌∙◌, subst, arith}
 use Rattle.exi_gram.specs.Books.{Contents}
 use Rattle.exi_gram.specs.Candidates.{FindInAll}
 use Rattle.exi_gram.specs.Codes.{Productions}

@@ -1,5 +1,5 @@
-use Rattle.std.proofs.Common.{◌≡◌, false, sym, ap, ◌∙◌, subst}
-use Rattle.exi_gram.specs.Books.{Contents, IsBook, IsPlainBook}
+use Rattle.std.proofs.Common.{subst}
+use Rattle.exi_gram.specs.Books.{IsBook}
 use Rattle.exi_gram.proofs.Plain.{plain_book}
 use Rattle.exi_gram.proofs.book.Book.schema.Goals as goal
 
