@@ -4,6 +4,7 @@ use Rattle.std.proofs.Common.{◌≡◌, ◌⊎◌, ℕ, suc, ◌+◌, Bool, tru
 use Rattle.std.specs.Option.{option_map}
 use Rattle.std.proofs.lemmas.Bool.{cases_Bool}
 use Rattle.std.proofs.lemmas.List.{map-append, length-append}
+use Rattle.std.proofs.lemmas.Option.{none-some, same_Some}
 use Rattle.std.proofs.lemmas.List.Elements.{All-head, All-tail}
 use mathlib.Core.Bool.{beq}
 use Rattle.exi_gram.specs.Codes.{Coded, Productions, Second, coded, coded_from, coded_second, coded_seconds, group, mapped, mapped_second, single}
@@ -33,7 +34,7 @@ use Rattle.exi_reader.specs.declared.rule.Content.TheVariants as content
 use Rattle.exi_reader.specs.declared.rule.Telling.TheVariants as told
 use Rattle.exi_writing.specs.OneEvent.{fewest, first_of, or_else}
 use Rattle.exi_choice.specs.Choices.{Chooses}
-use Rattle.exi_choice.specs.Wanted.{first_for, general, is_of, is_of_rule, special}
+use Rattle.exi_choice.specs.Wanted.{LacksSpecial, first_for, general, is_of, is_of_rule, special}
 use Rattle.exi_choice.specs.declared.choice.Choice.{Choice}
 use Rattle.exi_choice.specs.declared.choice.Way.TheVariants as way
 
@@ -927,3 +928,16 @@ chosen_none g l r wanted only a b = wanted_is g l r wanted only ∙ rw (a, b) re
 
 pub no_this : (p : Productions Learnable) (o : Option Learnable) (x : Learnable) (code : Option Code) → o ≡ Some x → option_map parts_of code ≡ first_code (is_it x) (coded p) → code ≡ None → first_coded (is_this o) (coded p) ≡ None
 no_this p o x code s e is = ap (λ (z : Option Learnable). first_coded (is_this z) (coded p)) s ∙ no_code p x code e is
+
+-- ---- a state that does not have the production for an event alone
+pub lacks_any : (o : Options) (l : Learning) (r : Room) (wanted : Content) → special wanted ≡ None → LacksSpecial o l r wanted
+lacks_any o l r wanted none x s = absurd (none-some x (sym none ∙ s))
+
+pub lacks_this : (o : Options) (l : Learning) (r : Room) (wanted : Content) (x : Learnable) (code : Option Code) → special wanted ≡ Some x → option_map parts_of code ≡ first_code (is_it x) (coded (productions o l r)) → code ≡ None → LacksSpecial o l r wanted
+lacks_this o l r wanted x code s e is y t =
+    let same : x ≡ y = same_Some x y (sym s ∙ t) in
+    ap (λ (z : Learnable). first_code (is_it z) (coded (productions o l r))) (sym same) ∙ sym e ∙ ap (option_map parts_of) is
+
+pub lacking : (p : Productions Learnable) (o : Option Learnable) → ((x : Learnable) → o ≡ Some x → first_code (is_it x) (coded p) ≡ None) → first_coded (is_this o) (coded p) ≡ None
+lacking p None h = nothing_coded (coded p)
+lacking p (Some x) h = no_this p (Some x) x None refl (sym (h x refl)) refl

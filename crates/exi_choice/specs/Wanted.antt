@@ -4,10 +4,13 @@ use Rattle.std.specs.Prelude.{◌≡◌, ℕ, ◌==◌, ◌&&◌, Bool, true, fa
 use Rattle.std.specs.Option.{is_some, option_map}
 use Rattle.exi_builtin.specs.declared.learnable.Learnable.{Learnable}
 use Rattle.exi_builtin.specs.declared.learnable.Learnable.TheVariants as learnable
-use Rattle.exi_builtin.specs.Learning.{same_name}
+use Rattle.exi_builtin.specs.LeastCodes.{first_code, is_it}
+use Rattle.exi_builtin.specs.Learning.{Learning, productions, same_name}
+use Rattle.exi_builtin.specs.declared.learnable.Room.{Room}
 use Rattle.exi_gram.specs.Codes.{Coded, Productions, coded}
 use Rattle.exi_gram.specs.Naming.{Entry}
 use Rattle.exi_gram.specs.Outlines.{Outline}
+use Rattle.exi_gram.specs.declared.options.Options.{Options}
 use Rattle.exi_names.specs.declared.names.NameId.{NameId}
 use Rattle.exi_names.specs.declared.names.QName.{QName}
 use Rattle.exi_names.specs.Events.{Happening}
@@ -144,6 +147,10 @@ special wanted = None
 -- what it stands for
 abbrev pub special_terminal : Content → Option Terminal
 special_terminal wanted = option_map built_in_terminal (special wanted)
+
+-- the state does not have it
+abbrev pub LacksSpecial : Options → Learning → Room → Content → Type 0
+LacksSpecial o l room wanted = (production : Learnable) → special wanted ≡ Some production → first_code (is_it production) (coded (productions o l room)) ≡ None
 
 abbrev pub general : Content → Option Learnable
 general (content.Element own) = Some learnable.SeAny

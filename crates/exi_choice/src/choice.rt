@@ -1,4 +1,4 @@
-ghost use Rattle.std.specs.Prelude.{◌≡◌, None, Some, IfSome};
+ghost use Rattle.std.specs.Prelude.{◌≡◌, None, Some, IfNone, IfSome};
 ghost use Rattle.exi_builtin.specs.Learning.{IsRoom, state_behind};
 ghost use Rattle.exi_builtin.specs.Learning.{Learning};
 ghost use Rattle.exi_reader.specs.Configurations.{Setting, built_in};
@@ -7,7 +7,7 @@ ghost use Rattle.exi_reader.specs.Handing.{rule_in, telling_of, terminal_in};
 ghost use Rattle.exi_reader.specs.Rules.{built_in_terminal};
 ghost use Rattle.exi_choice.specs.declared.choice.Way.TheVariants as Way;
 ghost use Rattle.exi_choice.specs.Choices.{Chooses, IsChoice};
-ghost use Rattle.exi_choice.specs.Wanted.{general, is_of, is_told, special, special_terminal};
+ghost use Rattle.exi_choice.specs.Wanted.{LacksSpecial, general, is_of, is_told, special, special_terminal};
 
 use exi_builtin::{Learnable, Overlay, Room};
 use exi_gram::{Book, Code};
@@ -133,6 +133,7 @@ pub fn choose_special<'a>(
     requires room { IsRoom overlay.now room }
     ensures choice { IfSome result (λ choice. IsChoice book.now overlay.now wanted (built_in book.now overlay.now room) choice) }
     ensures on { IfSome result (λ choice. Some (rule_in choice.rule).on ≡ special_terminal wanted) }
+    ensures none { IfNone result (LacksSpecial book.now.options overlay.now room wanted) }
 {
     let options = book.options();
     let _ = overlay.learned(room);
@@ -152,13 +153,11 @@ pub fn choose_built_in<'a>(
     requires room { IsRoom overlay.now room }
     ensures { Chooses book.now overlay.now wanted (built_in book.now overlay.now room) result }
 {
+    if let Some(choice) = choose_special(book, overlay, room, wanted) {
+        return Some(choice);
+    }
     let options = book.options();
     let _ = overlay.learned(room);
-    if let Some(production) = special(wanted) {
-        if let Some(code) = overlay.code_of(room, production, options) {
-            return Some(coded_as(room, production, code));
-        }
-    }
     let production = general(wanted)?;
     let code = overlay.code_of(room, production, options)?;
     Some(coded_as(room, production, code))
