@@ -1,6 +1,7 @@
 //! The case of lists of events: the stream that is written, or the first event that is refused, in the words of
 //! `exi write`. It is written whole by two kinds of string tables, and once event by event. Then each fragment of a
-//! self-contained element is written by itself too, and has to stand in the stream as it was written there.
+//! self-contained element is written by itself too; it has to stand in the stream as it was written there, and a writer that
+//! comes to it has to take it.
 //!
 //! ```text
 //! compose FLAGS EVENTS:TEXT:DEPTH HEX [SCHEMA]    HEX; events Syntax LINE; events NotDerived EVENT; or events KIND EVENT
@@ -8,11 +9,11 @@
 //!
 //! SCHEMA is the event text of a schema document, by which is written; else it is written without a schema.
 
-ghost use Rattle.std.specs.Prelude.{◌≡◌, ◌<◌, false, length, IfOk, OnOk};
+ghost use Rattle.std.specs.Prelude.{◌≡◌, ◌<◌, false, length, true, IfOk, OnOk};
 ghost use Rattle.exi_bits.specs.Written.{IsWholeBytes};
 ghost use Rattle.exi_bits.specs.declared.align.Align.{Align as Alignment};
 ghost use Rattle.exi_gram.specs.Switches.{conflicts};
-ghost use Rattle.exi_writer.specs.Writing.{MayGoOn};
+ghost use Rattle.exi_writer.specs.Writing.{IsAtFragment, MayGoOn};
 
 use crate::bodies::limits_of;
 use crate::books::book_of;
@@ -277,11 +278,69 @@ fn part_of<L: Ledger>(
     };
     match apart(alloc, book, limits, name, &events[place + 1..], steps)? {
         Some((bits, tally)) => {
-            let fits = writer.fits(&tally);
+            let fits = writer.fits(&tally)
+                && takes(
+                    alloc,
+                    book,
+                    limits,
+                    &events[..place],
+                    &events[place],
+                    &bits,
+                    &tally,
+                    steps,
+                )?;
             Ok(Some(Part { bits, fits }))
         }
         None => Ok(None),
     }
+}
+
+/// Whether a writer that comes to the SC behind these events takes the fragment as it was written by itself, and has then charged
+/// what that charged too.
+fn takes<L: Ledger>(
+    alloc: Global,
+    book: &Book,
+    limits: Limits,
+    before: &[Event],
+    begin: &Event,
+    bits: &BitOut,
+    tally: &Tally,
+    steps: &mut Steps<L>,
+) -> Result<bool, PutStop> {
+    let Ok(head) = header(alloc) else {
+        return Err(PutStop::Memory);
+    };
+    let mut writer = Writer::<ListTables>::new(alloc, book, limits, WriteStart::Body, head)?;
+    for event in before {
+        put_on(&mut writer, event, steps)?;
+    }
+    if !writer.put(begin, steps)? {
+        return Ok(false);
+    }
+    splice_on(&mut writer, bits, tally)
+}
+
+/// The same of a writer that has come to it.
+fn splice_on(
+    writer: &mut Writer<'_, ListTables>,
+    bits: &BitOut,
+    tally: &Tally,
+) -> Result<bool, PutStop>
+    requires waits { writer.old.waits ≡ true }
+    requires at_fragment { IsAtFragment writer.old }
+{
+    if bits.bits() % 8 != 0 || !writer.fits(tally) {
+        return Ok(false);
+    }
+    let charged = writer.tally();
+    let Ok(()) = writer.splice(bits, tally) else {
+        return Err(PutStop::Memory);
+    };
+    let now = writer.tally();
+    Ok(
+        charged.events.checked_add(tally.events) == Some(now.events)
+            && charged.text.checked_add(tally.text) == Some(now.text),
+    )
 }
 
 /// The name of the last element that begins.
