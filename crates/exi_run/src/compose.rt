@@ -1,9 +1,10 @@
 //! A stream of an event text.
 
-ghost use Rattle.std.specs.Prelude.{◌≡◌, ◌+◌, ◌<◌, ◌≤◌, ◌∷◌, ◌^◌, [], Some, None, IfOk, IsErrOf, length, option_copied};
+ghost use Rattle.std.specs.Prelude.{◌≡◌, ◌+◌, ◌<◌, ◌≤◌, ◌∷◌, ◌^◌, [], Option, Some, None, IfOk, IsErrOf, length, option_copied};
 ghost use Rattle.exi_bits.specs.Bits.{IsBytes};
 ghost use Rattle.exi_bits.specs.Written.{IsWholeBytes};
 ghost use Rattle.exi_evtext.specs.Parsing.{events_left};
+ghost use Rattle.exi_gram.specs.Outlines.{Outline};
 ghost use Rattle.exi_gram.specs.Switches.{align_of};
 ghost use Rattle.exi_names.specs.Events.{Rose};
 ghost use Rattle.exi_options.specs.Writing.{IsNamable};
@@ -12,7 +13,7 @@ ghost use Rattle.exi_run.specs.Dues.{Due, OwedOfBoth, OwedOfText, most_bytes};
 ghost use Rattle.exi_run.specs.Statuses.{IsTold};
 ghost use Rattle.exi_run.specs.Stops.{halt_for};
 ghost use Rattle.exi_run.specs.Tasks.{IsReady, gathered, names_of, writing_task};
-ghost use Rattle.exi_run.specs.Wishes.{head_bits, head_options, named_schema, setting_for, stream_bytes, wish_of};
+ghost use Rattle.exi_run.specs.Wishes.{Wish, head_bits, head_options, named_schema, setting_for, stream_bytes, wish_of};
 ghost use Rattle.exi_writer.specs.Writing.{MayTake};
 
 use crate::command::Writing;
@@ -124,8 +125,21 @@ fn finished(list: ListWriter<'_, HashTables>) -> Result<BitOut, Halt>
     }
 }
 
-/// The bits of the stream of an event text, by a schema that is known, if there is one. Its events are written one after another,
-/// as the lines say them.
+/// The bits of the stream of an event text behind this head, by this book. Its events are written one after another, as the lines
+/// say them.
+fn compose_by(alloc: Global, book: &Book, head: BitOut, text: &[u8]) -> Result<BitOut, Halt>
+    requires aligned { IsWholeBytes (align_of book.now.options) head }
+    ensures { (w : Wish) (known : Option Outline) → head ≡ head_bits w → book.now ≡ setting_for w known
+        → Composes w known text.now result }
+{
+    let limits = Limits::of_stream();
+    let mut list = ListWriter::<HashTables>::new(alloc, book, limits, head)?;
+    let mut lines = EventLines::new(alloc, text);
+    write_lines::<Brand>(alloc, &mut lines, &mut list, Blank::new(1))?;
+    finished(list)
+}
+
+/// The same by a schema that is known, if there is one.
 fn compose(
     alloc: Global,
     writing: &Writing<'_>,
@@ -137,11 +151,7 @@ fn compose(
 {
     let head = head_of(alloc, writing)?;
     let book = book_of(alloc, writing, schema)?;
-    let limits = Limits::of_stream();
-    let mut list = ListWriter::<HashTables>::new(alloc, &book, limits, head)?;
-    let mut lines = EventLines::new(alloc, text);
-    write_lines::<Brand>(alloc, &mut lines, &mut list, Blank::new(1))?;
-    finished(list)
+    compose_by(alloc, &book, head, text)
 }
 
 /// Bytes, in one put.

@@ -1,4 +1,4 @@
-use Rattle.exi_run.proofs.compose.compose.Given as goal
+use Rattle.exi_run.proofs.compose.compose_by.Given as goal
 
 abbrev pub ghosts-write_lines : goal.ghosts-write_lines
 ghosts-write_lines a = record { name = a.blank.name; parts = a.blank.parts }
