@@ -10,23 +10,23 @@ use Rattle.exi_writing.specs.Runs.{Derives, Refusal, Run, body}
 use Rattle.exi_derived.specs.Laws.{BitsRefuseTheSame, BitsWriteAgain, DerivedIsWritten, DerivedOrUnmatched, GoesOn, IsNoWider, IsRefused, LimitedGoesOn, NeverBoth, OneUnmatched, RefusedDerivesNot, RefusedIsUnmatched, RefusesAt, RefusesFrom, Unmatched, UnmatchedIsRefused, WiderWritesTheSame, WrittenDerives, WrittenExactly, is_limit, is_written, passes_limit, unmatched_at}
 use Rattle.exi_derived.proofs.Enough.{from_enough}
 use Rattle.exi_derived.proofs.Lists.{KeptRun, Later, ListAgain, RefusedAgain, from_again}
-use Rattle.exi_derived.proofs.Places.{no_wider}
+use Rattle.exi_derived.proofs.Places.{no_wider, same_start}
 
 -- ---- a body again, behind other bits and under limits that are no narrower
-body_again : (g : Setting) (bits more : ℕ) (limits wider : Bounds) (es : List Happening) → IsNoWider limits wider → ListAgain (wider ≡ limits) bits more wider (body g bits limits es) (body g more wider es)
+body_again : (g : Setting) (bits more : ℕ) (limits wider : Bounds) (es : List Happening) → IsNoWider limits wider → ListAgain (wider ≡ limits) same_start bits more wider (body g bits limits es) (body g more wider es)
 unfolding body
-body_again g bits more limits wider es room = from_again (wider ≡ limits) es 1 g (first_config g bits start.Body limits) more wider record { wide = room; same = λ is. is }
+body_again g bits more limits wider es room = from_again (wider ≡ limits) same_start es 1 g (first_config g bits start.Body limits) more wider record { wide = room; same = λ is. is }
 
 body_enough : (g : Setting) (bits : ℕ) (limits : Bounds) (es : List Happening) → (wider : Bounds) × IsNoWider limits wider × (passes_limit (body g bits wider es) ≡ false)
 unfolding body
 body_enough g bits limits es = from_enough es 1 g (first_config g bits start.Body limits) limits
 
 -- what was so is so again
-again_by : (Same : Type 0) (from to : ℕ) (limits : Bounds) (r s : Result Run Refusal) → r ≡ s → (t : Result Run Refusal) → ListAgain Same from to limits r t → ListAgain Same from to limits s t
-again_by Same from to limits r s is t k = subst (λ (z : Result Run Refusal). ListAgain Same from to limits z t) is k
+again_by : (Same : Type 0) (from to : ℕ) (limits : Bounds) (r s : Result Run Refusal) → r ≡ s → (t : Result Run Refusal) → ListAgain Same same_start from to limits r t → ListAgain Same same_start from to limits s t
+again_by Same from to limits r s is t k = subst (λ (z : Result Run Refusal). ListAgain Same same_start from to limits z t) is k
 
 module _ (g : Setting) (bits more : ℕ) (limits wider : Bounds) (es : List Happening) (room : IsNoWider limits wider) where
-  written_again : (r : Run) → body g bits limits es ≡ Ok r → (t : Run) × (body g more wider es ≡ Ok t) × KeptRun (wider ≡ limits) bits more wider r t
+  written_again : (r : Run) → body g bits limits es ≡ Ok r → (t : Run) × (body g more wider es ≡ Ok t) × KeptRun (wider ≡ limits) same_start bits more wider r t
   written_again r is = again_by (wider ≡ limits) bits more wider (body g bits limits es) (Ok r) is (body g more wider es) (body_again g bits more limits wider es room)
 
   unmatched_again : (event : ℕ) → body g bits limits es ≡ Err (unmatched_at event) → body g more wider es ≡ Err (unmatched_at event)
@@ -66,11 +66,11 @@ event_is : (a b : ℕ) → refusal a not_derived ≡ refusal b not_derived → a
 event_is a b h = ap event_of h
 
 -- under wider limits what is refused is refused there, or a limit was passed no later
-refused_so : (Same : Type 0) (from to : ℕ) (limits : Bounds) (event : ℕ) (r s : Result Run Refusal) → s ≡ Err (unmatched_at event) → ListAgain Same from to limits r s → IsRefused event r
+refused_so : (Same : Type 0) (from to : ℕ) (limits : Bounds) (event : ℕ) (r s : Result Run Refusal) → s ≡ Err (unmatched_at event) → ListAgain Same same_start from to limits r s → IsRefused event r
 refused_so Same from to limits event (Ok r) s is k = ok_err k.0 event (sym k.1 ∙ is)
 refused_so Same from to limits event (Err e) s is k = by_why e.event e.why k
   where
-    by_why : (at : ℕ) (why : Refused) → RefusedAgain Same at why s → RefusesAt event at why
+    by_why : (at : ℕ) (why : Refused) → RefusedAgain Same same_start at why s → RefusesAt event at why
     by_why at not_derived same = event_is at event (sym same ∙ is)
     by_why at (limit kind meter) le = subst (λ (z : Result Run Refusal). Later at z) is le.0
 
@@ -140,7 +140,7 @@ goes_on event (Err e) le settled = by_why e.event e.why le settled
     by_why at not_derived le settled = le
     by_why at (limit kind meter) le settled = absurd cc
 
-later_again : (Same : Type 0) (event : ℕ) (why : Refused) (s : Result Run Refusal) → is_limit why ≡ true → RefusedAgain Same event why s → Later event s
+later_again : (Same : Type 0) (event : ℕ) (why : Refused) (s : Result Run Refusal) → is_limit why ≡ true → RefusedAgain Same same_start event why s → Later event s
 later_again Same event not_derived s is k = absurd cc
 later_again Same event (limit kind meter) s is k = k.0
 
@@ -160,7 +160,7 @@ wider_writes_the_same g bits limits wider es r room is =
 pub bits_write_again : BitsWriteAgain
 bits_write_again g bits others limits es r is = let k = written_again g bits others limits limits es (no_wider limits) r is in (k.0, k.1)
 
-refused_again : (Same : Type 0) (event : ℕ) (why : Refused) (s : Result Run Refusal) → Same → RefusedAgain Same event why s → s ≡ refusal event why
+refused_again : (Same : Type 0) (event : ℕ) (why : Refused) (s : Result Run Refusal) → Same → RefusedAgain Same same_start event why s → s ≡ refusal event why
 refused_again Same event not_derived s same is = is
 refused_again Same event (limit kind meter) s same k = k.1 same
 

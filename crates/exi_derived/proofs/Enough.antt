@@ -16,7 +16,7 @@ use Rattle.exi_writing.specs.Runs.{Refusal, Run, behind_run, go_on, nothing_from
 use Rattle.exi_derived.specs.Laws.{IsNoWider, is_limit, passes_limit, unmatched_at}
 use Rattle.exi_derived.proofs.Lists.{KeptRun, put_again}
 use Rattle.exi_derived.proofs.OneEvent.{Again, Fits, KeptOne, chosen_same, code_of, one_again}
-use Rattle.exi_derived.proofs.Places.{limited, no_wider, put_at, wider_still}
+use Rattle.exi_derived.proofs.Places.{limited, no_wider, put_at, same_start, wider_still}
 use Rattle.exi_derived.proofs.Plans.{same_plan}
 
 -- ---- no limit is passed
@@ -109,9 +109,9 @@ module _ (g : Setting) (e : Happening) where
   by_code_settled : (c : Config) (limits : Bounds) (o : Option (Coded Rule)) → HasRoom (limited limits c.meter) 1 (needs c o) 1 → Settled (by_code g (put_at c.place limits c) e o)
   by_code_settled c limits None r = refl
   by_code_settled c limits (Some x) r =
-      let k : Config = record (put_at c.place limits c) { place = c.place + length (code_of g c e 0 limits x) } in
-      behind_settled (code_of g c e 0 limits x) (followed (plan_of g (put_at c.place limits c) x.item) k (written_by g (put_at c.place limits c) x.item e c.tables))
-      (same_plan g (alone_in c.elements c.outer) c x.item e c.tables c.place limits (λ plan o. Settled (followed plan k o)) x.item.on (content_settled (plan_of g c x.item) (written_by g c x.item e c.tables) k r))
+      let k : Config = record (put_at c.place limits c) { place = c.place + length (code_of same_start g c e 0 limits x) } in
+      behind_settled (code_of same_start g c e 0 limits x) (followed (plan_of g (put_at c.place limits c) x.item) k (written_by g (put_at c.place limits c) x.item e c.tables))
+      (same_plan g (alone_in c.elements c.outer) c x.item e c.tables same_start c.place limits (λ plan o. Settled (followed plan k o)) x.item.on (content_settled (plan_of g c x.item) (written_by g c x.item e c.tables) k r))
 
   one_enough : Enough (λ c. written g c e)
   unfolding written
@@ -121,11 +121,11 @@ module _ (g : Setting) (e : Happening) where
         wider,
         wide_is limits c.meter units,
         going_settled (has_ended c) (by_code g (put_at c.place wider c) e (chosen g (put_at c.place wider c) e))
-            (subst (λ (o : Option (Coded Rule)). Settled (by_code g (put_at c.place wider c) e o)) (chosen_same g c e c.place wider) (by_code_settled c wider (chosen g c e) (wide_room limits c.meter units))),
+            (subst (λ (o : Option (Coded Rule)). Settled (by_code g (put_at c.place wider c) e o)) (chosen_same same_start g c e c.place wider) (by_code_settled c wider (chosen g c e) (wide_room limits c.meter units))),
       )
 
 -- nothing is said of limits that are the same
-no_same : (limits wider : Bounds) → IsNoWider limits wider → Fits ⊥ limits wider
+no_same : (limits wider : Bounds) → IsNoWider limits wider → Fits ⊥ same_start limits wider
 no_same limits wider room = record { wide = room; same = λ never. absurd never }
 
 -- ---- events one after another
@@ -142,7 +142,7 @@ module _ (g : Setting) (e : Happening) (f : Config → Result Run Refused) (more
   by_answer c limits first room (Ok w) is s =
       let k = more w.given.1 first in
       let wider = k.0 in
-      let there : Again ⊥ (KeptOne ⊥ c.place c.place wider) (Ok w) (written g (put_at c.place wider c) e) = subst (λ (z : Result Written Refused). Again ⊥ (KeptOne ⊥ c.place c.place wider) z (written g (put_at c.place wider c) e)) is (one_again ⊥ g (put_at c.place first c) e c.place wider (no_same first wider k.1)) in
+      let there : Again ⊥ same_start (KeptOne ⊥ same_start c.place c.place wider) (Ok w) (written g (put_at c.place wider c) e) = subst (λ (z : Result Written Refused). Again ⊥ same_start (KeptOne ⊥ same_start c.place c.place wider) z (written g (put_at c.place wider c) e)) is (one_again ⊥ same_start g (put_at c.place first c) e c.place wider (no_same first wider k.1)) in
       let v = there.0 in
       let next : v.given.1 ≡ put_at w.given.1.place wider w.given.1 = there.2.next ∙ ap (λ (p : ℕ). put_at p wider w.given.1) (there.2.same refl).place_is in
       let last : Settled (f v.given.1) = subst (λ (d : Config). Settled (f d)) (sym next) k.2 in
@@ -176,7 +176,7 @@ module _ (n : ℕ) (g : Setting) (e : Happening) (others : Config → Result Run
   on_answer c limits first room (Ok r) is s =
       let k = more r.last first in
       let wider = k.0 in
-      let there : Again ⊥ (KeptRun ⊥ c.place c.place wider) (Ok r) (put g (put_at c.place wider c) e) = subst (λ (z : Result Run Refused). Again ⊥ (KeptRun ⊥ c.place c.place wider) z (put g (put_at c.place wider c) e)) is (put_again ⊥ g e (put_at c.place first c) c.place wider (no_same first wider k.1)) in
+      let there : Again ⊥ same_start (KeptRun ⊥ same_start c.place c.place wider) (Ok r) (put g (put_at c.place wider c) e) = subst (λ (z : Result Run Refused). Again ⊥ same_start (KeptRun ⊥ same_start c.place c.place wider) z (put g (put_at c.place wider c) e)) is (put_again ⊥ same_start g e (put_at c.place first c) c.place wider (no_same first wider k.1)) in
       let t = there.0 in
       let next : t.last ≡ put_at r.last.place wider r.last = there.2.next ∙ ap (λ (p : ℕ). put_at p wider r.last) (there.2.same refl).place_is in
       let last : passes_limit (others t.last) ≡ false = ap (λ (d : Config). passes_limit (others d)) next ∙ k.2 in

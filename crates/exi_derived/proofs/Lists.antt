@@ -1,16 +1,18 @@
--- Events one after another, and a list to its end, written again at another place and under limits that are no narrower.
+-- Events one after another, and a list to its end, written again at another place, under limits that are no narrower, and where
+-- writing may have begun elsewhere.
 use Rattle.std.proofs.Common.{◌≡◌, ◌≤◌, ℕ, suc, Bool, true, false, List, [], ◌∷◌, ◌++◌, Option, Some, None, refl, sym, ap, ◌∙◌, subst, arith}
 use Rattle.std.specs.Prelude.{Result, Ok, Err, if◌then◌else◌}
 use Rattle.exi_meter.specs.Metering.{Bounds}
 use Rattle.exi_names.specs.Events.{Happening}
 use Rattle.exi_reader.specs.Configurations.{Config, Setting}
 use Rattle.exi_reader.specs.Runs.{has_ended}
+use Rattle.exi_reader.specs.declared.start.Start.{Start}
 use Rattle.exi_writing.specs.OneEvent.{Refused, Written, ◌>>=◌, limit, not_derived, written}
 use Rattle.exi_writing.specs.Pruned.{pruned}
 use Rattle.exi_writing.specs.Runs.{Refusal, Run, behind_run, go_on, in_front, nothing_from, own, put, put_from, put_then, then_run, written_all}
 use Rattle.exi_derived.specs.Laws.{unmatched_at}
 use Rattle.exi_derived.proofs.OneEvent.{Again, Fits, Kept, KeptOne, again_then, one_again}
-use Rattle.exi_derived.proofs.Places.{put_at}
+use Rattle.exi_derived.proofs.Places.{shifted}
 
 -- ---- a list that is refused
 -- it is refused at this event or behind it, if it is
@@ -44,15 +46,15 @@ from_later [] n g c = later_ended n c (has_ended c)
 from_later (e ∷ es) n g c = later_then n g c (pruned g.options e) (λ d. put_from (suc n) g d es) (λ d. from_later es (suc n) g d)
 
 -- whether the limits are the same is for whoever says so
-module _ (Same : Type 0) where
+module _ (Same : Type 0) (begun : Start → Start) where
   abbrev pub KeptRun : ℕ → ℕ → Bounds → Run → Run → Type 0
-  KeptRun from to limits r s = Kept Same from to limits r.bits s.bits r.events s.events r.last s.last
+  KeptRun from to limits r s = Kept Same begun from to limits r.bits s.bits r.events s.events r.last s.last
 
   -- ---- several events
-  nothing_kept : (c : Config) (to : ℕ) (limits : Bounds) → Fits Same c.meter.limits limits → KeptRun c.place to limits (nothing_from c) (nothing_from (put_at to limits c))
-  nothing_kept c to limits room = record { place = to; next = refl; room = room; same = λ is. record { bits_are = refl; event = refl; place_is = is } }
+  nothing_kept : (c : Config) (to : ℕ) (limits : Bounds) → Fits Same begun c.meter.limits limits → KeptRun c.place to limits (nothing_from c) (nothing_from (shifted begun to limits c))
+  nothing_kept c to limits room = record { place = to; next = refl; room = room; same = λ is. record { bits_are = refl; event = refl; place_is = is }; whole = λ is. record { bits_are = refl; apart = is } }
 
-  front_kept : (from to : ℕ) (limits : Bounds) (w v : Written) (r s : Run) (k : KeptOne Same from to limits w v) → KeptRun w.given.1.place k.place limits r s → KeptRun from to limits (in_front w r) (in_front v s)
+  front_kept : (from to : ℕ) (limits : Bounds) (w v : Written) (r s : Run) (k : KeptOne Same begun from to limits w v) → KeptRun w.given.1.place k.place limits r s → KeptRun from to limits (in_front w r) (in_front v s)
   front_kept from to limits w v r s k l = record {
     place = l.place;
     next = l.next;
@@ -61,24 +63,28 @@ module _ (Same : Type 0) where
         let a = k.same is in
         let b = l.same a.place_is in
         record { bits_are = ap (λ (x : List Bool). x ++ s.bits) a.bits_are ∙ ap (λ (x : List Bool). w.bits ++ x) b.bits_are; event = ap (λ (x : Option Happening). x ∷ s.events) a.event ∙ ap (λ (x : List (Option Happening)). w.given.0 ∷ x) b.event; place_is = b.place_is };
+    whole = λ is.
+        let a = k.whole is in
+        let b = l.whole a.apart in
+        record { bits_are = ap (λ (x : List Bool). x ++ s.bits) a.bits_are ∙ ap (λ (x : List Bool). w.bits ++ x) b.bits_are; apart = b.apart };
   }
 
-  then_again : (from to : ℕ) (limits : Bounds) (w v : Written) (k : KeptOne Same from to limits w v) (r s : Result Run Refused) → Again Same (KeptRun w.given.1.place k.place limits) r s → Again Same (KeptRun from to limits) (then_run w r) (then_run v s)
+  then_again : (from to : ℕ) (limits : Bounds) (w v : Written) (k : KeptOne Same begun from to limits w v) (r s : Result Run Refused) → Again Same begun (KeptRun w.given.1.place k.place limits) r s → Again Same begun (KeptRun from to limits) (then_run w r) (then_run v s)
   then_again from to limits w v k (Ok r) s l = (in_front v l.0, ap (then_run v) l.1, front_kept from to limits w v r l.0 k l.2)
   then_again from to limits w v k (Err not_derived) s is = ap (then_run v) is
   then_again from to limits w v k (Err (limit kind m)) s is = λ same. ap (then_run v) (is same)
 
   -- what is written behind an event, of a configuration
   abbrev pub GoesAgain : (Config → Result Run Refused) → Type 0
-  GoesAgain f = (c : Config) (to : ℕ) (limits : Bounds) → Fits Same c.meter.limits limits → Again Same (KeptRun c.place to limits) (f c) (f (put_at to limits c))
+  GoesAgain f = (c : Config) (to : ℕ) (limits : Bounds) → Fits Same begun c.meter.limits limits → Again Same begun (KeptRun c.place to limits) (f c) (f (shifted begun to limits c))
 
   pub event_then : (g : Setting) (e : Happening) (f : Config → Result Run Refused) → GoesAgain f → GoesAgain (λ c. written g c e >>= (λ w. then_run w (f w.given.1)))
   event_then g e f more c to limits room =
-      again_then Same (KeptOne Same c.place to limits) (KeptRun c.place to limits) (written g c e) (written g (put_at to limits c) e) (λ w. then_run w (f w.given.1)) (λ w. then_run w (f w.given.1)) (one_again Same g c e to limits room)
-      (λ w v k. then_again c.place to limits w v k (f w.given.1) (f v.given.1) (subst (λ (d : Config). Again Same (KeptRun w.given.1.place k.place limits) (f w.given.1) (f d)) (sym k.next) (more w.given.1 k.place limits k.room)))
+      again_then Same begun (KeptOne Same begun c.place to limits) (KeptRun c.place to limits) (written g c e) (written g (shifted begun to limits c) e) (λ w. then_run w (f w.given.1)) (λ w. then_run w (f w.given.1)) (one_again Same begun g c e to limits room)
+      (λ w v k. then_again c.place to limits w v k (f w.given.1) (f v.given.1) (subst (λ (d : Config). Again Same begun (KeptRun w.given.1.place k.place limits) (f w.given.1) (f d)) (sym k.next) (more w.given.1 k.place limits k.room)))
 
   pub all_again : (g : Setting) (es : List Happening) → GoesAgain (λ c. written_all g c es)
-  all_again g [] c to limits room = (nothing_from (put_at to limits c), refl, nothing_kept c to limits room)
+  all_again g [] c to limits room = (nothing_from (shifted begun to limits c), refl, nothing_kept c to limits room)
   all_again g (e ∷ es) c to limits room = event_then g e (λ d. written_all g d es) (all_again g es) c to limits room
 
   own_again : (g : Setting) → GoesAgain (λ c. written_all g c (own c))
@@ -108,6 +114,10 @@ module _ (Same : Type 0) where
         let a = k.same is in
         let b = l.same a.place_is in
         record { bits_are = ap (λ (x : List Bool). x ++ u.bits) a.bits_are ∙ ap (λ (x : List Bool). r.bits ++ x) b.bits_are; event = ap (λ (x : List (Option Happening)). x ++ u.events) a.event ∙ ap (λ (x : List (Option Happening)). r.events ++ x) b.event; place_is = b.place_is };
+    whole = λ is.
+        let a = k.whole is in
+        let b = l.whole a.apart in
+        record { bits_are = ap (λ (x : List Bool). x ++ u.bits) a.bits_are ∙ ap (λ (x : List Bool). r.bits ++ x) b.bits_are; apart = b.apart };
   }
 
   refused_behind : (n : ℕ) (why : Refused) (r s : Run) (o : Result Run Refusal) → RefusedAgain n why o → RefusedAgain n why (behind_run s o)
@@ -119,9 +129,9 @@ module _ (Same : Type 0) where
   behind_again from to limits r s k (Err e) p is = refused_behind e.event e.why r s p is
 
   abbrev pub ListsAgain : (Config → Result Run Refusal) → Type 0
-  ListsAgain f = (c : Config) (to : ℕ) (limits : Bounds) → Fits Same c.meter.limits limits → ListAgain c.place to limits (f c) (f (put_at to limits c))
+  ListsAgain f = (c : Config) (to : ℕ) (limits : Bounds) → Fits Same begun c.meter.limits limits → ListAgain c.place to limits (f c) (f (shifted begun to limits c))
 
-  on_again : (n : ℕ) (others : Config → Result Run Refusal) (from to : ℕ) (limits : Bounds) (r s : Result Run Refused) → ListsAgain others → ((c : Config) → Later (suc n) (others c)) → Again Same (KeptRun from to limits) r s → ListAgain from to limits (go_on n r others) (go_on n s others)
+  on_again : (n : ℕ) (others : Config → Result Run Refusal) (from to : ℕ) (limits : Bounds) (r s : Result Run Refused) → ListsAgain others → ((c : Config) → Later (suc n) (others c)) → Again Same begun (KeptRun from to limits) r s → ListAgain from to limits (go_on n r others) (go_on n s others)
   on_again n others from to limits (Ok r) s more later l =
       let t = l.0 in
       let k = l.2 in
@@ -132,11 +142,11 @@ module _ (Same : Type 0) where
 
   pub then_lists : (n : ℕ) (g : Setting) (o : Option Happening) (others : Config → Result Run Refusal) → ListsAgain others → ((c : Config) → Later (suc n) (others c)) → ListsAgain (λ c. put_then n g c o others)
   then_lists n g None others more later c to limits room = more c to limits room
-  then_lists n g (Some e) others more later c to limits room = on_again n others c.place to limits (put g c e) (put g (put_at to limits c) e) more later (put_again g e c to limits room)
+  then_lists n g (Some e) others more later c to limits room = on_again n others c.place to limits (put g c e) (put g (shifted begun to limits c) e) more later (put_again g e c to limits room)
 
-  ended_again : (n : ℕ) (c : Config) (to : ℕ) (limits : Bounds) (ended : Bool) → Fits Same c.meter.limits limits
-      → ListAgain c.place to limits (if ended then Ok (nothing_from c) else Err (unmatched_at n)) (if ended then Ok (nothing_from (put_at to limits c)) else Err (unmatched_at n))
-  ended_again n c to limits true room = (nothing_from (put_at to limits c), refl, nothing_kept c to limits room)
+  ended_again : (n : ℕ) (c : Config) (to : ℕ) (limits : Bounds) (ended : Bool) → Fits Same begun c.meter.limits limits
+      → ListAgain c.place to limits (if ended then Ok (nothing_from c) else Err (unmatched_at n)) (if ended then Ok (nothing_from (shifted begun to limits c)) else Err (unmatched_at n))
+  ended_again n c to limits true room = (nothing_from (shifted begun to limits c), refl, nothing_kept c to limits room)
   ended_again n c to limits false room = refl
 
   pub from_again : (es : List Happening) (n : ℕ) (g : Setting) → ListsAgain (λ c. put_from n g c es)

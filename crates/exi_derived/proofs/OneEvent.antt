@@ -1,7 +1,7 @@
--- One event, written again at another place and under limits that are no narrower: by the same production, and on to a
--- configuration that differs again in place and limits alone.
-use Rattle.std.proofs.Common.{◌≡◌, ◌+◌, ◌≤◌, ℕ, Bool, true, false, eqb, leb, ◌&&◌, List, [], ◌∷◌, ◌++◌, length, Option, Some, None, refl, sym, ap, ◌∙◌, subst, arith}
-use Rattle.std.specs.Prelude.{Result, Ok, Err, if◌then◌else◌}
+-- One event, written again at another place, under limits that are no narrower, and where writing may have begun elsewhere: by
+-- the same production, and on to a configuration that differs again in these alone.
+use Rattle.std.proofs.Common.{◌≡◌, ◌+◌, ◌*◌, ◌/◌, ◌%◌, ◌≤◌, ℕ, Bool, true, false, eqb, leb, ◌&&◌, List, [], ◌∷◌, ◌++◌, length, Option, Some, None, refl, sym, ap, ◌∙◌, subst, arith}
+use Rattle.std.specs.Prelude.{◌-◌, Result, Ok, Err, replicate, if◌then◌else◌}
 use Rattle.std.specs.Option.{is_none}
 use Rattle.std.proofs.lemmas.Bool.{leb-true, le-leb}
 use Rattle.exi_bits.specs.declared.fault.Kind.{Kind}
@@ -17,10 +17,11 @@ use Rattle.exi_reader.specs.Plans.{Plan, alone_in, plan_of}
 use Rattle.exi_reader.specs.Rules.{Rule}
 use Rattle.exi_reader.specs.Runs.{has_ended}
 use Rattle.exi_reader.specs.Spelled.{further}
+use Rattle.exi_reader.specs.declared.start.Start.{Start}
 use Rattle.exi_writing.specs.OneEvent.{Refused, Written, ◌>>=◌, at_end, behind, behind_code, by_code, chosen, fewest, first_of, followed, followed_by, is_taken, limit, matches, not_derived, one_deeper, one_more, or_else, padding, paid, written, written_by}
 use Rattle.exi_writing.specs.Pieces.{Piece}
 use Rattle.exi_derived.specs.Laws.{IsNoWider}
-use Rattle.exi_derived.proofs.Places.{limited, put_at}
+use Rattle.exi_derived.proofs.Places.{limited, shifted}
 use Rattle.exi_derived.proofs.Plans.{MakesAlike, makes_alike, same_plan}
 
 -- ---- the production that is taken is the same
@@ -38,18 +39,29 @@ fewest_same test other xs same =
 abbrev may_stand : (plan : Plan) → Option (Piece plan.Item) → Bool
 may_stand plan o = is_none plan.barred && is_none plan.misplaced && is_taken plan.refused o
 
-module _ (g : Setting) (c : Config) (e : Happening) (to : ℕ) (limits : Bounds) where
-  matches_same : (r : Rule) → matches g c e r ≡ matches g (put_at to limits c) e r
-  matches_same r = same_plan g (alone_in c.elements c.outer) c r e c.tables to limits (λ plan o. matches g c e r ≡ may_stand plan o) r.on refl
+module _ (begun : Start → Start) (g : Setting) (c : Config) (e : Happening) (to : ℕ) (limits : Bounds) where
+  matches_same : (r : Rule) → matches g c e r ≡ matches g (shifted begun to limits c) e r
+  matches_same r = same_plan g (alone_in c.elements c.outer) c r e c.tables begun to limits (λ plan o. matches g c e r ≡ may_stand plan o) r.on refl
 
-  pub chosen_same : chosen g c e ≡ chosen g (put_at to limits c) e
-  chosen_same = fewest_same (matches g c e) (matches g (put_at to limits c) e) (coded (rules_of g c)) matches_same
+  pub chosen_same : chosen g c e ≡ chosen g (shifted begun to limits c) e
+  chosen_same = fewest_same (matches g c e) (matches g (shifted begun to limits c) e) (coded (rules_of g c)) matches_same
 
   abbrev pub code_of : Coded Rule → List Bool
   code_of x = code_bits (align_of g.options) (codes (rules_of g c)) x.parts
 
+-- ---- places so many whole bytes apart
+whole_on : (a b n : ℕ) → a % 8 ≡ b % 8 → (a + n) % 8 ≡ (b + n) % 8
+whole_on a b n e = omega (arith, e)
+
+whole_after : (a b n m last : ℕ) → a % 8 ≡ b % 8 → n ≡ m → last ≡ b + m → (a + n) % 8 ≡ last % 8
+whole_after a b n m last e f h = omega (arith, e, f, h)
+
+padding_whole : (padded : Bool) (a b : ℕ) → a % 8 ≡ b % 8 → padding padded a ≡ padding padded b
+padding_whole false a b e = refl
+padding_whole true a b e = ap (λ (n : ℕ). replicate n false) (let same : (a + 7) / 8 * 8 - a ≡ (b + 7) / 8 * 8 - b = omega (arith, e) in same)
+
 -- whether the limits are the same is for whoever says so
-module _ (Same : Type 0) where
+module _ (Same : Type 0) (begun : Start → Start) where
   -- ---- answers again: what was there is there, as this relates it; a production that was missing is missing; behind a limit
   -- anything may come, but where the limits are the same, and then that limit again
   abbrev pub Again : {X : Type 0} → (X → X → Type 0) → Result X Refused → Result X Refused → Type 0
@@ -108,12 +120,19 @@ module _ (Same : Type 0) where
     pub event : f ≡ e
     pub place_is : other ≡ place
 
-  -- the next configurations differ in place and limits alone; where the places were the same, so are all bits and events
+  -- and at places so many whole bytes apart
+  pub record IsBytesApart (bits words : List Bool) (place other : ℕ) : Type 0 where
+    pub bits_are : words ≡ bits
+    pub apart : other % 8 ≡ place % 8
+
+  -- the next configurations differ in place, limits and where reading began alone; where the places were the same, so are all bits
+  -- and events, and where they were whole bytes apart, so are all bits
   pub record Kept {E : Type 0} (from to : ℕ) (limits : Bounds) (bits words : List Bool) (e f : E) (c d : Config) : Type 0 where
     pub place : ℕ
-    pub next : d ≡ put_at place limits c
+    pub next : d ≡ shifted begun place limits c
     pub room : Fits c.meter.limits limits
     pub same : to ≡ from → IsSame bits words e f c.place place
+    pub whole : to % 8 ≡ from % 8 → IsBytesApart bits words c.place place
 
   abbrev pub KeptOne : ℕ → ℕ → Bounds → Written → Written → Type 0
   KeptOne from to limits w v = Kept from to limits w.bits v.bits w.given.0 v.given.0 w.given.1 v.given.1
@@ -126,36 +145,42 @@ module _ (Same : Type 0) where
     abbrev item_at : Config → Metering → Config
     item_at k m = further k (length (text_at k)) (record { meter = m; tables = piece.tables })
 
-    end_kept : (m : Metering) → Fits m.limits limits → KeptOne c.place to limits (at_end plan.padded plan.make c piece m (text_at c)) (at_end plan.padded plan.make (put_at to limits c) piece (limited limits m) (text_at (put_at to limits c)))
+    text_whole : to % 8 ≡ c.place % 8 → text_at (shifted begun to limits c) ≡ text_at c
+    text_whole is = ap (λ (z : List Bool). piece.bits ++ z) (padding_whole plan.padded (to + length piece.bits) (c.place + length piece.bits) (whole_on to c.place (length piece.bits) is))
+
+    end_kept : (m : Metering) → Fits m.limits limits → KeptOne c.place to limits (at_end plan.padded plan.make c piece m (text_at c)) (at_end plan.padded plan.make (shifted begun to limits c) piece (limited limits m) (text_at (shifted begun to limits c)))
     end_kept m room =
         let k = item_at c m in
-        let place = to + length (text_at (put_at to limits c)) in
+        let place = to + length (text_at (shifted begun to limits c)) in
         let s = alike.next piece.item in
-        let next = s.next place limits k in
-        let begins = alike.begins piece.item place limits k in
+        let next = s.next begun place limits k in
+        let begins = alike.begins piece.item begun place limits k in
         let stays : (plan.make piece.item k).1.place ≡ k.place = s.place k in
         record {
           place = place;
-          next = ap (λ (d : Config). record d { after_start = is_start (plan.make piece.item (put_at place limits k)).0 }) next ∙ ap (λ (b : Bool). record (put_at place limits (plan.make piece.item k).1) { after_start = b }) begins;
+          next = ap (λ (d : Config). record d { after_start = is_start (plan.make piece.item (shifted begun place limits k)).0 }) next ∙ ap (λ (b : Bool). record (shifted begun place limits (plan.make piece.item k).1) { after_start = b }) begins;
           room = subst (λ (b : Bounds). Fits b limits) (sym (s.limits k)) room;
           same = λ is. record {
-            bits_are = ap (λ (p : ℕ). text_at (put_at p limits c)) is;
-            event = ap (λ (p : ℕ). (plan.make piece.item (put_at (p + length (text_at (put_at p limits c))) limits k)).0) is ∙ alike.event piece.item limits k;
-            place_is = ap (λ (p : ℕ). p + length (text_at (put_at p limits c))) is ∙ sym stays;
+            bits_are = ap (λ (p : ℕ). text_at (shifted begun p limits c)) is;
+            event = ap (λ (p : ℕ). (plan.make piece.item (shifted begun (p + length (text_at (shifted begun p limits c))) limits k)).0) is ∙ alike.event piece.item begun limits k;
+            place_is = ap (λ (p : ℕ). p + length (text_at (shifted begun p limits c))) is ∙ sym stays;
           };
+          whole = λ is.
+              let text = text_whole is in
+              record { bits_are = text; apart = whole_after to c.place (length (text_at (shifted begun to limits c))) (length (text_at c)) (plan.make piece.item k).1.place is (ap length text) stays };
         }
 
-    pub followed_again : Fits c.meter.limits limits → Again (KeptOne c.place to limits) (followed_by plan c piece) (followed_by plan (put_at to limits c) piece)
+    pub followed_again : Fits c.meter.limits limits → Again (KeptOne c.place to limits) (followed_by plan c piece) (followed_by plan (shifted begun to limits c) piece)
     unfolding followed_by
     followed_again room =
         again_then (KeptMeter limits) (KeptOne c.place to limits) (one_more plan.counted c.meter) (one_more plan.counted (limited limits c.meter)) _ _ (more_again plan.counted limits c.meter room)
         (λ x y k. again_then (KeptMeter limits) (KeptOne c.place to limits) (one_deeper plan.entered x) (one_deeper plan.entered y) _ _ (subst (λ (z : Metering). Again (KeptMeter limits) (one_deeper plan.entered x) (one_deeper plan.entered z)) (sym k.0) (deeper_again plan.entered limits x k.1))
         (λ u v l. again_then (KeptMeter limits) (KeptOne c.place to limits) (paid piece.units u) (paid piece.units v) _ _ (subst (λ (z : Metering). Again (KeptMeter limits) (paid piece.units u) (paid piece.units z)) (sym l.0) (paid_again piece.units limits u l.1))
-        (λ m n j. (at_end plan.padded plan.make (put_at to limits c) piece (limited limits m) (text_at (put_at to limits c)), ap (λ (z : Metering). Ok (at_end plan.padded plan.make (put_at to limits c) piece z (text_at (put_at to limits c)))) j.0, end_kept m j.1))))
+        (λ m n j. (at_end plan.padded plan.make (shifted begun to limits c) piece (limited limits m) (text_at (shifted begun to limits c)), ap (λ (z : Metering). Ok (at_end plan.padded plan.make (shifted begun to limits c) piece z (text_at (shifted begun to limits c)))) j.0, end_kept m j.1))))
 
   -- ---- the event
   module _ (g : Setting) (c : Config) (e : Happening) (to : ℕ) (limits : Bounds) where
-    content_again : (plan : Plan) (o : Option (Piece plan.Item)) (k : Config) (place : ℕ) → MakesAlike plan → Fits k.meter.limits limits → Again (KeptOne k.place place limits) (followed plan k o) (followed plan (put_at place limits k) o)
+    content_again : (plan : Plan) (o : Option (Piece plan.Item)) (k : Config) (place : ℕ) → MakesAlike plan → Fits k.meter.limits limits → Again (KeptOne k.place place limits) (followed plan k o) (followed plan (shifted begun place limits k) o)
     content_again plan None k place alike room = refl
     content_again plan (Some piece) k place alike room = followed_again plan alike k piece place limits room
 
@@ -165,6 +190,7 @@ module _ (Same : Type 0) where
       next = k.next;
       room = k.room;
       same = λ is. let s = k.same (ap (λ (p : ℕ). p + length code) is) in record { bits_are = ap (λ (b : List Bool). code ++ b) s.bits_are; event = s.event; place_is = s.place_is };
+      whole = λ is. let s = k.whole (whole_on to c.place (length code) is) in record { bits_are = ap (λ (b : List Bool). code ++ b) s.bits_are; apart = s.apart };
     }
 
     behind_again : (code : List Bool) (r s : Result Written Refused) → Again (KeptOne (c.place + length code) (to + length code) limits) r s → Again (KeptOne c.place to limits) (behind_code code r) (behind_code code s)
@@ -172,22 +198,22 @@ module _ (Same : Type 0) where
     behind_again code (Err not_derived) s is = ap (behind_code code) is
     behind_again code (Err (limit k m)) s is = λ same. ap (behind_code code) (is same)
 
-    by_code_again : Fits c.meter.limits limits → (o : Option (Coded Rule)) → Again (KeptOne c.place to limits) (by_code g c e o) (by_code g (put_at to limits c) e o)
+    by_code_again : Fits c.meter.limits limits → (o : Option (Coded Rule)) → Again (KeptOne c.place to limits) (by_code g c e o) (by_code g (shifted begun to limits c) e o)
     by_code_again room None = refl
     by_code_again room (Some x) =
         let a = alone_in c.elements c.outer in
-        let k : Config = record c { place = c.place + length (code_of g c e to limits x) } in
-        let place = to + length (code_of g c e to limits x) in
-        behind_again (code_of g c e to limits x) (followed (plan_of g c x.item) k (written_by g c x.item e c.tables)) (followed (plan_of g (put_at to limits c) x.item) (put_at place limits k) (written_by g (put_at to limits c) x.item e c.tables))
-        (same_plan g a c x.item e c.tables to limits (λ plan o. Again (KeptOne k.place place limits) (followed (plan_of g c x.item) k (written_by g c x.item e c.tables)) (followed plan (put_at place limits k) o)) x.item.on
+        let k : Config = record c { place = c.place + length (code_of begun g c e to limits x) } in
+        let place = to + length (code_of begun g c e to limits x) in
+        behind_again (code_of begun g c e to limits x) (followed (plan_of g c x.item) k (written_by g c x.item e c.tables)) (followed (plan_of g (shifted begun to limits c) x.item) (shifted begun place limits k) (written_by g (shifted begun to limits c) x.item e c.tables))
+        (same_plan g a c x.item e c.tables begun to limits (λ plan o. Again (KeptOne k.place place limits) (followed (plan_of g c x.item) k (written_by g c x.item e c.tables)) (followed plan (shifted begun place limits k) o)) x.item.on
         (content_again (plan_of g c x.item) (written_by g c x.item e c.tables) k place (makes_alike g a c x.item x.item.on) room))
 
     going_again : (ended : Bool) (r s : Result Written Refused) → Again (KeptOne c.place to limits) r s → Again (KeptOne c.place to limits) (if ended then Err not_derived else r) (if ended then Err not_derived else s)
     going_again true r s k = refl
     going_again false r s k = k
 
-    pub one_again : Fits c.meter.limits limits → Again (KeptOne c.place to limits) (written g c e) (written g (put_at to limits c) e)
+    pub one_again : Fits c.meter.limits limits → Again (KeptOne c.place to limits) (written g c e) (written g (shifted begun to limits c) e)
     unfolding written
     one_again room =
-        going_again (has_ended c) (by_code g c e (chosen g c e)) (by_code g (put_at to limits c) e (chosen g (put_at to limits c) e))
-        (subst (λ (o : Option (Coded Rule)). Again (KeptOne c.place to limits) (by_code g c e (chosen g c e)) (by_code g (put_at to limits c) e o)) (chosen_same g c e to limits) (by_code_again room (chosen g c e)))
+        going_again (has_ended c) (by_code g c e (chosen g c e)) (by_code g (shifted begun to limits c) e (chosen g (shifted begun to limits c) e))
+        (subst (λ (o : Option (Coded Rule)). Again (KeptOne c.place to limits) (by_code g c e (chosen g c e)) (by_code g (shifted begun to limits c) e o)) (chosen_same begun g c e to limits) (by_code_again room (chosen g c e)))
