@@ -10,3 +10,4 @@ pub mod Told
 pub mod Backs
 pub mod Serving
 pub mod Answering
+pub mod Writable

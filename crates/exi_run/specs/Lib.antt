@@ -11,3 +11,4 @@ pub mod Printing
 pub mod Dues
 pub mod Backs
 pub mod Answers
+pub mod Writable

@@ -4,6 +4,7 @@ ghost use Rattle.xsd_file.specs.Bases.{Basis};
 ghost use Rattle.exi_run.specs.Backs.{WrittenIsRead};
 ghost use Rattle.exi_run.specs.declared.ending.Ending.{Ending};
 ghost use Rattle.exi_run.specs.Wholes.{IsWhole, IsFront};
+ghost use Rattle.exi_run.specs.Writable.{RefusedIsUnwritable, WrittenIsWritable};
 
 use exi_reader::laws::{a_sequence_is_there, one_sequence};
 
@@ -33,4 +34,14 @@ pub fn written_is_read()
     exi_writer::laws::written_is_same_text();
     exi_gram::laws::without_schema_is_schema();
     exi_header::laws::written_is_read();
+}
+
+/// A text is written exactly where it says a list of events that can be written, by the options and the schema and whatever limits
+/// there are, and no limit of a stream is passed (EXI 1.0, sections 5.4, 6 and 8.5); else it is refused for what keeps it from that.
+pub fn written_is_writable()
+    ensures written { WrittenIsWritable }
+    ensures refused { RefusedIsUnwritable }
+{
+    exi_derived::laws::derived_is_written();
+    exi_derived::laws::refused_derives_not();
 }

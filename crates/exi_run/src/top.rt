@@ -4,13 +4,14 @@ ghost use Rattle.exi_run.specs.Answers.{Answered, AreWithin, Counts, Ends, Grows
 ghost use Rattle.exi_run.specs.Dues.{refusal_due};
 ghost use Rattle.exi_run.specs.Statuses.{IsOr, IsTold};
 ghost use Rattle.exi_run.specs.Tasks.{IsReadyIf, names_of, needs_of, task_of};
+ghost use Rattle.exi_run.specs.Writable.{CanBeWritten, CanNotBeWritten};
 ghost use Rattle.exi_run.specs.declared.form.Form.TheVariants as form;
 
 use crate::command::{Command, command_in};
 use crate::compose::write_stream;
 use crate::count::count_document;
 use crate::halt::{Halt, Refusal};
-use crate::laws::written_is_read;
+use crate::laws::{written_is_read, written_is_writable};
 use crate::refuse::put_refusal;
 use crate::status::Status;
 use crate::stream::tell_stream;
@@ -130,6 +131,12 @@ pub fn run<R: Threads + Wait + Sync, F: Shelf, O: Sink, G: Gate>(
     ensures events { OfWriting (task_of words.now) (F.files shelf.old) (λ wish document text. result ≡ Status.Events → WritesNone wish (O.taken out.old) (O.taken out.new) document text) }
     ensures events_only { result ≡ Status.Events → IsWriting (task_of words.now) }
 
+    // So status Ok comes exactly where the text says a list that can be written, by its options and schema and whatever limits there
+    // are, and no limit of a stream is passed. What the line says holds of the list itself: no event is refused for want of a
+    // production that any limits would let be written.
+    ensures derived { OfWriting (task_of words.now) (F.files shelf.old) (λ wish document text. result ≡ Status.Ok → CanBeWritten wish document text) }
+    ensures not_derived { OfWriting (task_of words.now) (F.files shelf.old) (λ wish document text. result ≡ Status.Events → CanNotBeWritten wish (O.taken out.old) (O.taken out.new) document text) }
+
     // Where memory runs out, nothing of a stream was put. So it is with a refusal, by the clause below.
     ensures starved { IsWriting (task_of words.now) → StarvesOnly result (O.taken out.old) (O.taken out.new) }
 
@@ -169,5 +176,6 @@ pub fn run<R: Threads + Wait + Sync, F: Shelf, O: Sink, G: Gate>(
     ensures asked { GrowsByFront (F.asked shelf.old) (names_of (task_of words.now)) (F.asked shelf.new) }
 {
     written_is_read();
+    written_is_writable();
     respond(alloc, words, shelf, out)
 }

@@ -3,6 +3,7 @@ use Rattle.exi_run.specs.Tasks.{task_of}
 use Rattle.exi_run.specs.declared.form.Form.TheVariants as form
 use Rattle.exi_run.proofs.Answering.{tells, refused, usage_is, long_is, too_long_is, refusal_is, not_later, completes, counts, refuses_document, schema_is, writes, writes_none, events_is, starves_is}
 use Rattle.exi_run.proofs.Backs.{reads_back}
+use Rattle.exi_run.proofs.Writable.{derives, derives_not}
 use Rattle.exi_run.proofs.top.run.Goals as goal
 
 pub returns-clause-read : goal.returns-clause-read
@@ -55,3 +56,9 @@ returns-clause-schema_refused g c = refuses_document (task_of c.args.words.now) 
 
 pub returns-clause-schema_only : goal.returns-clause-schema_only
 returns-clause-schema_only g c = schema_is (task_of c.args.words.now) (g.F.Shelf.files c.args.shelf.now) (Rose (g.F.Shelf.faults c.args.shelf.now) (g.F.Shelf.faults c.respond.new.shelf)) c.respond.result (g.O.Sink.taken c.args.out.now) (g.O.Sink.taken c.respond.new.out) c.respond.ensures.answered
+
+pub returns-clause-derived : goal.returns-clause-derived
+returns-clause-derived g c = derives c.written_is_writable.ensures.written (task_of c.args.words.now) (g.F.Shelf.files c.args.shelf.now) (Rose (g.F.Shelf.faults c.args.shelf.now) (g.F.Shelf.faults c.respond.new.shelf)) c.respond.result (g.O.Sink.taken c.args.out.now) (g.O.Sink.taken c.respond.new.out) c.respond.ensures.answered
+
+pub returns-clause-not_derived : goal.returns-clause-not_derived
+returns-clause-not_derived g c = derives_not c.written_is_writable.ensures.refused (task_of c.args.words.now) (g.F.Shelf.files c.args.shelf.now) (Rose (g.F.Shelf.faults c.args.shelf.now) (g.F.Shelf.faults c.respond.new.shelf)) c.respond.result (g.O.Sink.taken c.args.out.now) (g.O.Sink.taken c.respond.new.out) c.respond.ensures.answered
