@@ -4,12 +4,13 @@
 //! document, `F` the content of a fragment, `S` and `T` the start tag and the content of an element.
 
 ghost use Rattle.std.specs.Prelude.{◌≡◌, false};
+ghost use Rattle.exi_builtin.specs.Learning.{IsRoom};
 ghost use Rattle.exi_gram.specs.Switches.{conflicts};
 
 use crate::options::options_of;
 use exi_builtin::{Learnable, Overlay, Room};
 use exi_codes::book;
-use exi_gram::{Code, Options, Terminal};
+use exi_gram::{Book, Code, Options, Terminal};
 use exi_names::NameId;
 use exi_schema::no_schema;
 use std::alloc::{AllocError, Global};
@@ -32,12 +33,24 @@ pub fn answer(alloc: Global, fields: &[&str]) -> Result<Option<String>, AllocErr
 fn built_in(alloc: Global, all: &mut String, options: &Options) -> Result<(), AllocError> {
     let mut overlay = Overlay::new(alloc);
     let number = overlay.grammar(NameId { uri: 0, local: 0 })?;
-    let start_tag = overlay.codes(Room::StartTag(number), options)?;
-    push_list(alloc, all, "S", start_tag.as_slice())?;
-    let content = overlay.codes(Room::Content(number), options)?;
-    push_list(alloc, all, "T", content.as_slice())?;
-    let fragment = overlay.codes(Room::Fragment, options)?;
-    push_list(alloc, all, "F", fragment.as_slice())
+    push_room(alloc, all, "S", &overlay, Room::StartTag(number), options)?;
+    push_room(alloc, all, "T", &overlay, Room::Content(number), options)?;
+    push_room(alloc, all, "F", &overlay, Room::Fragment, options)
+}
+
+/// A state of the built-in grammars behind its letter.
+fn push_room(
+    alloc: Global,
+    all: &mut String,
+    letter: &str,
+    overlay: &Overlay,
+    room: Room,
+    options: &Options,
+) -> Result<(), AllocError>
+    requires room { IsRoom overlay.now room }
+{
+    let list = overlay.codes(room, options)?;
+    push_list(alloc, all, letter, list.as_slice())
 }
 
 /// The states of a document.
@@ -45,6 +58,11 @@ fn document(alloc: Global, all: &mut String, options: Options) -> Result<(), All
     requires no_conflict { conflicts options ≡ false }
 {
     let book = book(alloc, no_schema(alloc)?, options)?;
+    push_states(alloc, all, &book)
+}
+
+/// The states of a book, each behind its letter.
+fn push_states(alloc: Global, all: &mut String, book: &Book) -> Result<(), AllocError> {
     for grammar in book.states() {
         for (state, letter) in grammar.as_slice().iter().zip(["D", "C", "E"]) {
             push_letter(all, letter)?;

@@ -9,10 +9,11 @@
 //!
 //! SCHEMA is the event text of a schema document, by which is written; else it is written without a schema.
 
-ghost use Rattle.std.specs.Prelude.{◌≡◌, ◌<◌, false, length, true, IfOk, OnOk};
+ghost use Rattle.std.specs.Prelude.{◌≡◌, ◌<◌, false, length, true, IfOk, IsTrue, OnOk};
 ghost use Rattle.exi_bits.specs.Written.{IsWholeBytes};
 ghost use Rattle.exi_bits.specs.declared.align.Align.{Align as Alignment};
 ghost use Rattle.exi_gram.specs.Switches.{conflicts};
+ghost use Rattle.exi_reader.specs.Runs.{has_ended};
 ghost use Rattle.exi_writer.specs.Writing.{IsAtFragment, MayGoOn};
 
 use crate::bodies::limits_of;
@@ -56,10 +57,32 @@ fn written_by(
     let (Some(limits), Some(options)) = (limits_of(limits), options_of(flags)) else {
         return Ok(None);
     };
-    let (Some(text), Some(book)) = (bytes_of(alloc, hex)?, book_by(alloc, options, schema)?) else {
-        return Ok(None);
-    };
-    Ok(Some(told(alloc, &book, limits, text.as_slice())?))
+    match bytes_of(alloc, hex)? {
+        Some(text) => by_schema(alloc, options, schema, limits, text.as_slice()),
+        None => Ok(None),
+    }
+}
+
+/// The answer for a text, by the schema that is told, or without one.
+fn by_schema(
+    alloc: Global,
+    options: Options,
+    schema: Option<&str>,
+    limits: Limits,
+    text: &[u8],
+) -> Result<Option<String>, AllocError>
+    requires no_conflict { conflicts options ≡ false }
+{
+    let book = book_by(alloc, options, schema)?;
+    match &book {
+        Some(book) => some(told(alloc, book, limits, text)),
+        None => Ok(None),
+    }
+}
+
+/// This answer, as one that there is.
+fn some(answer: Result<String, AllocError>) -> Result<Option<String>, AllocError> {
+    Ok(Some(answer?))
 }
 
 /// The book by the schema that is told, or without one.
@@ -311,13 +334,28 @@ fn takes<L: Ledger>(
         return Err(PutStop::Memory);
     };
     let mut writer = Writer::<ListTables>::new(alloc, book, limits, WriteStart::Body, head)?;
-    for event in before {
-        put_on(&mut writer, event, steps)?;
-    }
-    if !writer.put(begin, steps)? {
+    if !comes_to(&mut writer, before, begin, steps)? {
         return Ok(false);
     }
     splice_on(&mut writer, bits, tally)
+}
+
+/// Writes events, and then SC; true where that was written, and the writer has come to the fragment.
+fn comes_to<L: Ledger>(
+    writer: &mut Writer<'_, ListTables>,
+    before: &[Event],
+    begin: &Event,
+    steps: &mut Steps<L>,
+) -> Result<bool, PutStop>
+    requires going { writer.old.waits ≡ false }
+    requires composed { MayGoOn writer.old }
+    ensures waits { IfOk result (λ came. writer.new.waits ≡ came) }
+    ensures fragment { IfOk result (λ came. IsTrue came → IsAtFragment writer.new) }
+{
+    for event in before {
+        put_on(writer, event, steps)?;
+    }
+    writer.put(begin, steps)
 }
 
 /// The same of a writer that has come to it.
@@ -381,12 +419,28 @@ fn apart<L: Ledger>(
 ) -> Result<Option<(BitOut, Tally)>, PutStop> {
     let start = WriteStart::Fragment(name);
     let mut writer = Writer::<ListTables>::new(alloc, book, limits, start, BitOut::new(alloc))?;
+    if !ends_in(&mut writer, events, steps)? {
+        return Ok(None);
+    }
+    let tally = writer.tally();
+    Ok(Some((writer.finish(), tally)))
+}
+
+/// Writes events until the fragment has ended; true where it does.
+fn ends_in<L: Ledger>(
+    writer: &mut Writer<'_, ListTables>,
+    events: &[Event],
+    steps: &mut Steps<L>,
+) -> Result<bool, PutStop>
+    requires going { writer.old.waits ≡ false }
+    requires composed { MayGoOn writer.old }
+    ensures ended { IfOk result (λ ended. IsTrue ended → has_ended writer.new.config ≡ true) }
+{
     for event in events {
-        put_on(&mut writer, event, steps)?;
+        put_on(writer, event, steps)?;
         if writer.ended() {
-            let tally = writer.tally();
-            return Ok(Some((writer.finish(), tally)));
+            return Ok(true);
         }
     }
-    Ok(None)
+    Ok(false)
 }

@@ -64,8 +64,24 @@ fn by_turns<L: Ledger>(
     requires start { IsStartIn (job_of job.now) start }
 {
     let mut reader = Reader::<ListTables>::new(alloc, job, start, job.limits)?;
+    to_end(alloc, job, &mut reader, lines, steps)
+}
+
+/// The same, by this reader.
+fn to_end<L: Ledger>(
+    alloc: Global,
+    job: &Job<'_>,
+    reader: &mut Reader<'_, ListTables>,
+    lines: &mut Lines,
+    steps: &mut Steps<L>,
+) -> Result<Option<End>, ReadStop>
+    requires job { IsJob (job_of job.now) }
+    requires of { IsOf (job_of job.now) reader.old }
+    requires reached { IsReached reader.old }
+    requires going { reader.old.waits ≡ false }
+{
     for _ in 0..MOST_TURNS {
-        if let Some(end) = turn(alloc, job, &mut reader, lines, steps)? {
+        if let Some(end) = turn(alloc, job, reader, lines, steps)? {
             return Ok(Some(end));
         }
     }

@@ -1,7 +1,7 @@
 use Rattle.std.proofs.Common.{◌≡◌, false}
 use Rattle.exi_reader.specs.Reading.{IsReached, job_of}
 use Rattle.exi_conformance.specs.Turns.{IsOf}
-use Rattle.exi_conformance.proofs.turns.by_turns.Given as goal
+use Rattle.exi_conformance.proofs.turns.to_end.Given as goal
 
 abbrev pub invariant-loop : goal.invariant-loop
 invariant-loop g l = record {
