@@ -1,6 +1,6 @@
 -- The element that is open behind its SE has that name, and so has the fragment that SC begins there.
 use Rattle.std.proofs.Common.{◌≡◌, ℕ, ◌<◌, Bool, true, false, ◌&&◌, List, [], ◌∷◌, ◌++◌, length, get_or, Option, Some, None, refl, sym, ap, ◌∙◌, subst}
-use Rattle.std.specs.Prelude.{Result, Ok, unwrap_or}
+use Rattle.std.specs.Prelude.{Ok, unwrap_or}
 use Rattle.std.proofs.lemmas.Bool.{and_parts}
 use Rattle.std.proofs.lemmas.List.{map-append}
 use Rattle.std.proofs.lemmas.Option.{get_or_from_slice_get, slice_get_within}
@@ -27,7 +27,7 @@ use Rattle.exi_typed.specs.Strings.{Named, place_in}
 use Rattle.exi_typed.specs.Written.{after_local, after_name, after_uri, name_bits, prefix_bits, space_for, under_bits, unless_found}
 use Rattle.exi_typed.specs.WrittenLaws.{name_units, named_for}
 use Rattle.exi_writing.specs.Contents.{told_name, written_on}
-use Rattle.exi_writing.specs.OneEvent.{Refused, Written, written}
+use Rattle.exi_writing.specs.OneEvent.{Written, written}
 use Rattle.exi_writing.specs.Pieces as piece
 use Rattle.exi_writing.specs.Pieces.{Piece, can_be_spelled, can_know, can_know_under, can_name, can_tell, if_spelled, is_at, is_text, named_under, stands_at}
 use Rattle.exi_writing.specs.Runs.{Run, nothing_from, own, put, written_all}
@@ -36,6 +36,7 @@ use Rattle.exi_writer.proofs.Composed.{then_parts}
 use Rattle.exi_writer.proofs.Moves.{made}
 use Rattle.exi_writer.specs.Writing.{Composing, is_named}
 use Rattle.exi_apart.specs.Parts.{NamedBehindStart}
+use Rattle.exi_apart.proofs.Roots.{run_is}
 
 -- ---- a text that stands in a list stands at its least place
 at_the_end : (xs : List (List ℕ)) (x : List ℕ) → live_at (xs ++ x ∷ []) (length xs) ≡ Some x
@@ -187,12 +188,6 @@ begin_named g c b n v h k =
     ap (λ (z : Given). is_named z.1.aside n) m.given ∙ made_named g (alone_in c.elements c.outer) c d m.coded_rule.item m.coded_rule.item.on b n m.piece m.spelled_so refl refl k
 
 -- ---- one behind the other
-abbrev given_run : Run → Result Run Refused
-given_run r = Ok r
-
-run_is : (a b : Run) → given_run a ≡ given_run b → a ≡ b
-run_is a b e = cc
-
 put_open : (g : Setting) (c : Config) (n : QName) (r : Run) → put g c (event.se n) ≡ Ok r → IsOpen n r.last
 unfolding put
 put_open g c n r h =

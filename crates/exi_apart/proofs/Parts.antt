@@ -30,17 +30,7 @@ use Rattle.exi_apart.specs.Parts.{ApartBegins, ApartEnters, ApartIsPart, ApartPu
 use Rattle.exi_derived.proofs.Lists.{KeptRun, all_again}
 use Rattle.exi_derived.proofs.OneEvent.{Again}
 use Rattle.exi_derived.proofs.Places.{no_wider}
-use Rattle.exi_apart.proofs.Roots.{IsRooted, IsStarted, root_stays, rooted, rooted_over, started}
-
-abbrev given_run : Run → Result Run Refused
-given_run r = Ok r
-
-run_is : (a b : Run) → given_run a ≡ given_run b → a ≡ b
-run_is a b e = cc
-
-true_false : {P : Type 0} (b : Bool) → b ≡ true → b ≡ false → P
-true_false {P} true e f = absurd cc
-true_false {P} false e f = absurd cc
+use Rattle.exi_apart.proofs.Roots.{IsRooted, IsStarted, given_run, root_stays, rooted, rooted_over, run_is, started, true_false}
 
 -- ---- events, and others behind them
 abbrev both : Run → Run → Run

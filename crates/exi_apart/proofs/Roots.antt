@@ -212,13 +212,13 @@ one_stays g c e v over h =
     let d : Config = further (record c { place = m.place }) m.bits (context m.meter m.piece.tables) in
     subst (λ (z : Given). Stays c.root z.1) (sym m.given) (made_stays g (alone_in c.elements c.outer) c d m.coded_rule.item m.coded_rule.item.on m.piece.item refl over)
 
-abbrev given_run : Run → Result Run Refused
+abbrev pub given_run : Run → Result Run Refused
 given_run r = Ok r
 
-run_is : (a b : Run) → given_run a ≡ given_run b → a ≡ b
+pub run_is : (a b : Run) → given_run a ≡ given_run b → a ≡ b
 run_is a b e = cc
 
-true_false : {P : Type 0} (b : Bool) → b ≡ true → b ≡ false → P
+pub true_false : {P : Type 0} (b : Bool) → b ≡ true → b ≡ false → P
 true_false {P} true e f = absurd cc
 true_false {P} false e f = absurd cc
 

@@ -20,8 +20,8 @@ pub record IsWritable (w : Wish) (known : Option Outline) (text : List ℕ) : Ty
   pub derives : Derives (setting_for w known) events
   pub within : passes_limit (body (setting_for w known) (length (head_bits w)) stream_bounds events) ≡ false
 
--- why it is not: the first of its lines says no event; or this event is the first of the list for which no production stands, whatever
--- limits there are, or the list ends in front of it, too early; or the list passes a limit
+-- why it is not: this line is the first of it that says no event; or this event is the first of the list for which no production
+-- stands, whatever limits there are, or the list ends in front of it, too early; or the list passes a limit
 abbrev pub IsReason : Wish → Option Outline → List ℕ → Unwritten → Type 0
 IsReason w known text (unwritten.Syntax line) = events_in text ≡ Err line
 IsReason w known text (unwritten.NotDerived event) = (es : List Happening) × (events_in text ≡ Ok es) × Unmatched (setting_for w known) es event
