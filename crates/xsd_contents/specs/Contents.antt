@@ -66,10 +66,15 @@ particles = part.Element ∷ part.Group ∷ part.Choice ∷ part.Sequence ∷ pa
 abbrev pub is_bare : List Node → ℕ → Bool
 is_bare ns i = not (has (child ns particles i))
 
--- a sequence of nothing, or a choice of nothing that may be left out
+-- it stands no time at all (XML Schema 1.0 Part 1, section 3.9.2)
+abbrev pub is_left_out : List Node → ℕ → Bool
+is_left_out ns i = is_number 0 (number_in (text_at ns attribute.MaxOccurs i))
+
+-- one that is left out, a sequence of nothing, or a choice of nothing that may be left out
 abbrev pub is_empty_model : List Node → ℕ → Bool
 is_empty_model ns i =
-    if is_among_at ns (part.Sequence ∷ part.All ∷ []) i then is_bare ns i
+    if is_left_out ns i then true
+    else if is_among_at ns (part.Sequence ∷ part.All ∷ []) i then is_bare ns i
     else is_at ns part.Choice i && is_bare ns i && is_number 0 (number_in (text_at ns attribute.MinOccurs i))
 
 abbrev pub is_empty_particle : List Node → Option ℕ → Bool

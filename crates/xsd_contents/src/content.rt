@@ -1,8 +1,8 @@
 //! Whether a content is mixed, and whether it is empty.
 
 ghost use Rattle.std.specs.Prelude.{◌≡◌, IfOk, option_copied};
-ghost use Rattle.xsd_contents.specs.Contents.{is_bare, is_empty, is_empty_model, is_empty_particle, is_mixed, leaves_base, model_groups, particles, text_of_holder, told_before};
-ghost use Rattle.xsd_nodes.specs.Nodes.{parent_at, parent_of};
+ghost use Rattle.xsd_contents.specs.Contents.{is_bare, is_empty, is_empty_model, is_empty_particle, is_mixed, is_number, leaves_base, model_groups, number_in, particles, text_of_holder, told_before};
+ghost use Rattle.xsd_nodes.specs.Nodes.{parent_at, parent_of, text_at};
 ghost use Rattle.xsd_nodes.specs.declared.attribute_name.AttributeName.TheVariants as attribute;
 
 use crate::words::{is_yes, number_at};
@@ -87,19 +87,34 @@ fn is_bare(schema: &Schema<'_>, place: u32) -> bool
     schema.document().child(particles(), place).is_none()
 }
 
-/// Whether this is a sequence of nothing, or a choice of nothing that may be left out.
+/// Whether a number that an attribute gives is 0.
+fn is_zero(
+    alloc: Global,
+    schema: &Schema<'_>,
+    name: AttributeName,
+    place: u32,
+) -> Result<bool, AllocError>
+    ensures { IfOk result (λ b. b ≡ is_number 0 (number_in (text_at schema.now name place))) }
+{
+    match number_at(alloc, schema, name, place)? {
+        Some(number) => Ok(number == 0),
+        None => Ok(false),
+    }
+}
+
+/// Whether this is left out, a sequence of nothing, or a choice of nothing that may be left out.
 fn is_empty_model(alloc: Global, schema: &Schema<'_>, place: u32) -> Result<bool, AllocError>
     ensures { IfOk result (λ b. b ≡ is_empty_model schema.now place) }
 {
     let nodes = schema.document().nodes();
+    if is_zero(alloc, schema, AttributeName::MaxOccurs, place)? {
+        return Ok(true);
+    }
     if is_among_at(nodes, &[Part::Sequence, Part::All], place) {
         return Ok(is_bare(schema, place));
     }
     if is_at(nodes, Part::Choice, place) && is_bare(schema, place) {
-        return match number_at(alloc, schema, AttributeName::MinOccurs, place)? {
-            Some(number) => Ok(number == 0),
-            None => Ok(false),
-        };
+        return is_zero(alloc, schema, AttributeName::MinOccurs, place);
     }
     Ok(false)
 }

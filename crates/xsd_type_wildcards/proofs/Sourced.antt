@@ -13,7 +13,7 @@ use Rattle.xsd_wildcards.specs.declared.allowed.Allowed.{Allowed}
 use Rattle.xsd_wildcards.specs.declared.allowed.Allowed.TheVariants as allows
 use Rattle.xsd_type_wildcards.specs.Sources.{holder_or, inherited, is_wild, source_of, source_of_base, source_within, wild_at}
 use Rattle.xsd_type_wildcards.specs.Told.{AreTypes, if_whole, is_present, is_told, own_told, told_in}
-use Rattle.xsd_type_wildcards.specs.TypeWildcards.{attributes_in, derives_content, has_all_groups, has_wild_type, is_second_wild, or_inherited, own_wild, type_wild, type_wild_within, wild_of_base}
+use Rattle.xsd_type_wildcards.specs.TypeWildcards.{attributes_in, derives_content, has_all_groups, has_wild_base, has_wild_type, is_second_wild, or_inherited, own_wild, type_wild, type_wild_within, wild_of_base}
 use Rattle.xsd_type_wildcards.specs.declared.source.Source.{Source}
 use Rattle.xsd_type_wildcards.specs.declared.source.Source.TheVariants as source
 
@@ -82,14 +82,14 @@ not_second_by : (derives whole own base : Bool) → (whole && own) ≡ false →
 not_second_by true whole own base f = ap (λ b. b && base) (sym f)
 not_second_by false whole own base f = refl
 
-pub is_second : (ns : List Node) (i : ℕ) (derives so found : Bool) (own : Option Bool) → derives ≡ derives_content ns i → derives ≡ true → own ≡ own_told ns i → so ≡ is_told own → so ≡ true → found ≡ has_wild_type ns (base ns i) → found ≡ is_second_wild ns i
+pub is_second : (ns : List Node) (i : ℕ) (derives so found : Bool) (own : Option Bool) → derives ≡ derives_content ns i → derives ≡ true → own ≡ own_told ns i → so ≡ is_told own → so ≡ true → found ≡ has_wild_base ns i (base ns i) → found ≡ is_second_wild ns i
 is_second ns i derives so found own derives_is derived own_is so_is told found_is =
     let held : (has_whole_groups ns i && has (own_wild ns i)) ≡ true = sym (told_own_is (has_whole_groups ns i) (has (own_wild ns i))) ∙ ap is_told (sym own_is) ∙ sym so_is ∙ told in
-    found_is ∙ second_by (derives_content ns i) (has_whole_groups ns i) (has (own_wild ns i)) (has_wild_type ns (base ns i)) (sym derives_is ∙ derived) held
+    found_is ∙ second_by (derives_content ns i) (has_whole_groups ns i) (has (own_wild ns i)) (has_wild_base ns i (base ns i)) (sym derives_is ∙ derived) held
 
 pub is_not_second : (ns : List Node) (i : ℕ) (so : Bool) (own : Option Bool) → own ≡ own_told ns i → so ≡ is_told own → so ≡ false → false ≡ is_second_wild ns i
 is_not_second ns i so own own_is so_is not_told =
-    not_second_by (derives_content ns i) (has_whole_groups ns i) (has (own_wild ns i)) (has_wild_type ns (base ns i)) (sym (told_own_is (has_whole_groups ns i) (has (own_wild ns i))) ∙ ap is_told (sym own_is) ∙ sym so_is ∙ not_told)
+    not_second_by (derives_content ns i) (has_whole_groups ns i) (has (own_wild ns i)) (has_wild_base ns i (base ns i)) (sym (told_own_is (has_whole_groups ns i) (has (own_wild ns i))) ∙ ap is_told (sym own_is) ∙ sym so_is ∙ not_told)
 
 -- ---- where a type has its wildcard from
 pub source_is : (ns : List Node) (types : List (Option Source)) (t : TypeAt) → AreTypes ns types → is_whole_type ns t ≡ true → has_all_groups ns t ≡ true → told_in types t ≡ Some (source_of ns t)

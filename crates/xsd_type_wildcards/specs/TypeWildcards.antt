@@ -88,9 +88,18 @@ abbrev pub has_wild_type : List Node → Option TypeAt → Bool
 has_wild_type ns None = false
 has_wild_type ns (Some t) = is_whole_type ns t && has_all_groups ns t && has (type_wild ns t)
 
+-- anyType as the base of a restriction does not count: this is how XML Schema writes a complex type without a base at length
+abbrev pub is_any_type : Option TypeAt → Bool
+is_any_type None = false
+is_any_type (Some (type_at.Built place)) = place == any_type
+is_any_type (Some (type_at.Node i)) = false
+
+abbrev pub has_wild_base : List Node → ℕ → Option TypeAt → Bool
+has_wild_base ns i b = not (is_at ns part.Restriction i && is_any_type b) && has_wild_type ns b
+
 abbrev pub derives_content : List Node → ℕ → Bool
 derives_content ns i =
     is_among_at ns (part.Restriction ∷ part.Extension ∷ []) i && is_among (part.SimpleContent ∷ part.ComplexContent ∷ []) (holder ns i)
 
 abbrev pub is_second_wild : List Node → ℕ → Bool
-is_second_wild ns i = derives_content ns i && has_whole_groups ns i && has (own_wild ns i) && has_wild_type ns (base ns i)
+is_second_wild ns i = derives_content ns i && has_whole_groups ns i && has (own_wild ns i) && has_wild_base ns i (base ns i)

@@ -4,13 +4,14 @@ ghost use Rattle.std.specs.Prelude.{◌≡◌, true, IfOk, Some};
 ghost use Rattle.xsd_paths.specs.Paths.{is_whole_type};
 ghost use Rattle.xsd_type_wildcards.specs.Sources.{is_wild, source_of};
 ghost use Rattle.xsd_type_wildcards.specs.Told.{AreGroups, AreTypes, is_present, is_told, told_in, type_told};
-ghost use Rattle.xsd_type_wildcards.specs.TypeWildcards.{derives_content, has_all_groups, has_wild_type, is_second_wild};
+ghost use Rattle.xsd_type_wildcards.specs.TypeWildcards.{derives_content, has_all_groups, has_wild_base, has_wild_type, is_any_type, is_second_wild};
 
 use crate::source::Source;
 use crate::types::{own_told, told_in};
 use std::alloc::{AllocError, Global};
+use xsd_builtins::ANY_TYPE;
 use xsd_components::{Schema, TypeAt};
-use xsd_nodes::{Part, holder, is_among, is_among_at};
+use xsd_nodes::{Part, holder, is_among, is_among_at, is_at};
 use xsd_paths::Paths;
 
 /// Whether it is known and so.
@@ -65,6 +66,34 @@ fn has_wild_type(paths: &Paths<'_>, types: &[Option<Source>], base: Option<TypeA
     }
 }
 
+/// Whether a base is anyType.
+fn is_any_type(base: Option<TypeAt>) -> bool
+    ensures { result ≡ is_any_type base }
+{
+    match base {
+        Some(TypeAt::Built(place)) => place == ANY_TYPE,
+        Some(TypeAt::Node(_)) | None => false,
+    }
+}
+
+/// Whether a base from which the element at a place derives has a wildcard that counts: that of anyType counts for an extension
+/// alone.
+fn has_wild_base(
+    paths: &Paths<'_>,
+    types: &[Option<Source>],
+    place: u32,
+    base: Option<TypeAt>,
+) -> bool
+    requires types { AreTypes paths.now types.now }
+    ensures { result ≡ has_wild_base paths.now place base }
+{
+    let nodes = paths.schema().document().nodes();
+    if is_at(nodes, Part::Restriction, place) && is_any_type(base) {
+        return false;
+    }
+    has_wild_type(paths, types, base)
+}
+
 /// Whether the element at a place is the restriction or extension of a simpleContent or complexContent.
 fn derives_content(schema: &Schema<'_>, place: u32) -> bool
     ensures { result ≡ derives_content schema.now place }
@@ -77,7 +106,8 @@ fn derives_content(schema: &Schema<'_>, place: u32) -> bool
         )
 }
 
-/// Whether the element at a place derives a type with a wildcard of its own from one that has a wildcard.
+/// Whether the element at a place derives a type with a wildcard of its own from one that has a wildcard. A restriction of anyType
+/// does not: its wildcard is the type's only one.
 pub(crate) fn is_second_wild(
     alloc: Global,
     paths: &Paths<'_>,
@@ -98,7 +128,7 @@ pub(crate) fn is_second_wild(
         return Ok(false);
     }
     let base = schema.base(alloc, place)?;
-    Ok(has_wild_type(paths, types, base))
+    Ok(has_wild_base(paths, types, place, base))
 }
 
 /// Where a type has its wildcard from, whose paths end, and so do those from the groups of attributes.

@@ -60,7 +60,8 @@ impl<'a> TypeWildcards<'a> {
     }
 
     /// Whether the element at a place derives a type with a wildcard of its own from one that has a wildcard. Asked where the
-    /// paths from the base and from the groups of attributes end.
+    /// paths from the base and from the groups of attributes end. As the base of a restriction, anyType does not count (XML
+    /// Schema 1.0 Part 1, section 3.4.2).
     ///
     /// # Errors
     ///
