@@ -1,7 +1,7 @@
 # exi: an EXI codec, proved. `rt` is the kit's command.
 PREFIX ?= /usr/local
 
-.PHONY: all demo test bench install uninstall clean
+.PHONY: all check demo test bench install uninstall clean
 
 all: exi
 
@@ -15,6 +15,10 @@ exi: $(shell find crates/*/src crates/*/specs crates/*/proofs) crates.txt HANDLE
 # Compiles the program without proving it, and reads and writes a message of examples/.
 demo:
 	@tools/demo
+
+# The quick loop: compiles the program without proving it, and runs it on the cases of tests/cases.
+check:
+	@tests/check
 
 # What the gate runs: each proof and test, wrong bodies that have to be refused, and the program end to end.
 test:

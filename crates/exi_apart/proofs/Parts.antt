@@ -10,14 +10,14 @@ use Rattle.exi_names.specs.declared.names.QName.{QName}
 use Rattle.exi_names.specs.Events.{Happening}
 use Rattle.exi_names.specs.Events as event
 use Rattle.exi_pen.specs.Steps.{begins_fragment}
-use Rattle.exi_reader.specs.Configurations.{Config, IsSetting, Setting, first_config, spot_in}
-use Rattle.exi_reader.specs.OneEvent.{one}
-use Rattle.exi_reader.specs.Runs.{IsRun, Job, closing, done, ends, events_of, goes, has_ended, is_end, turn, turned_by}
-use Rattle.exi_reader.specs.Spelled.{IsIn}
-use Rattle.exi_reader.specs.declared.end.End.{End}
-use Rattle.exi_reader.specs.declared.end.End.TheVariants as end
-use Rattle.exi_reader.specs.declared.start.Start.{Start}
-use Rattle.exi_reader.specs.declared.start.Start.TheVariants as start
+use Rattle.exi_processing.specs.Configurations.{Config, IsSetting, Setting, first_config, spot_in}
+use Rattle.exi_processing.specs.OneEvent.{one}
+use Rattle.exi_processing.specs.Runs.{IsRun, Job, closing, done, ends, events_of, goes, has_ended, is_end, turn, turned_by}
+use Rattle.exi_processing.specs.Spelled.{IsIn}
+use Rattle.exi_processing.specs.declared.end.End.{End}
+use Rattle.exi_processing.specs.declared.end.End.TheVariants as end
+use Rattle.exi_processing.specs.declared.start.Start.{Start}
+use Rattle.exi_processing.specs.declared.start.Start.TheVariants as start
 use Rattle.exi_tables.proofs.Sound.{first_sound}
 use Rattle.exi_writing.specs.Laws.{IsStep, OneIsRead}
 use Rattle.exi_writing.specs.OneEvent.{Refused, Written, ◌>>=◌, written}

@@ -6,16 +6,16 @@ use Rattle.exi_builtin.specs.declared.learnable.Learned.TheVariants as used
 use Rattle.exi_names.specs.declared.names.QName.{QName}
 use Rattle.exi_names.specs.Events.{Happening}
 use Rattle.exi_names.specs.Events as event
-use Rattle.exi_reader.specs.Changes.{Effect, effect_of, effected, emptied, leads, learns_name, moved_elements, outer_behind, resumed, retyped, root_in, stays}
-use Rattle.exi_reader.specs.Configurations.{Body, Config, Setting}
-use Rattle.exi_reader.specs.OneEvent.{remembered}
-use Rattle.exi_reader.specs.Plans.{Alone, Given, alone_in, at_end, at_first, at_start, ended_in, nowhere, plan_on, rooted_in}
-use Rattle.exi_reader.specs.Rules.{Rule, Telling, Terminal, attribute, characters, comment, declaration, document_type, element, end_document, end_element, entity, instruction, known, self_contained, spelled, start_document, under}
-use Rattle.exi_reader.specs.Runs.{has_ended}
-use Rattle.exi_reader.specs.Spelled.{further}
-use Rattle.exi_reader.specs.declared.frames.Element.{Element}
-use Rattle.exi_reader.specs.declared.frames.Outer.{Outer}
-use Rattle.exi_reader.specs.declared.frames.Outer.TheVariants as outer
+use Rattle.exi_processing.specs.Changes.{Effect, effect_of, effected, emptied, leads, learns_name, moved_elements, outer_behind, resumed, retyped, root_in, stays}
+use Rattle.exi_processing.specs.Configurations.{Body, Config, Setting}
+use Rattle.exi_processing.specs.OneEvent.{remembered}
+use Rattle.exi_processing.specs.Plans.{Alone, Given, alone_in, at_end, at_first, at_start, ended_in, nowhere, plan_on, rooted_in}
+use Rattle.exi_processing.specs.Rules.{Rule, Telling, Terminal, attribute, characters, comment, declaration, document_type, element, end_document, end_element, entity, instruction, known, self_contained, spelled, start_document, under}
+use Rattle.exi_processing.specs.Runs.{has_ended}
+use Rattle.exi_processing.specs.Spelled.{further}
+use Rattle.exi_processing.specs.declared.frames.Element.{Element}
+use Rattle.exi_processing.specs.declared.frames.Outer.{Outer}
+use Rattle.exi_processing.specs.declared.frames.Outer.TheVariants as outer
 use Rattle.exi_tables.specs.Partitions.{Partitions}
 use Rattle.exi_typed.specs.Strings.{Named}
 use Rattle.exi_writing.specs.Contents.{told_name, written_on}

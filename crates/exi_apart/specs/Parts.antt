@@ -5,9 +5,9 @@ use Rattle.exi_meter.specs.Metering.{Bounds}
 use Rattle.exi_names.specs.declared.names.QName.{QName}
 use Rattle.exi_names.specs.Events.{Happening}
 use Rattle.exi_names.specs.Events as event
-use Rattle.exi_reader.specs.Configurations.{Setting, first_config}
-use Rattle.exi_reader.specs.Runs.{has_ended}
-use Rattle.exi_reader.specs.declared.start.Start.TheVariants as start
+use Rattle.exi_processing.specs.Configurations.{Setting, first_config}
+use Rattle.exi_processing.specs.Runs.{has_ended}
+use Rattle.exi_processing.specs.declared.start.Start.TheVariants as start
 use Rattle.exi_writing.specs.Runs.{Run, opened, own, written_all}
 use Rattle.exi_writer.specs.Writing.{Composes, Composing, IsAtFragment, IsPart, Opens, PutsOne, is_named}
 

@@ -1,9 +1,6 @@
 -- What learning keeps.
-use Rattle.std.proofs.Common.{◌≡◌, ◌≢◌, ℕ, zero, suc, ◌<◌, ◌+◌, true, false, cond, List, [], ◌∷◌, ◌++◌, length, refl, ap, sym, ◌∙◌, arith, inl, inr, ◌⊎◌, Option, Some, None}
-use Rattle.std.specs.Prelude.{position}
-use Rattle.std.specs.List.{position_from}
+use Rattle.std.proofs.Common.{◌≡◌, ◌≢◌, ℕ, zero, suc, ◌<◌, true, false, cond, List, [], ◌∷◌, ◌++◌, length, refl, ap, ◌∙◌, arith, inl, inr, ◌⊎◌, Option, Some, None}
 use Rattle.std.proofs.lemmas.Bool.{cases_Bool}
-use Rattle.std.proofs.lemmas.Iterator.Adapters.{position_from-zero}
 use Rattle.exi_gram.specs.declared.options.Options.{Options}
 use Rattle.exi_names.specs.declared.names.NameId.{NameId}
 use Rattle.exi_builtin.specs.declared.element_grammar.ElementGrammar.{ElementGrammar}
@@ -13,10 +10,10 @@ use Rattle.exi_builtin.specs.declared.learnable.Learned.TheVariants as learned
 use Rattle.exi_builtin.specs.declared.learnable.Room.{Room}
 use Rattle.exi_builtin.specs.declared.learnable.Room.TheVariants as room
 use Rattle.exi_builtin.specs.BuiltIn.{left_of, written}
-use Rattle.exi_builtin.specs.Learning.{IsRoom, Learning, after_use, behind_learned, changed_at, grammar_number, grammar_place, in_front, is_new, learned_in, new_grammar, productions, with_grammar}
+use Rattle.exi_builtin.specs.Learning.{IsRoom, Learning, after_use, behind_learned, grammar_number, grammar_place, in_front, is_new, learned_in, new_grammar, productions, with_grammar}
 use Rattle.exi_names.specs.NameMaps.{same_name}
 use Rattle.exi_builtin.specs.Uses.{added_by, is_type, stands_already}
-use Rattle.exi_builtin.proofs.Naming.{position_new, same_itself}
+use Rattle.exi_builtin.proofs.Naming.{length_changed, position_changed, position_new, same_itself}
 
 abbrev of_these : List ElementGrammar → List Learnable → Learning
 of_these gs fragment = record { grammars = gs; fragment = fragment }
@@ -114,22 +111,6 @@ pub once_end : (l : Learning) (r : Room) → IsRoom l r → is_new (after_use l 
 once_end l r made = once l r learned.Ee made (λ xs. refl)
 
 -- ---- the grammars
-length_changed : (gs : List ElementGrammar) (n : ℕ) (change : ElementGrammar → ElementGrammar) → length (changed_at gs n change) ≡ length gs
-length_changed [] n change = refl
-length_changed (g ∷ gs) zero change = omega arith
-length_changed (g ∷ gs) (suc n) change = omega (arith, length_changed gs n change)
-
-from_changed : (name : NameId) (i : ℕ) (gs : List ElementGrammar) (n : ℕ) (change : ElementGrammar → ElementGrammar) → ((g : ElementGrammar) → (change g).name ≡ g.name) →
-    position_from (λ (g : ElementGrammar). same_name g.name name) i (changed_at gs n change) ≡ position_from (λ (g : ElementGrammar). same_name g.name name) i gs
-from_changed name i [] n change keeps = refl
-from_changed name i (g ∷ gs) zero change keeps = ap (λ m. cond (same_name m name) (Some i) (position_from (λ (h : ElementGrammar). same_name h.name name) (i + 1) gs)) (keeps g)
-from_changed name i (g ∷ gs) (suc n) change keeps = ap (λ found. cond (same_name g.name name) (Some i) found) (from_changed name (i + 1) gs n change keeps)
-
-position_changed : (name : NameId) (gs : List ElementGrammar) (n : ℕ) (change : ElementGrammar → ElementGrammar) → ((g : ElementGrammar) → (change g).name ≡ g.name) →
-    position (λ (g : ElementGrammar). same_name g.name name) (changed_at gs n change) ≡ position (λ (g : ElementGrammar). same_name g.name name) gs
-position_changed name gs n change keeps =
-    position_from-zero (λ (g : ElementGrammar). same_name g.name name) (changed_at gs n change) ∙ from_changed name 0 gs n change keeps ∙ sym (position_from-zero (λ (g : ElementGrammar). same_name g.name name) gs)
-
 front_place : (l : Learning) (r : Room) (x : Learnable) (name : NameId) → grammar_place (in_front l r x) name ≡ grammar_place l name
 front_place l (room.StartTag n) x name = position_changed name l.grammars n (λ g. record g { start_tag = x ∷ g.start_tag }) (λ g. refl)
 front_place l (room.Content n) x name = position_changed name l.grammars n (λ g. record g { content = x ∷ g.content }) (λ g. refl)

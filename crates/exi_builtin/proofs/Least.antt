@@ -1,21 +1,17 @@
 -- The least code of a production, and what is kept so that it is found.
-use Rattle.std.proofs.Common.{◌≡◌, ℕ, zero, suc, ◌+◌, ◌<◌, ◌≤◌, ◌^◌, Bool, true, false, cond, ◌||◌, List, [], ◌∷◌, ◌++◌, All, drop, filter, get_or, length, refl, slice_get, ap, sym, ◌∙◌, ◌⊎◌, reverse, subst, arith, inl, inr, Option, Some, None}
+use Rattle.std.proofs.Common.{◌≡◌, ℕ, zero, suc, ◌+◌, ◌<◌, ◌≤◌, Bool, true, false, cond, List, [], ◌∷◌, ◌++◌, All, drop, filter, get_or, length, refl, slice_get, ap, sym, ◌∙◌, arith, inl, inr, Option, Some, None}
 use Rattle.std.specs.Option.{is_some, option_map}
 use Rattle.std.specs.List.{list_any}
 use Rattle.std.proofs.lemmas.Bool.{cases_Bool}
-use Rattle.std.proofs.lemmas.List.{drop_all, drop_more, reverse-append}
+use Rattle.std.proofs.lemmas.List.{drop_all, drop_more}
 use Rattle.std.proofs.lemmas.Option.{none-some}
-use mathlib.Core.Bool.{beq}
-use Rattle.exi_names.specs.declared.names.NameId.{NameId}
-use Rattle.exi_names.specs.NameMaps.{same_name}
 use Rattle.exi_gram.specs.Codes.{Coded, coded, coded_from}
 use Rattle.exi_builtin.specs.declared.learnable.Learnable.{Learnable}
 use Rattle.exi_builtin.specs.declared.learnable.Learnable.TheVariants as learnable
-use Rattle.exi_builtin.specs.declared.learned_list.NameKey.{NameKey}
-use Rattle.exi_builtin.specs.LeastCodes.{first_code, first_place, is_ch, is_ee, is_it, is_named}
+use Rattle.exi_builtin.specs.LeastCodes.{first_code, first_place, is_ch, is_ee, is_it}
 use Rattle.exi_builtin.specs.Layout.{laid_out, laid_seconds}
-use Rattle.exi_builtin.specs.Marks.{IsLearned, IsMarked, LeadsTo, code_at_place, name_key}
-use Rattle.exi_builtin.specs.Uses.{is_characters, is_end, is_known_type}
+use Rattle.exi_builtin.specs.Marks.{IsLearned, LeadsTo, code_at_place}
+use Rattle.exi_builtin.specs.Uses.{is_characters, is_end}
 use Rattle.exi_builtin.proofs.Numbering.{all_codes}
 use Rattle.exi_builtin.proofs.Shapes.{firsts_kept, kept_shape, laid_of, shape}
 use Rattle.exi_gram.specs.declared.options.Options.{Options}
@@ -55,7 +51,7 @@ first_none f [] never only = refl
 first_none f (x ∷ xs) never only = rw (never x (only 0 x (omega arith))) (rw (first_none f xs never (all_tail IsLearned x xs only)) refl)
 
 -- ---- what is kept, with one more learned
-leads_push : (learned : List Learnable) (test : Learnable → Bool) (place new : Option ℕ) (x : Learnable) → new ≡ cond (test x) (Some (length learned)) place → LeadsTo learned test place → LeadsTo (x ∷ learned) test new
+pub leads_push : (learned : List Learnable) (test : Learnable → Bool) (place new : Option ℕ) (x : Learnable) → new ≡ cond (test x) (Some (length learned)) place → LeadsTo learned test place → LeadsTo (x ∷ learned) test new
 leads_push learned test place new x is h = elim (cases_Bool (test x)) [
   | inl yes_is ↦
       let now : new ≡ Some (length learned) = rw yes_is at is in
@@ -78,57 +74,6 @@ leads_push learned test place new x is h = elim (cases_Bool (test x)) [
     later : (o : Option ℕ) → ((p : ℕ) → o ≡ Some p → p < length learned) → option_map suc (option_map (code_at_place (length learned)) o) ≡ option_map (code_at_place (length (x ∷ learned))) o
     later None within = refl
     later (Some p) within = let same : suc (code_at_place (length learned) p) ≡ code_at_place (length (x ∷ learned)) p = omega (arith, within p refl) in ap Some same
-
-pub marked_push : (learned : List Learnable) (x : Learnable) (characters end new_characters new_end : Option ℕ) (has_type new_type : Bool) (elements attributes new_elements new_attributes : NameKey → Option ℕ) →
-    IsMarked learned characters end has_type elements attributes → IsLearned x → length learned < 2 ^ 31 →
-    new_characters ≡ cond (is_characters x) (Some (length learned)) characters → new_end ≡ cond (is_end x) (Some (length learned)) end → new_type ≡ (is_known_type x || has_type) →
-    ((name : NameId) → new_elements (name_key name) ≡ cond (is_named name false x) (Some (length learned)) (elements (name_key name))) →
-    ((name : NameId) → new_attributes (name_key name) ≡ cond (is_named name true x) (Some (length learned)) (attributes (name_key name))) →
-    IsMarked (x ∷ learned) new_characters new_end new_type new_elements new_attributes
-marked_push learned x characters end new_characters new_end has_type new_type elements attributes new_elements new_attributes m one room c e t es ats = record {
-  characters_are = leads_push learned is_characters characters new_characters x c m.characters_are;
-  end_is = leads_push learned is_end end new_end x e m.end_is;
-  known_type = t ∙ ap (λ b. is_known_type x || b) m.known_type;
-  elements_are = λ name. leads_push learned (is_named name false) (elements (name_key name)) (new_elements (name_key name)) x (es name) (m.elements_are name);
-  attributes_are = λ name. leads_push learned (is_named name true) (attributes (name_key name)) (new_attributes (name_key name)) x (ats name) (m.attributes_are name);
-  only = all_cons learned m.only;
-  few = omega (arith, room);
-}
-  where
-    all_cons : (xs : List Learnable) → All IsLearned xs → All IsLearned (x ∷ xs)
-    all_cons xs h zero d less = one
-    all_cons xs h (suc i) d less = h i d (omega (arith, less))
-
-pub marked_same : (learned : List Learnable) (characters end : Option ℕ) (has_type : Bool) (elements attributes new_elements new_attributes : NameKey → Option ℕ) → IsMarked learned characters end has_type elements attributes → ((k : NameKey) → new_elements k ≡ elements k) → ((k : NameKey) → new_attributes k ≡ attributes k) → IsMarked learned characters end has_type new_elements new_attributes
-marked_same learned characters end has_type elements attributes new_elements new_attributes m es ats = record {
-  characters_are = m.characters_are;
-  end_is = m.end_is;
-  known_type = m.known_type;
-  elements_are = λ name. subst (LeadsTo learned (is_named name false)) (sym (es (name_key name))) (m.elements_are name);
-  attributes_are = λ name. subst (LeadsTo learned (is_named name true)) (sym (ats (name_key name))) (m.attributes_are name);
-  only = m.only;
-  few = m.few;
-}
-
--- whether a name's production is one of this name
-pub named_yes : (name other : NameId) (place : ℕ) (old : Option ℕ) → cond (same_name name other) (Some place) old ≡ cond (is_named other true (learnable.Known name true)) (Some place) old
-named_yes name other place old = elim (cases_Bool (same_name name other)) [
-  | inl yes_is ↦ rw yes_is refl
-  | inr no_is ↦ rw no_is refl
-]
-
-pub named_no : (name other : NameId) (place : ℕ) (old : Option ℕ) → cond (same_name name other) (Some place) old ≡ cond (is_named other false (learnable.Known name false)) (Some place) old
-named_no name other place old = elim (cases_Bool (same_name name other)) [
-  | inl yes_is ↦ rw yes_is refl
-  | inr no_is ↦ rw no_is refl
-]
-
--- one of the other kind is not
-pub named_other : (name other : NameId) (a b : Bool) (place : ℕ) (old : Option ℕ) → beq a b ≡ false → old ≡ cond (is_named other b (learnable.Known name a)) (Some place) old
-named_other name other a b place old not = elim (cases_Bool (same_name name other)) [
-  | inl yes_is ↦ rw (yes_is, not) refl
-  | inr no_is ↦ rw no_is refl
-]
 
 -- ---- the tests
 pub ch_same : (x : Learnable) → is_characters x ≡ is_ch true x
@@ -412,19 +357,6 @@ leads_any learned test place h = any_found test learned ∙ ap is_found h.first 
     by None = refl
     by (Some k) = refl
 
-pub unnamed : (x : Learnable) (name : NameId) (b : Bool) → ((n : NameId) (a : Bool) → x ≡ learnable.Known n a → ⊥) → is_named name b x ≡ false
-unnamed (learnable.Known n a) name b not = absurd (not n a refl)
-unnamed learnable.SeAny name b not = refl
-unnamed learnable.AtAny name b not = refl
-unnamed (learnable.Ch p) name b not = refl
-unnamed (learnable.Ee p) name b not = refl
-unnamed learnable.Ed name b not = refl
-unnamed learnable.Ns name b not = refl
-unnamed learnable.Sc name b not = refl
-unnamed learnable.Er name b not = refl
-unnamed learnable.Cm name b not = refl
-unnamed learnable.Pi name b not = refl
-
 pub found_ch : (learned : List Learnable) (one_part : Bool) (place : Option ℕ) → LeadsTo learned is_characters place → All IsLearned learned → cond one_part (option_map (code_at_place (length learned)) place) None ≡ first_place (is_it (learnable.Ch one_part)) learned
 found_ch learned true place h only = sym h.first ∙ first_same is_characters (is_ch true) learned ch_same
 found_ch learned false place h only = sym (none_of (learnable.Ch false) learned refl only)
@@ -432,46 +364,6 @@ found_ch learned false place h only = sym (none_of (learnable.Ch false) learned 
 pub found_ee : (learned : List Learnable) (one_part : Bool) (place : Option ℕ) → LeadsTo learned is_end place → All IsLearned learned → cond one_part (option_map (code_at_place (length learned)) place) None ≡ first_place (is_it (learnable.Ee one_part)) learned
 found_ee learned true place h only = sym h.first ∙ first_same is_end (is_ee true) learned ee_same
 found_ee learned false place h only = sym (none_of (learnable.Ee false) learned refl only)
-
-pub leads_named : (learned seen : List Learnable) (name : NameId) (attribute b : Bool) (place kept : Option ℕ) → learned ≡ seen → attribute ≡ b → place ≡ kept → LeadsTo learned (is_named name b) kept → LeadsTo seen (is_named name attribute) place
-leads_named learned seen name attribute b place kept view is at h =
-    subst (λ (xs : List Learnable). LeadsTo xs (is_named name attribute) place) view (subst (λ (k : Bool). LeadsTo learned (is_named name k) place) (sym is) (subst (LeadsTo learned (is_named name b)) (sym at) h))
-
-pub one_more : (old items new : List Learnable) (x : Learnable) → items ≡ old → new ≡ items ++ x ∷ [] → reverse new ≡ x ∷ reverse old
-one_more old items new x same pushed = ap reverse (pushed ∙ ap (λ (xs : List Learnable). xs ++ x ∷ []) same) ∙ reverse-append old (x ∷ [])
-
-pub type_now : (now one kept : Bool) (x : Learnable) → one ≡ is_known_type x → ((one ≡ true) × (now ≡ true)) ⊎ ((one ≡ false) × (now ≡ kept)) → now ≡ (is_known_type x || kept)
-type_now now one kept x is (inl h) = let yes_is : is_known_type x ≡ true = sym is ∙ h.0 in h.1 ∙ sym (rw yes_is refl)
-type_now now one kept x is (inr h) = let no_is : is_known_type x ≡ false = sym is ∙ h.0 in h.1 ∙ sym (rw no_is refl)
-
-pub place_now : (now kept old : Option ℕ) (one test : Bool) (place count : ℕ) → now ≡ cond one (Some place) kept → one ≡ test → kept ≡ old → place ≡ count → now ≡ cond test (Some count) old
-place_now now kept old one test place count e is same at = e ∙ ap (λ b. cond b (Some place) kept) is ∙ ap (λ o. cond test (Some place) o) same ∙ ap (λ n. cond test (Some n) old) at
-
-pub named_now : (x : Learnable) (name other : NameId) (a b : Bool) (place : ℕ) (old new : Option ℕ) → x ≡ learnable.Known name a → a ≡ b → new ≡ cond (same_name name other) (Some place) old → new ≡ cond (is_named other b x) (Some place) old
-named_now x name other a true place old new is at e = e ∙ named_yes name other place old ∙ sym (ap (λ y. cond (is_named other true y) (Some place) old) (is ∙ ap (learnable.Known name) at))
-named_now x name other a false place old new is at e = e ∙ named_no name other place old ∙ sym (ap (λ y. cond (is_named other false y) (Some place) old) (is ∙ ap (learnable.Known name) at))
-
-pub named_not : (x : Learnable) (name other : NameId) (a b : Bool) (place : ℕ) (old new : Option ℕ) → x ≡ learnable.Known name a → beq a b ≡ false → new ≡ old → new ≡ cond (is_named other b x) (Some place) old
-named_not x name other a b place old new is not e = e ∙ named_other name other a b place old not ∙ sym (ap (λ y. cond (is_named other b y) (Some place) old) is)
-
-pub named_none : (x args : Learnable) (other : NameId) (b : Bool) (place : ℕ) (old new : Option ℕ) → x ≡ args → ((n : NameId) (a : Bool) → args ≡ learnable.Known n a → ⊥) → new ≡ old → new ≡ cond (is_named other b x) (Some place) old
-named_none x args other b place old new is not e = e ∙ sym (ap (λ t. cond t (Some place) old) (ap (is_named other b) is ∙ unnamed args other b not))
-
-pub marked_done : (old items new : List Learnable) (x : Learnable) (characters end kept_characters kept_end new_characters new_end : Option ℕ) (has_type kept_type new_type one_characters one_end one_type : Bool) (elements attributes new_elements new_attributes : NameKey → Option ℕ) (place : ℕ) →
-    IsMarked (reverse old) characters end has_type elements attributes → IsLearned x → length (reverse old) < 2 ^ 31 → place ≡ length (reverse old) → items ≡ old → new ≡ items ++ x ∷ [] →
-    kept_characters ≡ characters → kept_end ≡ end → kept_type ≡ has_type → one_characters ≡ is_characters x → one_end ≡ is_end x → one_type ≡ is_known_type x →
-    new_characters ≡ cond one_characters (Some place) kept_characters → new_end ≡ cond one_end (Some place) kept_end → ((one_type ≡ true) × (new_type ≡ true)) ⊎ ((one_type ≡ false) × (new_type ≡ kept_type)) →
-    ((name : NameId) → new_elements (name_key name) ≡ cond (is_named name false x) (Some place) (elements (name_key name))) →
-    ((name : NameId) → new_attributes (name_key name) ≡ cond (is_named name true x) (Some place) (attributes (name_key name))) →
-    IsMarked (reverse new) new_characters new_end new_type new_elements new_attributes
-marked_done old items new x characters end kept_characters kept_end new_characters new_end has_type kept_type new_type one_characters one_end one_type elements attributes new_elements new_attributes place m learned room at same pushed c_kept e_kept t_kept c_is e_is t_is c_new e_new t_new es ats =
-    subst (λ (xs : List Learnable). IsMarked xs new_characters new_end new_type new_elements new_attributes) (sym (one_more old items new x same pushed))
-    (marked_push (reverse old) x characters end new_characters new_end has_type new_type elements attributes new_elements new_attributes m learned room
-    (place_now new_characters kept_characters characters one_characters (is_characters x) place (length (reverse old)) c_new c_is c_kept at)
-    (place_now new_end kept_end end one_end (is_end x) place (length (reverse old)) e_new e_is e_kept at)
-    (type_now new_type one_type kept_type x t_is t_new ∙ ap (λ b. is_known_type x || b) t_kept)
-    (λ name. es name ∙ ap (λ n. cond (is_named name false x) (Some n) (elements (name_key name))) at)
-    (λ name. ats name ∙ ap (λ n. cond (is_named name true x) (Some n) (attributes (name_key name))) at))
 
 -- the least code of one part, and of more where there is none of one
 pub learned_least : (test : Learnable → Bool) (o : Options) (r : Room) (learned : List Learnable) (first : ℕ) → first_place test learned ≡ Some first →

@@ -6,5 +6,7 @@ pub mod LearningLaws
 mod Worked
 pub mod Rules
 pub mod Least
+pub mod Indexing
+pub mod Spares
 pub mod WrittenCodes
 pub mod Readers

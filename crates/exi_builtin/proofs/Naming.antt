@@ -1,11 +1,12 @@
 -- A name's grammar is found by the number that is kept for the name; and a grammar is changed at its place.
-use Rattle.std.proofs.Common.{◌≡◌, ℕ, zero, suc, ◌<◌, ◌+◌, Bool, true, false, cond, List, [], ◌∷◌, ◌++◌, length, set, get_or, refl, ap, sym, ◌∙◌, arith, inl, inr, Option, Some, None, Result, Ok, Err}
-use Rattle.std.specs.Prelude.{position, OnOk, ◌&&◌, nat_eq}
+use Rattle.std.proofs.Common.{◌≡◌, ℕ, zero, suc, ◌<◌, ◌+◌, Bool, true, false, cond, List, [], ◌∷◌, ◌++◌, length, set, get_or, refl, ap, subst, sym, ◌∙◌, arith, inl, inr, Option, Some, None, Result, Ok, Err}
+use Rattle.std.specs.Prelude.{position, OnErr, OnOk, ◌&&◌, nat_eq}
 use Rattle.std.specs.List.{position_from}
 use Rattle.std.proofs.lemmas.Bool.{cases_Bool, eq-eqb, eqb-false, eqb-true, ne_eqb}
 use Rattle.std.proofs.lemmas.Iterator.Adapters.{position_from-zero}
 use Rattle.exi_names.specs.declared.names.NameId.{NameId}
 use Rattle.exi_builtin.specs.declared.element_grammar.ElementGrammar.{ElementGrammar}
+use Rattle.exi_builtin.specs.Kept.{IsNumbered}
 use Rattle.exi_builtin.specs.Learning.{changed_at, new_grammar}
 use Rattle.exi_names.specs.NameMaps.{same_name}
 
@@ -85,3 +86,31 @@ numbers_push gs name other old new number at absent kept set = elim (cases_Bool 
       let found : new ≡ old = rw no_is at set in
       found ∙ kept ∙ sym (position_other (λ (g : ElementGrammar). same_name g.name other) gs (new_grammar name) here)
 ]
+
+-- ---- a grammar changed, with its name
+pub length_changed : (gs : List ElementGrammar) (n : ℕ) (change : ElementGrammar → ElementGrammar) → length (changed_at gs n change) ≡ length gs
+length_changed [] n change = refl
+length_changed (g ∷ gs) zero change = omega arith
+length_changed (g ∷ gs) (suc n) change = omega (arith, length_changed gs n change)
+
+from_changed : (name : NameId) (i : ℕ) (gs : List ElementGrammar) (n : ℕ) (change : ElementGrammar → ElementGrammar) → ((g : ElementGrammar) → (change g).name ≡ g.name) →
+    position_from (λ (g : ElementGrammar). same_name g.name name) i (changed_at gs n change) ≡ position_from (λ (g : ElementGrammar). same_name g.name name) i gs
+from_changed name i [] n change keeps = refl
+from_changed name i (g ∷ gs) zero change keeps = ap (λ m. cond (same_name m name) (Some i) (position_from (λ (h : ElementGrammar). same_name h.name name) (i + 1) gs)) (keeps g)
+from_changed name i (g ∷ gs) (suc n) change keeps = ap (λ found. cond (same_name g.name name) (Some i) found) (from_changed name (i + 1) gs n change keeps)
+
+pub position_changed : (name : NameId) (gs : List ElementGrammar) (n : ℕ) (change : ElementGrammar → ElementGrammar) → ((g : ElementGrammar) → (change g).name ≡ g.name) →
+    position (λ (g : ElementGrammar). same_name g.name name) (changed_at gs n change) ≡ position (λ (g : ElementGrammar). same_name g.name name) gs
+position_changed name gs n change keeps =
+    position_from-zero (λ (g : ElementGrammar). same_name g.name name) (changed_at gs n change) ∙ from_changed name 0 gs n change keeps ∙ sym (position_from-zero (λ (g : ElementGrammar). same_name g.name name) gs)
+
+-- the numbers stay right, whether it was changed or memory was refused
+pub numbered_changed : {T E : Type 0} (gs new : List ElementGrammar) (rows : List (List (Option ℕ))) (n : ℕ) (change : ElementGrammar → ElementGrammar) (r : Result T E) → ((g : ElementGrammar) → (change g).name ≡ g.name) →
+    OnOk r (new ≡ changed_at gs n change) → OnErr r (new ≡ gs) → IsNumbered gs rows → IsNumbered new rows
+numbered_changed gs new rows n change (Ok x) keeps ok err numbered =
+    subst (λ (xs : List ElementGrammar). IsNumbered xs rows) (sym ok)
+    (record {
+      numbers = λ name. numbered.numbers name ∙ sym (position_changed name gs n change keeps);
+      few = omega (arith, numbered.few, length_changed gs n change);
+    })
+numbered_changed gs new rows n change (Err e) keeps ok err numbered = subst (λ (xs : List ElementGrammar). IsNumbered xs rows) (sym err) numbered

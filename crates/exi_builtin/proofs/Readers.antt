@@ -1,14 +1,11 @@
 -- What reads an event is one of two productions.
-use Rattle.std.proofs.Common.{◌≡◌, ◌⊎◌, ◌∙◌, ℕ, Bool, true, false, inl, inr, refl, ap, sym}
+use Rattle.std.proofs.Common.{◌≡◌, ◌∙◌, Bool, true, false, inl, inr, refl, ap}
 use Rattle.std.specs.Prelude.{◌&&◌, not}
 use mathlib.Core.Bool.{beq}
-use Rattle.exi_names.specs.declared.names.NameId.{NameId}
 use Rattle.exi_names.specs.NameMaps.{same_name}
-use Rattle.exi_builtin.specs.declared.learnable.Learnable.{Learnable}
 use Rattle.exi_builtin.specs.declared.learnable.Learnable.TheVariants as learnable
-use Rattle.exi_builtin.specs.declared.event_kind.EventKind.{EventKind}
 use Rattle.exi_builtin.specs.declared.event_kind.EventKind.TheVariants as event
-use Rattle.exi_builtin.specs.LeastCodes.{ItIsSame, ReadsAreTwo, TwoAreRead, general, is_it, reads, special}
+use Rattle.exi_builtin.specs.LeastCodes.{ItIsSame, ReadsAreTwo, TwoAreRead}
 use Rattle.exi_builtin.proofs.Naming.{same_is, same_itself}
 
 both : (a b : Bool) → (a && b) ≡ true → (a ≡ true) × (b ≡ true)

@@ -1,14 +1,12 @@
 -- The rules of a state are those of its productions.
-use Rattle.std.proofs.Common.{◌≡◌, Bool, true, false, List, [], ◌∷◌, ◌++◌, map, filter, refl, ap, sym, ◌∙◌, inl, inr}
+use Rattle.std.proofs.Common.{◌≡◌, Bool, List, [], ◌∷◌, ◌++◌, map, filter, refl, ap, sym, ◌∙◌, inl, inr}
 use Rattle.std.proofs.lemmas.Bool.{cases_Bool}
 use Rattle.std.proofs.lemmas.List.{map-append}
-use Rattle.exi_gram.specs.declared.options.Options.{Options}
 use Rattle.exi_gram.specs.Codes.{Productions, Second, group, group_unless_empty, kept_second, kept_seconds, mapped, mapped_second, pruned, single}
 use Rattle.exi_builtin.specs.declared.learnable.Learnable.{Learnable}
-use Rattle.exi_builtin.specs.declared.learnable.Room.{Room}
 use Rattle.exi_builtin.specs.declared.learnable.Room.TheVariants as room
 use Rattle.exi_builtin.specs.BuiltIn.{BuiltInRule, is_kept, written_rules}
-use Rattle.exi_builtin.specs.Learning.{Learning, RulesAreProductions, behind_learned, learned_in, productions, rule_in, rules}
+use Rattle.exi_builtin.specs.Learning.{RulesAreProductions, behind_learned, learned_in, rule_in}
 
 -- the things that are made again of what they read
 abbrev Again : {X Y : Type 0} → (X → Y) → (Y → X) → List X → Type 0

@@ -45,11 +45,11 @@ abbrev pub with_grammar : Learning → NameId → Learning
 with_grammar l name = with_grammar_unless l name (grammar_place l name)
 
 -- ---- the productions of a state
-abbrev start_tag_of : Option ElementGrammar → List Learnable
+abbrev pub start_tag_of : Option ElementGrammar → List Learnable
 start_tag_of None = []
 start_tag_of (Some g) = g.start_tag
 
-abbrev content_of : Option ElementGrammar → List Learnable
+abbrev pub content_of : Option ElementGrammar → List Learnable
 content_of None = []
 content_of (Some g) = g.content
 

@@ -1,5 +1,5 @@
 -- The least code of a production in a state (EXI 1.0, section 6.2), and which productions read an event.
-use Rattle.std.specs.Prelude.{◌≡◌, ◌⊎◌, ℕ, suc, ◌+◌, ◌&&◌, Bool, true, false, not, Option, Some, None, List, [], ◌∷◌, slice_get, if◌then◌else◌}
+use Rattle.std.specs.Prelude.{◌≡◌, ◌⊎◌, ℕ, suc, ◌&&◌, Bool, true, false, not, Option, Some, None, List, [], ◌∷◌, slice_get, if◌then◌else◌}
 use mathlib.Core.Bool.{beq}
 use Rattle.std.specs.Option.{option_map}
 use Rattle.exi_names.specs.declared.names.NameId.{NameId}

@@ -1,4 +1,4 @@
-ghost use Rattle.std.specs.Prelude.{◌≡◌};
+ghost use Rattle.std.specs.Prelude.{◌≡◌, []};
 ghost use Rattle.exi_builtin.specs.Learning.{new_grammar};
 
 use crate::learned_list::LearnedList;
@@ -23,5 +23,14 @@ impl ElementGrammar {
             start_tag: LearnedList::new(alloc),
             content: LearnedList::new(alloc),
         }
+    }
+
+    /// Forgets what was learned. The memory is kept.
+    pub fn clear(&mut self)
+        ensures start_tag { self.new.start_tag ≡ [] }
+        ensures content { self.new.content ≡ [] }
+    {
+        self.start_tag.clear();
+        self.content.clear();
     }
 }

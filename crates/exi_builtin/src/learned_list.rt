@@ -1,39 +1,25 @@
 ghost use Rattle.std.specs.Prelude.{◌≡◌, ◌<◌, ◌≤◌, ◌^◌, [], ◌∷◌, ℕ, None, Some, if◌then◌else◌, All, length, slice_get, OnOk, OnErr};
 ghost use Rattle.exi_builtin.specs.LeastCodes.{first_place, is_it, is_named};
-ghost use Rattle.indexmap.specs.IndexMap.{get};
-ghost use Rattle.exi_names.specs.declared.names.NameId.{NameId};
 ghost use Rattle.std.specs.Option.{option_map};
-ghost use Rattle.exi_builtin.specs.Marks.{IsLearned, code_at_place, name_key, same_key};
-ghost use Rattle.exi_names.specs.NameMaps.{same_name};
+ghost use Rattle.exi_builtin.specs.Marks.{IsLearned, code_at_place};
 ghost use Rattle.exi_builtin.specs.Uses.{stands_already};
 
 use crate::learnable::{Learnable, Learned};
+use crate::name_index::{LookUp, NameIndex, add_name};
 use crate::uses::{is_characters, is_end, is_known_type, is_type};
 use exi_names::NameId;
-use indexmap::IndexMap;
 use std::alloc::{AllocError, Global};
 use std::marker::Model;
-
-/// How many productions are compared with a name one by one. Among more it is looked up by hash.
-const COMPARED: u32 = 8;
-
-/// A name by which a place is kept.
-#[derive(Clone, Copy, Debug, PartialEq, Eq, Hash)]
-pub struct NameKey {
-    pub uri: u32,
-    pub local: u32,
-}
 
 /// The productions that a state learned. The latest has the code 0.
 ///
 /// A contract sees them as a list, the latest first. They are kept in the order in which they were
-/// learned, so that one more is pushed at the end and a code is found by its place from there. Where the
-/// latest of each name stands, and CH and EE, is kept beside them, so that none is looked for.
+/// learned, so that one more is pushed at the end and a code is found by its place from there. Where CH and
+/// EE stand is kept beside them, and where there are many to look up by name, the latest of each name.
 #[derive(Drop)]
 pub struct LearnedList {
     items: Vec<Learnable>,
-    elements: IndexMap<NameKey, u32>,
-    attributes: IndexMap<NameKey, u32>,
+    names: Option<Box<NameIndex>>,
     characters: Option<u32>,
     end: Option<u32>,
     has_type: bool,
@@ -41,17 +27,15 @@ pub struct LearnedList {
 
 impl Model for LearnedList {
     ghost use Rattle.std.specs.Prelude.{List, reverse};
-    ghost use Rattle.indexmap.specs.IndexMap.{get};
     ghost use Rattle.exi_builtin.specs.declared.learnable.Learnable.{Learnable};
-    ghost use Rattle.exi_builtin.specs.Marks.{IsMarked, same_key};
+    ghost use Rattle.exi_builtin.specs.Marks.{IsMarked};
 
     ghost Value = { List Learnable };
 
     ghost view = { λ l. reverse l.items.items };
 
     ghost invariant = { λ l.
-        IsMarked (reverse l.items.items) l.characters l.end l.has_type
-        (get same_key l.elements) (get same_key l.attributes) };
+        IsMarked (reverse l.items.items) l.characters l.end l.has_type l.names };
 }
 
 impl LearnedList {
@@ -61,8 +45,7 @@ impl LearnedList {
     {
         LearnedList {
             items: Vec::new(alloc),
-            elements: IndexMap::new(alloc),
-            attributes: IndexMap::new(alloc),
+            names: None,
             characters: None,
             end: None,
             has_type: false,
@@ -101,34 +84,27 @@ impl LearnedList {
         self.items[self.items.len() - 1 - code as usize]
     }
 
-    /// The code of the production of a name, the least where there are several. Where there are few they are compared one by one.
+    /// The code of the production of a name, the least where there are several, by the index where there is one.
     #[inline(never)]
     fn code_of_name(&self, name: NameId, attribute: bool) -> Option<u32>
         ensures { result ≡ first_place (is_named name attribute) self.now }
     {
-        if self.len() > COMPARED {
-            return self.kept_code(name, attribute);
+        match &self.names {
+            Some(names) => self.code_at(names.place_of(name, attribute)),
+            None => self.compared_code(name, attribute),
         }
+    }
+
+    /// The code of the production of a name. They are compared with it one by one.
+    fn compared_code(&self, name: NameId, attribute: bool) -> Option<u32>
+        ensures { result ≡ first_place (is_named name attribute) self.now }
+    {
         for code in 0..self.len() {
             if is_named(name, attribute, self.learned_at(code)) {
                 return Some(code);
             }
         }
         None
-    }
-
-    /// The code of the production of a name, by the place that is kept for it.
-    #[inline(never)]
-    fn kept_code(&self, name: NameId, attribute: bool) -> Option<u32>
-        ensures { result ≡ first_place (is_named name attribute) self.now }
-    {
-        let key = key_of(name);
-        let place = if attribute {
-            self.attributes.get(&key).copied()
-        } else {
-            self.elements.get(&key).copied()
-        };
-        self.code_at(place)
     }
 
     /// The code of the production that was learned at a place.
@@ -190,7 +166,12 @@ impl LearnedList {
     /// # Errors
     ///
     /// `AllocError` where memory is refused; the list is then unchanged.
-    pub fn push(&mut self, production: Learnable) -> Result<(), AllocError>
+    pub fn push(
+        &mut self,
+        production: Learnable,
+        look_up: LookUp,
+        alloc: Global,
+    ) -> Result<(), AllocError>
         requires room { length self.old < 2 ^ 31 }
         requires learned { IsLearned production }
         ensures ok { OnOk result (self.new ≡ production ∷ self.old) }
@@ -198,21 +179,29 @@ impl LearnedList {
     {
         let place = self.items.len() as u32;
         self.items.reserve(1)?;
-        match production {
-            Learnable::Known(name, attribute) => {
-                if attribute {
-                    keep(&mut self.attributes, name, place)?;
-                } else {
-                    keep(&mut self.elements, name, place)?;
-                }
-            }
-            _ => {}
-        }
+        add_name(
+            &mut self.names,
+            self.items.as_slice(),
+            production,
+            look_up,
+            alloc,
+        )?;
         self.items.push_reserved(production);
         self.characters = place_if(is_characters(production), place, self.characters);
         self.end = place_if(is_end(production), place, self.end);
         self.has_type = is_known_type(production) || self.has_type;
         Ok(())
+    }
+
+    /// Forgets all. The memory of the productions is kept, and that of the index given back.
+    pub fn clear(&mut self)
+        ensures { self.new ≡ [] }
+    {
+        self.items.clear();
+        self.names = None;
+        self.characters = None;
+        self.end = None;
+        self.has_type = false;
     }
 }
 
@@ -225,28 +214,6 @@ fn is_named(name: NameId, attribute: bool, production: Learnable) -> bool
         Learnable::Known(other, a) => other == name && a == attribute,
         _ => false,
     }
-}
-
-/// A name as a key.
-fn key_of(name: NameId) -> NameKey
-    ensures { result ≡ name_key name }
-{
-    NameKey {
-        uri: name.uri,
-        local: name.local,
-    }
-}
-
-/// Keeps a place for a name, in place of the one that was kept for it.
-fn keep(latest: &mut IndexMap<NameKey, u32>, name: NameId, place: u32) -> Result<(), AllocError>
-    ensures ok { OnOk result ((other : NameId) →
-        get same_key latest.new (name_key other)
-        ≡ (if same_name name other then Some place else get same_key latest.old (name_key other))) }
-    ensures err { OnErr result ((key : NameKey) →
-        get same_key latest.new key ≡ get same_key latest.old key) }
-{
-    latest.insert(key_of(name), place)?;
-    Ok(())
 }
 
 /// This place where it holds, and else the one that was kept.

@@ -17,16 +17,19 @@
 //! ```
 //!
 //! [`Overlay`] keeps what one body learned: for each name its grammar, and for each state its learned
-//! productions, which are found by their codes without a walk. [`Overlay::read_code`] takes no memory.
+//! productions, which are found by their codes without a walk. [`Overlay::read_code`] takes no memory, and what
+//! [`Overlay::clear`] forgets leaves its memory to what is learned next.
 #![tactic(auto)]
 
 mod code_list;
 mod element_grammar;
 mod event_kind;
+mod grammar_list;
 pub mod laws;
 mod learnable;
 mod learned_list;
 mod least_code;
+mod name_index;
 mod overlay;
 mod reading;
 mod uses;
@@ -36,4 +39,5 @@ mod written;
 pub use code_list::CodeList;
 pub use event_kind::EventKind;
 pub use learnable::{Learnable, Learned, Room};
+pub use name_index::LookUp;
 pub use overlay::Overlay;

@@ -26,10 +26,11 @@ ghost use Rattle.exi_builtin.specs.Learning.{
 };
 
 use crate::code_list::{CodeList, codes_behind};
-use crate::element_grammar::ElementGrammar;
+use crate::grammar_list::GrammarList;
 use crate::learnable::{Learnable, Learned, Room};
 use crate::learned_list::LearnedList;
 use crate::least_code::least_code;
+use crate::name_index::LookUp;
 use crate::reading::read_behind;
 use crate::uses::{added_by, stands_written};
 use crate::writing::write_behind;
@@ -42,13 +43,14 @@ use std::marker::Model;
 /// What the built-in grammars learned in one body or one self-contained fragment (EXI 1.0, sections
 /// 8.4.2 and 8.4.3).
 ///
-/// A contract sees it as a `Learning`. No call but [`Overlay::codes`] looks at more than eight learned productions;
-/// a call that answers an error leaves it as it was.
+/// A contract sees it as a `Learning`. A call that answers an error leaves it as it was. By [`LookUp::ByName`] no call but
+/// [`Overlay::codes`] looks at more than eight learned productions; by [`LookUp::ByCode`] neither reading nor learning does.
 #[derive(Drop)]
 pub struct Overlay {
     alloc: Global,
+    look_up: LookUp,
     numbers: NameMap<u32>,
-    grammars: Vec<ElementGrammar>,
+    grammars: GrammarList,
     fragment: LearnedList,
 }
 
@@ -58,22 +60,33 @@ impl Model for Overlay {
 
     ghost Value = { Learning };
 
-    ghost view = { λ o. record { grammars = o.grammars.items; fragment = o.fragment } };
+    ghost view = { λ o. record { grammars = o.grammars; fragment = o.fragment } };
 
-    ghost invariant = { λ o. IsNumbered o.grammars.items o.numbers };
+    ghost invariant = { λ o. IsNumbered o.grammars o.numbers };
 }
 
 impl Overlay {
-    /// Nothing learned.
-    pub fn new(alloc: Global) -> Overlay
+    /// Nothing learned, for productions that are looked up so.
+    pub fn new(alloc: Global, look_up: LookUp) -> Overlay
         ensures { result ≡ nothing_learned }
     {
         Overlay {
             alloc,
+            look_up,
             numbers: NameMap::new(alloc),
-            grammars: Vec::new(alloc),
+            grammars: GrammarList::new(alloc),
             fragment: LearnedList::new(alloc),
         }
+    }
+
+    /// Forgets all that was learned, and keeps the memory of it for what is learned next. It takes no memory, and its time grows
+    /// with what was learned.
+    pub fn clear(&mut self)
+        ensures { self.new ≡ nothing_learned }
+    {
+        self.numbers = NameMap::new(self.alloc);
+        self.grammars.clear();
+        self.fragment.clear();
     }
 
     /// The number of the grammar of a name's elements, which is made where the name is new (EXI 1.0,
@@ -108,12 +121,15 @@ impl Overlay {
         }) }
         ensures err { OnErr result (self.new ≡ self.old) }
     {
-        let number = self.grammars.len() as u32;
-        self.grammars.reserve(1)?;
-        self.numbers.insert(self.alloc, name, number)?;
-        self.grammars
-            .push_reserved(ElementGrammar::new(self.alloc, name));
-        Ok(number)
+        let number = self.grammars.len();
+        self.grammars.push(self.alloc, name)?;
+        match self.numbers.insert(self.alloc, name, number) {
+            Ok(()) => Ok(number),
+            Err(error) => {
+                self.grammars.pop();
+                Err(error)
+            }
+        }
     }
 
     /// How many grammars there are.
@@ -121,7 +137,7 @@ impl Overlay {
     pub fn grammars(&self) -> u32
         ensures { result ≡ length self.now.grammars }
     {
-        self.grammars.len() as u32
+        self.grammars.len()
     }
 
     /// Whether the number of a state is one that [`Overlay::grammar`] gave.
@@ -152,8 +168,8 @@ impl Overlay {
         ensures { result.now ≡ learned_in self.now room }
     {
         match room {
-            Room::StartTag(number) => &self.grammars[number as usize].start_tag,
-            Room::Content(number) => &self.grammars[number as usize].content,
+            Room::StartTag(number) => &self.grammars.at(number).start_tag,
+            Room::Content(number) => &self.grammars.at(number).content,
             Room::Fragment => &self.fragment,
         }
     }
@@ -206,7 +222,7 @@ impl Overlay {
     /// The code of a production in a state (EXI 1.0, section 6.2), the least where it was learned more than
     /// once, and none where the state does not have it. The number of the state has to be one that
     /// [`Overlay::grammar`] gave. At most eight learned productions are looked at; among more the name is looked
-    /// up by hash. No memory is taken.
+    /// up by hash, or by [`LookUp::ByCode`] all are looked at. No memory is taken.
     #[inline(always)]
     pub fn code_of(&self, room: Room, production: Learnable, options: &Options) -> Option<Code>
         requires { IsRoom self.now room }
@@ -273,9 +289,15 @@ impl Overlay {
         ensures err { OnErr result (self.new ≡ self.old) }
     {
         match room {
-            Room::StartTag(number) => self.grammars[number as usize].start_tag.push(production),
-            Room::Content(number) => self.grammars[number as usize].content.push(production),
-            Room::Fragment => self.fragment.push(production),
+            Room::StartTag(number) => {
+                self.grammars
+                    .learn_in_start_tag(number, production, self.look_up, self.alloc)
+            }
+            Room::Content(number) => {
+                self.grammars
+                    .learn_in_content(number, production, self.look_up, self.alloc)
+            }
+            Room::Fragment => self.fragment.push(production, self.look_up, self.alloc),
         }
     }
 }

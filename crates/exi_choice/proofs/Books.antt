@@ -8,9 +8,9 @@ use Rattle.exi_gram.specs.Naming.{Entry}
 use Rattle.exi_gram.specs.Outlines.{Outline}
 use Rattle.exi_gram.specs.Tables.{coded_of, kept_entry}
 use Rattle.exi_gram.specs.declared.code.Coded.{Coded as Kept}
-use Rattle.exi_reader.specs.Configurations.{Setting, in_book}
-use Rattle.exi_reader.specs.Handing.{rule_in}
-use Rattle.exi_reader.specs.Rules.{book_rule}
+use Rattle.exi_processing.specs.Configurations.{Setting, in_book}
+use Rattle.exi_processing.specs.Handing.{rule_in}
+use Rattle.exi_processing.specs.Rules.{book_rule}
 use Rattle.exi_writing.specs.OneEvent.{fewest}
 use Rattle.exi_choice.specs.Choices.{Finds, FindsFirst, IsFirstAt}
 use Rattle.exi_choice.specs.Fitting.{fit_in}

@@ -12,13 +12,13 @@ use Rattle.exi_gram.specs.Outlines.{Outline}
 use Rattle.exi_gram.proofs.CodeTells.{Each, EachOf, each_mapped}
 use Rattle.exi_names.specs.Datatypes as datatype
 use Rattle.exi_names.specs.Seen.{Value}
-use Rattle.exi_reader.specs.Configurations.{Setting, built_in}
-use Rattle.exi_reader.specs.Handing.{rule_in}
-use Rattle.exi_reader.specs.Rules.{Rule, Telling, Terminal, attribute, built_in_rule, built_in_terminal, characters, comment, declaration, document_type, element, end_document, end_element, entity, instruction, self_contained, start_document, untyped}
-use Rattle.exi_reader.specs.declared.rule.Content.{Content}
-use Rattle.exi_reader.specs.declared.rule.Content.TheVariants as content
-use Rattle.exi_reader.specs.declared.rule.Telling.{Telling as Told}
-use Rattle.exi_reader.specs.declared.rule.Valuing.{Valuing as Kind}
+use Rattle.exi_processing.specs.Configurations.{Setting, built_in}
+use Rattle.exi_processing.specs.Handing.{rule_in}
+use Rattle.exi_processing.specs.Rules.{Rule, Telling, Terminal, attribute, built_in_rule, built_in_terminal, characters, comment, declaration, document_type, element, end_document, end_element, entity, instruction, self_contained, start_document, untyped}
+use Rattle.exi_processing.specs.declared.rule.Content.{Content}
+use Rattle.exi_processing.specs.declared.rule.Content.TheVariants as content
+use Rattle.exi_processing.specs.declared.rule.Telling.{Telling as Told}
+use Rattle.exi_processing.specs.declared.rule.Valuing.{Valuing as Kind}
 use Rattle.exi_writing.specs.OneEvent.{fewest}
 use Rattle.exi_writing.proofs.OneEvent.{fewest_stands}
 use Rattle.exi_choice.specs.Choices.{Chooses, Finds, IsWay, Keeps, way_parts}

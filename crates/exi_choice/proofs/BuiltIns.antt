@@ -26,12 +26,12 @@ use Rattle.exi_builtin.specs.Marks.{IsLearned}
 use Rattle.exi_builtin.proofs.Readers.{it_is}
 use Rattle.exi_builtin.proofs.Rules.{rules_are}
 use Rattle.exi_builtin.proofs.Shapes.{kept_shape}
-use Rattle.exi_reader.specs.Configurations.{Setting, built_in}
-use Rattle.exi_reader.specs.Handing.{rule_in}
-use Rattle.exi_reader.specs.Rules.{Rule, built_in_rule, built_in_terminal}
-use Rattle.exi_reader.specs.declared.rule.Content.{Content}
-use Rattle.exi_reader.specs.declared.rule.Content.TheVariants as content
-use Rattle.exi_reader.specs.declared.rule.Telling.TheVariants as told
+use Rattle.exi_processing.specs.Configurations.{Setting, built_in}
+use Rattle.exi_processing.specs.Handing.{rule_in}
+use Rattle.exi_processing.specs.Rules.{Rule, built_in_rule, built_in_terminal}
+use Rattle.exi_processing.specs.declared.rule.Content.{Content}
+use Rattle.exi_processing.specs.declared.rule.Content.TheVariants as content
+use Rattle.exi_processing.specs.declared.rule.Telling.TheVariants as told
 use Rattle.exi_writing.specs.OneEvent.{fewest, first_of, or_else}
 use Rattle.exi_choice.specs.Choices.{Chooses}
 use Rattle.exi_choice.specs.Wanted.{LacksSpecial, first_for, general, is_of, is_of_rule, special}

@@ -2,7 +2,7 @@
 use Rattle.std.proofs.Common.{◌≡◌, ℕ, Bool, true, false, ◌&&◌, cond, eqb, List, [], ◌∷◌, length, Option, Some, None, refl, sym, ap, ◌∙◌, inl, inr}
 use Rattle.std.proofs.lemmas.Bool.{and_parts, cases_Bool}
 use Rattle.exi_gram.specs.Codes.{Coded}
-use Rattle.exi_reader.specs.Rules.{Rule}
+use Rattle.exi_processing.specs.Rules.{Rule}
 use Rattle.exi_writing.specs.OneEvent.{fewest, first_of}
 
 -- ---- of each

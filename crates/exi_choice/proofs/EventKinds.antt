@@ -1,10 +1,10 @@
 -- Of which kind a production is that stands for an event.
 use Rattle.std.proofs.Common.{◌≡◌, true, refl}
 use Rattle.exi_names.specs.Datatypes.{Representation}
-use Rattle.exi_reader.specs.Rules.{Telling, Terminal, Valuing, attribute, characters, comment, declaration, document_type, element, end_document, end_element, entity, instruction, self_contained, start_document}
-use Rattle.exi_reader.specs.declared.rule.Content.TheVariants as content
-use Rattle.exi_reader.specs.declared.rule.Telling.{Telling as Told}
-use Rattle.exi_reader.specs.declared.rule.Valuing.{Valuing as Kind}
+use Rattle.exi_processing.specs.Rules.{Telling, Terminal, Valuing, attribute, characters, comment, declaration, document_type, element, end_document, end_element, entity, instruction, self_contained, start_document}
+use Rattle.exi_processing.specs.declared.rule.Content.TheVariants as content
+use Rattle.exi_processing.specs.declared.rule.Telling.{Telling as Told}
+use Rattle.exi_processing.specs.declared.rule.Valuing.{Valuing as Kind}
 use Rattle.exi_choice.specs.Wanted.{is_of, is_told}
 
 pub only_start_document : (t : Terminal) → is_of content.StartDocument t ≡ true → t ≡ start_document

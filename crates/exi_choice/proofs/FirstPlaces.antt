@@ -6,7 +6,7 @@ use Rattle.exi_names.specs.StartTables.{IsStart, Names, xsi_names}
 use Rattle.exi_tables.specs.Growth.{KeepsAll}
 use Rattle.exi_tables.specs.Partitions.{Partitions, locals, locals_in, namespaces_from, uris}
 use Rattle.exi_tables.proofs.Growing.{keeps_within}
-use Rattle.exi_reader.specs.Configurations.{Setting, first_tables}
+use Rattle.exi_processing.specs.Configurations.{Setting, first_tables}
 
 -- the first tables have the lists of the names
 uris_from : (k : ℕ) (us : List (List ℕ)) (ls : List (List (List ℕ))) → length ls ≡ length us → map (λ n. n.uri) (namespaces_from k us ls) ≡ us

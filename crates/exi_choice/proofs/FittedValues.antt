@@ -13,9 +13,9 @@ use Rattle.exi_names.specs.Seen.{Value}
 use Rattle.exi_names.specs.Seen as shape
 use Rattle.exi_tables.specs.Partitions.{Partitions}
 use Rattle.exi_typed.specs.Strings.{Named}
-use Rattle.exi_reader.specs.Configurations.{Setting}
-use Rattle.exi_reader.specs.Contents.{acts_as_type, is_missing, is_nil, named_type, represented_by}
-use Rattle.exi_reader.specs.Rules.{Valuing, by_name, typed, untyped}
+use Rattle.exi_processing.specs.Configurations.{Setting}
+use Rattle.exi_processing.specs.Contents.{acts_as_type, is_missing, is_nil, named_type, represented_by}
+use Rattle.exi_processing.specs.Rules.{Valuing, by_name, typed, untyped}
 use Rattle.exi_writing.specs.Contents.{attribute_value, of, text_of, type_value, valued}
 use Rattle.exi_writing.specs.Pieces as piece
 use Rattle.exi_writing.specs.Pieces.{Piece, can_be_valued}

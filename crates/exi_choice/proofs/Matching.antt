@@ -16,12 +16,12 @@ use Rattle.exi_tables.specs.Partitions.{prefixes as table_prefixes}
 use Rattle.exi_typed.specs.Strings.{Named}
 use Rattle.exi_typed.specs.Written.{after_local, after_name, prefix_bits, under_bits}
 use Rattle.exi_typed.specs.WrittenLaws.{name_units, named_for}
-use Rattle.exi_reader.specs.Changes.{innermost}
-use Rattle.exi_reader.specs.Configurations.{Config, Setting, first_tables}
-use Rattle.exi_reader.specs.Plans.{Plan, alone_in, barred_in, no_element, plan_on, wrong_element}
-use Rattle.exi_reader.specs.Rules.{Rule, Telling, Terminal, Valuing, attribute, characters, comment, declaration, document_type, element, end_document, end_element, entity, instruction, known, self_contained, spelled, start_document, under}
-use Rattle.exi_reader.specs.Sound.{FitsTelling}
-use Rattle.exi_reader.specs.declared.rule.Valuing.TheVariants as kind
+use Rattle.exi_processing.specs.Changes.{innermost}
+use Rattle.exi_processing.specs.Configurations.{Config, Setting, first_tables}
+use Rattle.exi_processing.specs.Plans.{Plan, alone_in, barred_in, no_element, plan_on, wrong_element}
+use Rattle.exi_processing.specs.Rules.{Rule, Telling, Terminal, Valuing, attribute, characters, comment, declaration, document_type, element, end_document, end_element, entity, instruction, known, self_contained, spelled, start_document, under}
+use Rattle.exi_processing.specs.Sound.{FitsTelling}
+use Rattle.exi_processing.specs.declared.rule.Valuing.TheVariants as kind
 use Rattle.exi_writing.specs.Contents.{attribute_by, attribute_value, told_name, valued, written_on}
 use Rattle.exi_writing.specs.OneEvent.{is_taken}
 use Rattle.exi_writing.specs.Pieces as piece

@@ -9,14 +9,14 @@ use Rattle.exi_gram.specs.Codes.{Coded, Productions, Second, coded, coded_from, 
 use Rattle.exi_names.specs.Events.{Happening}
 use Rattle.exi_names.specs.StartTables.{IsStart}
 use Rattle.exi_tables.specs.Partitions.{Partitions}
-use Rattle.exi_reader.specs.Configurations.{Config, IsSetting, Setting, rules_of}
-use Rattle.exi_reader.specs.Rules.{Rule, Terminal, attribute, characters, comment, declaration, document_type, element, end_document, end_element, entity, instruction, self_contained, start_document}
-use Rattle.exi_reader.specs.Sound.{FitsBook, FitsContent, FitsDocument, FitsFragment, FitsIn, FitsInside, FitsStart, IsSound}
-use Rattle.exi_reader.specs.declared.frames.Element.{Element}
-use Rattle.exi_reader.specs.declared.frames.Outer.{Outer}
-use Rattle.exi_reader.specs.declared.frames.Outer.TheVariants as outer
-use Rattle.exi_reader.specs.declared.frames.State.{State}
-use Rattle.exi_reader.proofs.Fitting.{Fits, state_fits}
+use Rattle.exi_processing.specs.Configurations.{Config, IsSetting, Setting, rules_of}
+use Rattle.exi_processing.specs.Rules.{Rule, Terminal, attribute, characters, comment, declaration, document_type, element, end_document, end_element, entity, instruction, self_contained, start_document}
+use Rattle.exi_processing.specs.Sound.{FitsBook, FitsContent, FitsDocument, FitsFragment, FitsIn, FitsInside, FitsStart, IsSound}
+use Rattle.exi_processing.specs.declared.frames.Element.{Element}
+use Rattle.exi_processing.specs.declared.frames.Outer.{Outer}
+use Rattle.exi_processing.specs.declared.frames.Outer.TheVariants as outer
+use Rattle.exi_processing.specs.declared.frames.State.{State}
+use Rattle.exi_processing.proofs.Fitting.{Fits, state_fits}
 use Rattle.exi_writing.specs.OneEvent.{fewest, matches}
 use Rattle.exi_writing.proofs.OneEvent.{fewest_stands}
 use Rattle.exi_choice.specs.Fitting.{fit_in}

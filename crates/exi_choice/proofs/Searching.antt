@@ -15,7 +15,7 @@ use Rattle.exi_gram.specs.Outlines.{Outline}
 use Rattle.exi_gram.specs.Schemas.{IsSchema}
 use Rattle.exi_gram.specs.Tables.{coded_of, most_productions, size}
 use Rattle.exi_gram.specs.declared.code.Coded.{Coded as Kept}
-use Rattle.exi_reader.specs.Rules.{book_rule}
+use Rattle.exi_processing.specs.Rules.{book_rule}
 use Rattle.exi_choice.specs.Choices.{FindsFirst, Takes}
 use Rattle.exi_choice.specs.Fitting.{fit_in, fitted, value_in}
 use Rattle.exi_choice.specs.Sought.{sought_for}

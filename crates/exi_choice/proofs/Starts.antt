@@ -3,9 +3,9 @@ use Rattle.std.proofs.Common.{◌≡◌, Bool, true, false, cond, [], ◌∷◌,
 use Rattle.std.proofs.lemmas.Bool.{cases_Bool}
 use Rattle.exi_builtin.specs.Learning.{Learning}
 use Rattle.exi_gram.specs.Codes.{Coded}
-use Rattle.exi_reader.specs.Configurations.{Setting}
-use Rattle.exi_reader.specs.Rules.{Rule, fragment_start, start_document}
-use Rattle.exi_reader.specs.declared.rule.Content.{Content}
+use Rattle.exi_processing.specs.Configurations.{Setting}
+use Rattle.exi_processing.specs.Rules.{Rule, fragment_start, start_document}
+use Rattle.exi_processing.specs.declared.rule.Content.{Content}
 use Rattle.exi_choice.specs.Choices.{Chooses, Finds}
 use Rattle.exi_choice.specs.Fitting.{fit_in}
 use Rattle.exi_choice.specs.Wanted.{Seeking, first_for, first_suiting, is_of}

@@ -18,12 +18,12 @@ use Rattle.exi_typed.specs.Strings.{Named, place_in}
 use Rattle.exi_typed.specs.Written.{after_local, after_name, after_uri, name_bits, prefix_bits, space_for, under_bits}
 use Rattle.exi_typed.specs.WrittenLaws.{name_units, named_for}
 use Rattle.exi_typed.proofs.Writes.{local_new, space_new}
-use Rattle.exi_reader.specs.Configurations.{Setting, first_tables}
-use Rattle.exi_reader.specs.Contents.{is_nil}
-use Rattle.exi_reader.specs.Rules.{Telling, known, nil_name, spelled, type_name, under}
-use Rattle.exi_reader.specs.Sound.{FitsTelling, IsLeastName}
-use Rattle.exi_reader.specs.declared.rule.Telling.{Telling as Told}
-use Rattle.exi_reader.specs.declared.rule.Telling.TheVariants as told
+use Rattle.exi_processing.specs.Configurations.{Setting, first_tables}
+use Rattle.exi_processing.specs.Contents.{is_nil}
+use Rattle.exi_processing.specs.Rules.{Telling, known, nil_name, spelled, type_name, under}
+use Rattle.exi_processing.specs.Sound.{FitsTelling, IsLeastName}
+use Rattle.exi_processing.specs.declared.rule.Telling.{Telling as Told}
+use Rattle.exi_processing.specs.declared.rule.Telling.TheVariants as told
 use Rattle.exi_writing.specs.Contents.{told_name}
 use Rattle.exi_writing.specs.Pieces.{can_know, can_know_under, can_name, if_spelled, is_at, is_text, named_under, prefixes_for, stands_at}
 use Rattle.exi_choice.specs.Fitting.{is_nil_at, is_type_at}

@@ -17,13 +17,13 @@ use Rattle.exi_names.specs.Datatypes.{Representation}
 use Rattle.exi_names.specs.StartTables.{Names}
 use Rattle.exi_names.specs.declared.names.NameId.{NameId}
 use Rattle.exi_names.specs.declared.names.QName.{QName}
-use Rattle.exi_reader.specs.Contents.{is_nil}
-use Rattle.exi_reader.specs.Rules.{Terminal, attribute, book_rule, characters, comment, declaration, document_type, element, end_document, end_element, entity, instruction, nil_name, self_contained, start_document, terminal_of, type_name}
-use Rattle.exi_reader.specs.declared.rule.Content.{Content}
-use Rattle.exi_reader.specs.declared.rule.Content.TheVariants as content
-use Rattle.exi_reader.specs.declared.rule.Telling.{Telling as Told}
-use Rattle.exi_reader.specs.declared.rule.Telling.TheVariants as told
-use Rattle.exi_reader.specs.declared.rule.Valuing.{Valuing as Kind}
+use Rattle.exi_processing.specs.Contents.{is_nil}
+use Rattle.exi_processing.specs.Rules.{Terminal, attribute, book_rule, characters, comment, declaration, document_type, element, end_document, end_element, entity, instruction, nil_name, self_contained, start_document, terminal_of, type_name}
+use Rattle.exi_processing.specs.declared.rule.Content.{Content}
+use Rattle.exi_processing.specs.declared.rule.Content.TheVariants as content
+use Rattle.exi_processing.specs.declared.rule.Telling.{Telling as Told}
+use Rattle.exi_processing.specs.declared.rule.Telling.TheVariants as told
+use Rattle.exi_processing.specs.declared.rule.Valuing.{Valuing as Kind}
 use Rattle.exi_ways.specs.Ways.{Tells}
 use Rattle.exi_choice.specs.Sought.{naming, sought_attribute, sought_for}
 use Rattle.exi_choice.specs.Wanted.{is_of, same_place, same_uri}

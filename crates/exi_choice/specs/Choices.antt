@@ -7,10 +7,10 @@ use Rattle.exi_gram.specs.Codes.{Coded, Productions}
 use Rattle.exi_gram.specs.Naming.{Entry}
 use Rattle.exi_gram.specs.Outlines.{Outline}
 use Rattle.exi_gram.specs.Tables.{parts_at, parts_of, size}
-use Rattle.exi_reader.specs.Configurations.{Setting, built_in, in_book}
-use Rattle.exi_reader.specs.Handing.{rule_in}
-use Rattle.exi_reader.specs.Rules.{Rule, book_rule, fragment_start}
-use Rattle.exi_reader.specs.declared.rule.Content.{Content}
+use Rattle.exi_processing.specs.Configurations.{Setting, built_in, in_book}
+use Rattle.exi_processing.specs.Handing.{rule_in}
+use Rattle.exi_processing.specs.Rules.{Rule, book_rule, fragment_start}
+use Rattle.exi_processing.specs.declared.rule.Content.{Content}
 use Rattle.exi_writing.specs.OneEvent.{fewest}
 use Rattle.exi_choice.specs.declared.choice.Choice.{Choice}
 use Rattle.exi_choice.specs.declared.choice.Way.{Way}

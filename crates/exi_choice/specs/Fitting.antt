@@ -14,11 +14,11 @@ use Rattle.exi_names.specs.Seen as shape
 use Rattle.exi_names.specs.Shown.{named}
 use Rattle.exi_names.specs.declared.names.NameId.{NameId}
 use Rattle.exi_names.specs.declared.names.QName.{QName}
-use Rattle.exi_reader.specs.Contents.{is_nil}
+use Rattle.exi_processing.specs.Contents.{is_nil}
 use Rattle.exi_builtin.specs.Learning.{is_type}
 use Rattle.exi_gram.specs.Globals.{attribute_datatype}
-use Rattle.exi_reader.specs.Handing.{datatype_in}
-use Rattle.exi_reader.specs.Rules.{Terminal, Valuing, attribute, by_name, characters, typed, untyped}
+use Rattle.exi_processing.specs.Handing.{datatype_in}
+use Rattle.exi_processing.specs.Rules.{Terminal, Valuing, attribute, by_name, characters, typed, untyped}
 use Rattle.exi_writing.specs.Contents.{text_of}
 use Rattle.exi_writing.specs.Pieces.{can_be_valued}
 use Rattle.exi_choice.specs.declared.declared.Declared.{Declared as Kept}

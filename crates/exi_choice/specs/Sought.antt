@@ -6,11 +6,11 @@ use Rattle.exi_candidates.specs.declared.sought.Sought.{Sought}
 use Rattle.exi_candidates.specs.declared.sought.Sought.TheVariants as sought
 use Rattle.exi_gram.specs.declared.named.Named.{Named}
 use Rattle.exi_gram.specs.declared.named.Named.TheVariants as named
-use Rattle.exi_reader.specs.Contents.{is_nil}
-use Rattle.exi_reader.specs.declared.rule.Content.{Content}
-use Rattle.exi_reader.specs.declared.rule.Content.TheVariants as content
-use Rattle.exi_reader.specs.declared.rule.Telling.{Telling as Told}
-use Rattle.exi_reader.specs.declared.rule.Telling.TheVariants as told
+use Rattle.exi_processing.specs.Contents.{is_nil}
+use Rattle.exi_processing.specs.declared.rule.Content.{Content}
+use Rattle.exi_processing.specs.declared.rule.Content.TheVariants as content
+use Rattle.exi_processing.specs.declared.rule.Telling.{Telling as Told}
+use Rattle.exi_processing.specs.declared.rule.Telling.TheVariants as told
 
 abbrev pub naming : Told → Named
 naming told.Spelled = named.Nothing

@@ -17,14 +17,14 @@ use Rattle.exi_names.specs.Events.{Happening}
 use Rattle.exi_names.specs.Events as event
 use Rattle.exi_names.specs.StartTables.{IsStart}
 use Rattle.exi_tables.specs.Partitions.{Partitions, least_place, locals, uris}
-use Rattle.exi_reader.specs.Configurations.{Config, IsSetting, Setting, rules_of}
-use Rattle.exi_reader.specs.Sound.{IsSound}
-use Rattle.exi_reader.specs.Rules.{Rule, Telling, Terminal, attribute, built_in_terminal, characters, comment, declaration, document_type, element, end_document, end_element, entity, instruction, book_rule, known, self_contained, spelled, start_document, under}
-use Rattle.exi_reader.specs.declared.rule.Content.{Content}
-use Rattle.exi_reader.specs.declared.rule.Content.TheVariants as content
-use Rattle.exi_reader.specs.declared.rule.Telling.{Telling as Told}
-use Rattle.exi_reader.specs.declared.rule.Telling.TheVariants as told
-use Rattle.exi_reader.specs.declared.rule.Valuing.TheVariants as valued
+use Rattle.exi_processing.specs.Configurations.{Config, IsSetting, Setting, rules_of}
+use Rattle.exi_processing.specs.Sound.{IsSound}
+use Rattle.exi_processing.specs.Rules.{Rule, Telling, Terminal, attribute, built_in_terminal, characters, comment, declaration, document_type, element, end_document, end_element, entity, instruction, book_rule, known, self_contained, spelled, start_document, under}
+use Rattle.exi_processing.specs.declared.rule.Content.{Content}
+use Rattle.exi_processing.specs.declared.rule.Content.TheVariants as content
+use Rattle.exi_processing.specs.declared.rule.Telling.{Telling as Told}
+use Rattle.exi_processing.specs.declared.rule.Telling.TheVariants as told
+use Rattle.exi_processing.specs.declared.rule.Valuing.TheVariants as valued
 use Rattle.exi_writing.specs.OneEvent.{chosen, fewest, matches}
 use Rattle.exi_choice.specs.Fitting.{Having, fit_in, nothing, of_attribute, of_characters}
 

@@ -1,17 +1,17 @@
 ghost use Rattle.std.specs.Prelude.{◌≡◌, None, Some, IfNone, IfSome};
 ghost use Rattle.exi_builtin.specs.Learning.{IsRoom, state_behind};
 ghost use Rattle.exi_builtin.specs.Learning.{Learning};
-ghost use Rattle.exi_reader.specs.Configurations.{Setting, built_in};
-ghost use Rattle.exi_reader.specs.Rules.{fragment_start, start_document};
-ghost use Rattle.exi_reader.specs.Handing.{rule_in, telling_of, terminal_in};
-ghost use Rattle.exi_reader.specs.Rules.{built_in_terminal};
+ghost use Rattle.exi_processing.specs.Configurations.{Setting, built_in};
+ghost use Rattle.exi_processing.specs.Rules.{fragment_start, start_document};
+ghost use Rattle.exi_processing.specs.Handing.{rule_in, telling_of, terminal_in};
+ghost use Rattle.exi_processing.specs.Rules.{built_in_terminal};
 ghost use Rattle.exi_choice.specs.declared.choice.Way.TheVariants as Way;
 ghost use Rattle.exi_choice.specs.Choices.{Chooses, IsChoice};
 ghost use Rattle.exi_choice.specs.Wanted.{LacksSpecial, general, is_of, is_told, special, special_terminal};
 
 use exi_builtin::{Learnable, Overlay, Room};
 use exi_gram::{Book, Code};
-use exi_reader::{Content, Rule, Telling, state_behind};
+use exi_processing::{Content, Rule, Telling, state_behind};
 
 /// How the code of a production is written.
 #[derive(Clone, Copy, Debug)]

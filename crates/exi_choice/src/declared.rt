@@ -1,13 +1,13 @@
 ghost use Rattle.std.specs.Prelude.{◌≡◌};
 ghost use Rattle.std.specs.Option.{option_copied};
 ghost use Rattle.exi_names.specs.Shown.{named};
-ghost use Rattle.exi_reader.specs.Handing.{valuing_in};
-ghost use Rattle.exi_reader.specs.Rules.{by_name};
+ghost use Rattle.exi_processing.specs.Handing.{valuing_in};
+ghost use Rattle.exi_processing.specs.Rules.{by_name};
 ghost use Rattle.exi_choice.specs.Fitting.{declared_in, declaring, is_nil_at, is_type_at};
 
 use exi_gram::Book;
 use exi_names::{Datatype, NameId, NameRef};
-use exi_reader::{Valuing, attribute_datatype, is_nil, is_type};
+use exi_processing::{Valuing, attribute_datatype, is_nil, is_type};
 
 /// How the value of an attribute is represented under a production.
 #[derive(Clone, Copy)]

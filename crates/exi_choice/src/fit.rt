@@ -6,7 +6,7 @@ ghost use Rattle.exi_names.specs.Seen.{seen, values_of};
 ghost use Rattle.exi_writing.specs.Contents.{are_items, has_string, is_item, text_of};
 ghost use Rattle.exi_writing.specs.Pieces.{can_all_be_valued, can_be_spelled, can_be_valued};
 ghost use Rattle.exi_names.specs.Datatypes.{boolean, text};
-ghost use Rattle.exi_reader.specs.Handing.{rule_in};
+ghost use Rattle.exi_processing.specs.Handing.{rule_in};
 ghost use Rattle.exi_choice.specs.Fitting.{IsPlainOf, declaring, fit_as, fit_for, fit_in, fitted, having, is_name, spelled_value, value_in};
 
 use crate::declared::{Declared, declaration_of};
@@ -16,7 +16,7 @@ use exi_lexical::laws::written_is_read;
 use exi_lexical::{canon, value_of};
 use exi_moment::is_moment;
 use exi_names::{Datatype, Moment, Txt, Val, Whole};
-use exi_reader::{Content, Rule};
+use exi_processing::{Content, Rule};
 use exi_text::is_writable;
 use std::alloc::{AllocError, Global};
 

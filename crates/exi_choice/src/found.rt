@@ -3,8 +3,8 @@ ghost use Rattle.exi_gram.specs.Books.{IsStateOf, state_at};
 ghost use Rattle.exi_gram.specs.Codes.{coded};
 ghost use Rattle.exi_gram.specs.Tables.{coded_of, most_productions};
 ghost use Rattle.exi_builtin.specs.Learning.{IsRoom, Learning};
-ghost use Rattle.exi_reader.specs.Configurations.{Setting, built_in, in_book};
-ghost use Rattle.exi_reader.specs.Rules.{fragment_start};
+ghost use Rattle.exi_processing.specs.Configurations.{Setting, built_in, in_book};
+ghost use Rattle.exi_processing.specs.Rules.{fragment_start};
 ghost use Rattle.exi_choice.specs.Choices.{Finds, FindsFirst, Keeps, Takes, wanting};
 
 use crate::choice::{Choice, Way, choose_built_in, choose_start, is_for};
@@ -14,7 +14,7 @@ use crate::wanted::Wanted;
 use exi_builtin::{Overlay, Room};
 use exi_candidates::next_candidate;
 use exi_gram::{Book, Coded};
-use exi_reader::Rule;
+use exi_processing::Rule;
 use std::alloc::{AllocError, Global};
 
 /// A production that was found for an event.

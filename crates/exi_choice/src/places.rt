@@ -3,7 +3,7 @@ ghost use Rattle.exi_choice.specs.Wanted.{place_told, told_of};
 ghost use Rattle.exi_names.specs.Shown.{named};
 
 use exi_names::{NameId, NameRef};
-use exi_reader::Telling;
+use exi_processing::Telling;
 use exi_tables::Tables;
 
 /// What a code can tell of a name: its least places, where it stands in the tables; that of its URI, where it alone

@@ -3,7 +3,7 @@ ghost use Rattle.exi_choice.specs.Sought.{naming, sought_attribute, sought_for};
 
 use exi_candidates::Sought;
 use exi_gram::Named;
-use exi_reader::{Content, Telling, is_nil, is_type};
+use exi_processing::{Content, Telling, is_nil, is_type};
 
 /// The places of a name or URI, as far as they are told.
 fn naming(telling: Telling) -> Named

@@ -1,5 +1,5 @@
 use exi_names::{NameId, NameRef, Val};
-use exi_reader::Content;
+use exi_processing::Content;
 
 /// The value that an event has.
 #[derive(Clone, Copy)]

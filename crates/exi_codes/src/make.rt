@@ -9,6 +9,24 @@ use crate::places::Places;
 use exi_gram::{Book, CodeTable, CodedState, Globals, Index, Items, Options, Schema};
 use std::alloc::{AllocError, Global};
 
+/// The states of all grammars of a schema, as the options leave them, with the places of its names.
+fn states_by(
+    alloc: Global,
+    schema: &Schema,
+    options: &Options,
+    places: &Places,
+) -> Result<Items<Items<CodedState>>, AllocError>
+    requires places { places.now ≡ schema.now.names }
+    ensures { IfOk result (λ states. states ≡ book_states options.now schema.now) }
+{
+    let maker = Maker {
+        alloc,
+        options,
+        places,
+    };
+    maker.all_states(schema)
+}
+
 /// The states of all grammars of a schema, as the options leave them.
 fn states_for(
     alloc: Global,
@@ -18,12 +36,7 @@ fn states_for(
     ensures { IfOk result (λ states. states ≡ book_states options.now schema.now) }
 {
     let places = Places::of(alloc, schema.names())?;
-    let maker = Maker {
-        alloc,
-        options,
-        places: &places,
-    };
-    maker.all_states(schema)
+    states_by(alloc, schema, options, &places)
 }
 
 /// The compiled table of each state.

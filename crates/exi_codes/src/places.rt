@@ -5,7 +5,7 @@ ghost use Rattle.exi_gram.specs.Wholes.{plain};
 
 use exi_gram::{Named, Terminal};
 use exi_names::{NameId, QName, StartNames, Txt};
-use exi_tables::{PlaceTables, Tables};
+use exi_tables::{FirstTables, PlaceTables, Tables};
 use std::alloc::{AllocError, Global};
 use std::marker::Model;
 
@@ -35,7 +35,8 @@ impl Places {
     {
         // Tells that there is a list of local names for each URI.
         let _ = names.uris();
-        let tables = PlaceTables::start(alloc, names, None, None)?;
+        let first = FirstTables::of(alloc, names)?;
+        let tables = PlaceTables::start(alloc, first, None, None);
         Ok(Places { tables })
     }
 

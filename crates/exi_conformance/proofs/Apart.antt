@@ -2,11 +2,11 @@
 use Rattle.std.proofs.Common.{◌≡◌, ◌∙◌, ℕ, List, Option, Some, None, Result, Ok, Err, IfOk}
 use Rattle.exi_meter.specs.Metering.{Bounds}
 use Rattle.exi_names.specs.Events.{Happening}
-use Rattle.exi_reader.specs.Reading.{Reading, Sequences}
-use Rattle.exi_reader.specs.Runs.{Job}
-use Rattle.exi_reader.specs.declared.end.End.{End}
-use Rattle.exi_reader.specs.declared.start.Start.TheVariants as start
-use Rattle.exi_reader.specs.declared.turn.ReadStop.{ReadStop}
+use Rattle.exi_processing.specs.Reading.{Reading, Sequences}
+use Rattle.exi_processing.specs.Runs.{Job}
+use Rattle.exi_processing.specs.declared.end.End.{End}
+use Rattle.exi_processing.specs.declared.start.Start.TheVariants as start
+use Rattle.exi_processing.specs.declared.turn.ReadStop.{ReadStop}
 use Rattle.exi_conformance.specs.Turns.{GoesOn, IsApart}
 
 -- what sequential processing from the fragment's byte came to

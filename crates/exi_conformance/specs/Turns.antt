@@ -2,10 +2,10 @@
 use Rattle.std.specs.Prelude.{◌≡◌, ℕ, false, List, Option, Some, None}
 use Rattle.exi_meter.specs.Metering.{Bounds}
 use Rattle.exi_names.specs.Events.{Happening}
-use Rattle.exi_reader.specs.Reading.{IsReached, Reading}
-use Rattle.exi_reader.specs.Runs.{IsSequence, Job}
-use Rattle.exi_reader.specs.declared.end.End.{End}
-use Rattle.exi_reader.specs.declared.start.Start.TheVariants as start
+use Rattle.exi_processing.specs.Reading.{IsReached, Reading}
+use Rattle.exi_processing.specs.Runs.{IsSequence, Job}
+use Rattle.exi_processing.specs.declared.end.End.{End}
+use Rattle.exi_processing.specs.declared.start.Start.TheVariants as start
 
 -- a reader of this job
 pub record IsOf (j : Job) (r : Reading) : Type 0 where

@@ -3,19 +3,20 @@
 
 ghost use Rattle.std.specs.Prelude.{◌≡◌, false, IfSome};
 ghost use Rattle.exi_gram.specs.Switches.{conflicts};
-ghost use Rattle.exi_reader.specs.Reading.{IsJob, IsStartIn, job_of};
+ghost use Rattle.exi_processing.specs.Reading.{IsJob, IsStartIn, job_of};
 
-use crate::agree::agreed;
 use crate::books::book_of;
 use crate::ends::push_end;
-use crate::fields::bytes_of;
 use crate::lines::Lines;
-use crate::options::options_of;
 use crate::turns;
+use exi_cases::agree::agreed;
+use exi_cases::fields::bytes_of;
+use exi_cases::options::options_of;
 use exi_codes::book;
 use exi_gram::{Book, Options};
 use exi_meter::Limits;
-use exi_reader::{Job, ReadStop, Start, read_from};
+use exi_processing::{Job, ReadStop, Start};
+use exi_reader::read_from;
 use exi_schema::no_schema;
 use exi_steps::Steps;
 use exi_tables::{HashTables, ListTables, PlaceTables, Tables};

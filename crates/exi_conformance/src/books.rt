@@ -12,9 +12,9 @@
 ghost use Rattle.std.specs.Prelude.{◌≡◌, false};
 ghost use Rattle.exi_gram.specs.Switches.{conflicts};
 
-use crate::fields::bytes_of;
-use crate::options::options_of;
 use crate::terminals::terminal;
+use exi_cases::fields::bytes_of;
+use exi_cases::options::options_of;
 use exi_codes::book;
 use exi_evtext::parse_events;
 use exi_gram::{Book, Code, Coded, CodedState, Grammar, Options, Schema};

@@ -13,15 +13,15 @@ ghost use Rattle.std.specs.Prelude.{◌≡◌, ◌<◌, false, length, true, IfO
 ghost use Rattle.exi_bits.specs.Written.{IsWholeBytes};
 ghost use Rattle.exi_bits.specs.declared.align.Align.{Align as Alignment};
 ghost use Rattle.exi_gram.specs.Switches.{conflicts};
-ghost use Rattle.exi_reader.specs.Runs.{has_ended};
+ghost use Rattle.exi_processing.specs.Runs.{has_ended};
 ghost use Rattle.exi_writer.specs.Writing.{IsAtFragment, MayGoOn};
 
 use crate::bodies::limits_of;
 use crate::books::book_of;
-use crate::fields::bytes_of;
-use crate::options::options_of;
-use crate::show;
 use exi_bits::{Align, BitOut};
+use exi_cases::fields::bytes_of;
+use exi_cases::options::options_of;
+use exi_cases::show;
 use exi_codes::book;
 use exi_evtext::parse_events;
 use exi_gram::{Book, Options};

@@ -1,11 +1,11 @@
 //! The end of a body.
 
-use crate::show;
 use exi_bits::Fault;
+use exi_cases::show;
 use exi_evtext::push_event;
 use exi_meter::Tally;
 use exi_names::{EventRef, QName};
-use exi_reader::End;
+use exi_processing::End;
 use std::alloc::{AllocError, Global};
 
 /// How it ended, what was charged, and the name of a fragment's root where it was read.

@@ -7,8 +7,8 @@
 //! CH:DATATYPE   CH:untyped
 //! ```
 
-use crate::datatypes::moment_word;
-use crate::show::hex;
+use exi_cases::datatypes::moment_word;
+use exi_cases::show::hex;
 use exi_gram::Terminal;
 use exi_names::{Alphabet, Datatype, QName, Txt};
 use std::alloc::{AllocError, Global};

@@ -3,12 +3,13 @@
 
 ghost use Rattle.std.specs.Prelude.{◌≡◌, ◌≤◌, ◌*◌, false, true, length, IfOk};
 ghost use Rattle.exi_conformance.specs.Turns.{GoesOn, IsApart, IsOf};
-ghost use Rattle.exi_reader.specs.Reading.{IsJob, IsOutcome, IsReached, IsStartIn, job_of};
-ghost use Rattle.exi_reader.specs.Splices.{fits};
+ghost use Rattle.exi_processing.specs.Reading.{IsJob, IsOutcome, IsReached, IsStartIn, job_of};
+ghost use Rattle.exi_processing.specs.Splices.{fits};
 
 use crate::ends::push_end;
 use crate::lines::Lines;
-use exi_reader::{End, Job, ReadStop, Reader, Spliced, Start, Turn, read_from};
+use exi_processing::{End, Job, ReadStop, Spliced, Start, Turn};
+use exi_reader::{Reader, read_from};
 use exi_steps::Steps;
 use exi_tables::ListTables;
 use std::alloc::{AllocError, Global};

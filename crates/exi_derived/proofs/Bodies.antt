@@ -3,8 +3,8 @@ use Rattle.std.proofs.Common.{◌≡◌, ◌≤◌, ◌⊎◌, inl, inr, ℕ, ma
 use Rattle.std.specs.Prelude.{Result, Ok, Err}
 use Rattle.exi_meter.specs.Metering.{Bounds}
 use Rattle.exi_names.specs.Events.{Happening}
-use Rattle.exi_reader.specs.Configurations.{Setting, first_config}
-use Rattle.exi_reader.specs.declared.start.Start.TheVariants as start
+use Rattle.exi_processing.specs.Configurations.{Setting, first_config}
+use Rattle.exi_processing.specs.declared.start.Start.TheVariants as start
 use Rattle.exi_writing.specs.OneEvent.{Refused, limit, not_derived}
 use Rattle.exi_writing.specs.Runs.{Derives, Refusal, Run, body}
 use Rattle.exi_derived.specs.Laws.{BitsRefuseTheSame, BitsWriteAgain, DerivedIsWritten, DerivedOrUnmatched, GoesOn, IsNoWider, IsRefused, LimitedGoesOn, NeverBoth, OneUnmatched, RefusedDerivesNot, RefusedIsUnmatched, RefusesAt, RefusesFrom, Unmatched, UnmatchedIsRefused, WiderWritesTheSame, WrittenDerives, WrittenExactly, is_limit, is_written, passes_limit, unmatched_at}

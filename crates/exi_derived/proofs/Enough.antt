@@ -5,10 +5,10 @@ use Rattle.std.proofs.lemmas.Bool.{le-leb}
 use Rattle.exi_gram.specs.Codes.{Coded}
 use Rattle.exi_meter.specs.Metering.{Bounds, Metering, event_fits, level_fits, text_fits, with_event, with_level, with_text}
 use Rattle.exi_names.specs.Events.{Happening}
-use Rattle.exi_reader.specs.Configurations.{Config, Setting}
-use Rattle.exi_reader.specs.Plans.{Plan, alone_in, plan_of}
-use Rattle.exi_reader.specs.Rules.{Rule}
-use Rattle.exi_reader.specs.Runs.{has_ended}
+use Rattle.exi_processing.specs.Configurations.{Config, Setting}
+use Rattle.exi_processing.specs.Plans.{Plan, alone_in, plan_of}
+use Rattle.exi_processing.specs.Rules.{Rule}
+use Rattle.exi_processing.specs.Runs.{has_ended}
 use Rattle.exi_writing.specs.OneEvent.{Refused, Written, ◌>>=◌, behind_code, by_code, chosen, followed, followed_by, not_derived, one_deeper, one_more, paid, written, written_by}
 use Rattle.exi_writing.specs.Pieces.{Piece}
 use Rattle.exi_writing.specs.Pruned.{pruned}

@@ -4,9 +4,9 @@ use Rattle.std.proofs.Common.{◌≡◌, ◌≤◌, ℕ, suc, Bool, true, false,
 use Rattle.std.specs.Prelude.{Result, Ok, Err, if◌then◌else◌}
 use Rattle.exi_meter.specs.Metering.{Bounds}
 use Rattle.exi_names.specs.Events.{Happening}
-use Rattle.exi_reader.specs.Configurations.{Config, Setting}
-use Rattle.exi_reader.specs.Runs.{has_ended}
-use Rattle.exi_reader.specs.declared.start.Start.{Start}
+use Rattle.exi_processing.specs.Configurations.{Config, Setting}
+use Rattle.exi_processing.specs.Runs.{has_ended}
+use Rattle.exi_processing.specs.declared.start.Start.{Start}
 use Rattle.exi_writing.specs.OneEvent.{Refused, Written, ◌>>=◌, limit, not_derived, written}
 use Rattle.exi_writing.specs.Pruned.{pruned}
 use Rattle.exi_writing.specs.Runs.{Refusal, Run, behind_run, go_on, in_front, nothing_from, own, put, put_from, put_then, then_run, written_all}

@@ -11,13 +11,13 @@ use Rattle.exi_gram.specs.Laws.{codes}
 use Rattle.exi_gram.specs.Switches.{align_of}
 use Rattle.exi_meter.specs.Metering.{Bounds, Metering, event_fits, level_fits, text_fits, with_event, with_level, with_text}
 use Rattle.exi_names.specs.Events.{Happening}
-use Rattle.exi_reader.specs.Configurations.{Config, Setting, rules_of}
-use Rattle.exi_reader.specs.OneEvent.{is_start}
-use Rattle.exi_reader.specs.Plans.{Plan, alone_in, plan_of}
-use Rattle.exi_reader.specs.Rules.{Rule}
-use Rattle.exi_reader.specs.Runs.{has_ended}
-use Rattle.exi_reader.specs.Spelled.{further}
-use Rattle.exi_reader.specs.declared.start.Start.{Start}
+use Rattle.exi_processing.specs.Configurations.{Config, Setting, rules_of}
+use Rattle.exi_processing.specs.OneEvent.{is_start}
+use Rattle.exi_processing.specs.Plans.{Plan, alone_in, plan_of}
+use Rattle.exi_processing.specs.Rules.{Rule}
+use Rattle.exi_processing.specs.Runs.{has_ended}
+use Rattle.exi_processing.specs.Spelled.{further}
+use Rattle.exi_processing.specs.declared.start.Start.{Start}
 use Rattle.exi_writing.specs.OneEvent.{Refused, Written, ◌>>=◌, at_end, behind, behind_code, by_code, chosen, fewest, first_of, followed, followed_by, is_taken, limit, matches, not_derived, one_deeper, one_more, or_else, padding, paid, written, written_by}
 use Rattle.exi_writing.specs.Pieces.{Piece}
 use Rattle.exi_derived.specs.Laws.{IsNoWider}

@@ -4,11 +4,11 @@ use Rattle.exi_builtin.specs.declared.learnable.Learned.{Learned}
 use Rattle.exi_meter.specs.Metering.{Bounds, Metering}
 use Rattle.exi_names.specs.declared.names.NameId.{NameId}
 use Rattle.exi_names.specs.declared.names.QName.{QName}
-use Rattle.exi_reader.specs.Changes.{Effect, closed, effected, emptied, has_level, leads, learns, learns_name, left_level, moves, opened, put_aside, resumed, retyped, stays}
-use Rattle.exi_reader.specs.Configurations.{Body, Config, Setting}
-use Rattle.exi_reader.specs.Plans.{Alone, at_end, at_first, at_start, ended_in, nowhere, rooted_in}
-use Rattle.exi_reader.specs.Rules.{Telling, known, spelled, under}
-use Rattle.exi_reader.specs.declared.start.Start.{Start}
+use Rattle.exi_processing.specs.Changes.{Effect, closed, effected, emptied, has_level, leads, learns, learns_name, left_level, moves, opened, put_aside, resumed, retyped, stays}
+use Rattle.exi_processing.specs.Configurations.{Body, Config, Setting}
+use Rattle.exi_processing.specs.Plans.{Alone, at_end, at_first, at_start, ended_in, nowhere, rooted_in}
+use Rattle.exi_processing.specs.Rules.{Telling, known, spelled, under}
+use Rattle.exi_processing.specs.declared.start.Start.{Start}
 use Rattle.exi_derived.specs.Laws.{IsNoWider}
 
 abbrev pub limited : Bounds → Metering → Metering

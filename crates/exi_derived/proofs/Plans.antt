@@ -4,12 +4,12 @@ use Rattle.exi_builtin.specs.declared.learnable.Learned.TheVariants as used
 use Rattle.exi_meter.specs.Metering.{Bounds}
 use Rattle.exi_names.specs.Events.{Happening}
 use Rattle.exi_tables.specs.Partitions.{Partitions}
-use Rattle.exi_reader.specs.Changes.{closed, effect_of, effected, learns, learns_name, moves, opened, opener}
-use Rattle.exi_reader.specs.Configurations.{Config, Setting}
-use Rattle.exi_reader.specs.OneEvent.{is_start}
-use Rattle.exi_reader.specs.Plans.{Alone, Plan, plan_on, rooted_in}
-use Rattle.exi_reader.specs.Rules.{Rule, Terminal, attribute, characters, comment, declaration, document_type, element, end_document, end_element, entity, instruction, self_contained, start_document}
-use Rattle.exi_reader.specs.declared.start.Start.{Start}
+use Rattle.exi_processing.specs.Changes.{closed, effect_of, effected, learns, learns_name, moves, opened, opener}
+use Rattle.exi_processing.specs.Configurations.{Config, Setting}
+use Rattle.exi_processing.specs.OneEvent.{is_start}
+use Rattle.exi_processing.specs.Plans.{Alone, Plan, plan_on, rooted_in}
+use Rattle.exi_processing.specs.Rules.{Rule, Terminal, attribute, characters, comment, declaration, document_type, element, end_document, end_element, entity, instruction, self_contained, start_document}
+use Rattle.exi_processing.specs.declared.start.Start.{Start}
 use Rattle.exi_writing.specs.Contents.{written_on}
 use Rattle.exi_writing.specs.Pieces.{Piece}
 use Rattle.exi_derived.proofs.Places.{Steady, aside_steady, closed_steady, effected_steady, ended_steady, learned_steady, learns_steady, moves_steady, opened_steady, rooted_steady, shifted, steady_then}

@@ -5,7 +5,7 @@
 use Rattle.std.specs.Prelude.{◌≡◌, ◌+◌, ◌<◌, ◌≤◌, ◌⊎◌, ◌↔◌, ℕ, Bool, true, false, List, ◌++◌, length, Result, Ok, Err}
 use Rattle.exi_meter.specs.Metering.{Bounds}
 use Rattle.exi_names.specs.Events.{Happening}
-use Rattle.exi_reader.specs.Configurations.{Setting}
+use Rattle.exi_processing.specs.Configurations.{Setting}
 use Rattle.exi_writing.specs.OneEvent.{Refused, limit, not_derived}
 use Rattle.exi_writing.specs.Runs.{Derives, Refusal, Run, body}
 

@@ -7,13 +7,13 @@ use Rattle.exi_meter.specs.Metering.{Bounds, stream_bounds}
 use Rattle.exi_meter.specs.declared.tally.Tally.{Tally}
 use Rattle.exi_names.specs.Events.{Happening}
 use Rattle.exi_names.specs.declared.names.QName.{QName}
-use Rattle.exi_reader.proofs.Sequences.{leads_count}
-use Rattle.exi_reader.specs.Reading.{Sequences}
-use Rattle.exi_reader.specs.Runs.{IsSequence, Job, events_of, first}
-use Rattle.exi_reader.specs.declared.end.End.{End}
-use Rattle.exi_reader.specs.declared.end.End.TheVariants as end
-use Rattle.exi_reader.specs.declared.start.Start.TheVariants as start
-use Rattle.exi_reader.specs.declared.turn.ReadStop.{ReadStop}
+use Rattle.exi_processing.proofs.Sequences.{leads_count}
+use Rattle.exi_processing.specs.Reading.{Sequences}
+use Rattle.exi_processing.specs.Runs.{IsSequence, Job, events_of, first}
+use Rattle.exi_processing.specs.declared.end.End.{End}
+use Rattle.exi_processing.specs.declared.end.End.TheVariants as end
+use Rattle.exi_processing.specs.declared.start.Start.TheVariants as start
+use Rattle.exi_processing.specs.declared.turn.ReadStop.{ReadStop}
 use Rattle.exi_example.specs.Counting.{AreCounts, Grew, HasCounted, IsCounted, IsWrong, is_attribute, is_characters, is_element, no_counts}
 use Rattle.exi_example.specs.declared.counts.Counts.{Counts}
 

@@ -12,9 +12,9 @@ use Rattle.exi_names.specs.Events.{Happening, se, at, ch}
 use Rattle.exi_names.specs.declared.names.QName.{QName}
 use Rattle.exi_opening.specs.Header.{header_for}
 use Rattle.exi_opening.specs.Openings.{job_of}
-use Rattle.exi_reader.specs.Runs.{IsSequence, Job}
-use Rattle.exi_reader.specs.declared.end.End.TheVariants as end
-use Rattle.exi_reader.specs.declared.start.Start.TheVariants as start
+use Rattle.exi_processing.specs.Runs.{IsSequence, Job}
+use Rattle.exi_processing.specs.declared.end.End.TheVariants as end
+use Rattle.exi_processing.specs.declared.start.Start.TheVariants as start
 use Rattle.exi_example.specs.declared.counts.Counts.{Counts}
 use Rattle.std.proofs.Common.{arith}
 use Rattle.std.proofs.lemmas.List.Sums.{sum_by-append}

@@ -11,8 +11,8 @@ mod counts;
 
 ghost use Rattle.std.specs.Prelude.{◌≡◌, ◌≤◌, ◌^◌, ℕ, length};
 ghost use Rattle.exi_example.specs.Counting.{IsCount, IsCountIn};
-ghost use Rattle.exi_reader.specs.Reading.{IsJob, Sequences, job_of};
-ghost use Rattle.exi_reader.specs.declared.start.Start.TheVariants as start;
+ghost use Rattle.exi_processing.specs.Reading.{IsJob, Sequences, job_of};
+ghost use Rattle.exi_processing.specs.declared.start.Start.TheVariants as start;
 ghost use Rattle.exi_meter.specs.Metering.{stream_bounds};
 
 use counts::Counts;
@@ -21,7 +21,8 @@ use exi_gram::Options;
 use exi_meter::Limits;
 use exi_names::EventOut;
 use exi_opening::{accepted_header, book_of};
-use exi_reader::{End, Job, ReadStop, Start, read_from};
+use exi_processing::{End, Job, ReadStop, Start};
+use exi_reader::read_from;
 use exi_steps::Steps;
 use exi_tables::PlaceTables;
 use std::alloc::Global;

@@ -5,8 +5,8 @@ use Rattle.exi_gram.specs.Outlines.{Outline}
 use Rattle.exi_gram.specs.Wholes.{without_schema}
 use Rattle.exi_gram.specs.declared.options.Options.{Options}
 use Rattle.exi_header.specs.declared.header.Header.{Header}
-use Rattle.exi_reader.specs.Configurations.{Setting}
-use Rattle.exi_reader.specs.Runs.{Job}
+use Rattle.exi_processing.specs.Configurations.{Setting}
+use Rattle.exi_processing.specs.Runs.{Job}
 
 -- a schema under options, with the codes of all its states
 abbrev pub setting_by : Outline → Options → Setting

@@ -14,14 +14,14 @@ use Rattle.exi_names.specs.Events as event
 use Rattle.exi_names.specs.Seen.{Value}
 use Rattle.exi_names.specs.Seen as shape
 use Rattle.exi_names.specs.declared.names.NameId.{NameId}
-use Rattle.exi_reader.specs.Changes.{closed, has_level, innermost, learns, moves}
-use Rattle.exi_reader.specs.Configurations.{built_in, rules_of}
-use Rattle.exi_reader.specs.Handing.{rule_in}
-use Rattle.exi_reader.specs.Plans.{Alone, Plan, alone_in, nowhere, plan_on}
-use Rattle.exi_reader.specs.Rules.{Rule, Terminal, characters, end_element, spelled}
-use Rattle.exi_reader.specs.declared.rule.Content.{Content}
-use Rattle.exi_reader.specs.declared.rule.Content.TheVariants as content
-use Rattle.exi_reader.specs.declared.rule.Rule.{Rule as Kept}
+use Rattle.exi_processing.specs.Changes.{closed, has_level, innermost, learns, moves}
+use Rattle.exi_processing.specs.Configurations.{built_in, rules_of}
+use Rattle.exi_processing.specs.Handing.{rule_in}
+use Rattle.exi_processing.specs.Plans.{Alone, Plan, alone_in, nowhere, plan_on}
+use Rattle.exi_processing.specs.Rules.{Rule, Terminal, characters, end_element, spelled}
+use Rattle.exi_processing.specs.declared.rule.Content.{Content}
+use Rattle.exi_processing.specs.declared.rule.Content.TheVariants as content
+use Rattle.exi_processing.specs.declared.rule.Rule.{Rule as Kept}
 use Rattle.exi_tables.specs.Growth.{NoneLonger}
 use Rattle.exi_tables.specs.Partitions.{IsName, Partitions}
 use Rattle.exi_typed.specs.Written.{after_string, string_bits}

@@ -12,19 +12,19 @@ use Rattle.exi_gram.specs.declared.options.Options.{Options}
 use Rattle.exi_meter.specs.Metering.{Bounds}
 use Rattle.exi_names.specs.Events.{Happening}
 use Rattle.exi_names.specs.declared.datatype.Datatype.{Datatype}
-use Rattle.exi_reader.specs.Configurations.{Config, Setting, first_config, first_outer, first_place, rules_of}
-use Rattle.exi_reader.specs.Handing.{charges_on, first_outer_of, rule_in, terminal_in}
-use Rattle.exi_reader.specs.Plans.{Alone, Plan, alone_in, no_element, plan_of, plan_on}
-use Rattle.exi_reader.specs.Rules.{Rule, Telling, Terminal, attribute, characters, comment, declaration, document_type, element, end_document, end_element, entity, instruction, self_contained, start_document}
-use Rattle.exi_reader.specs.Sound.{FitsIn}
-use Rattle.exi_reader.specs.declared.charges.Charges.{Charges}
-use Rattle.exi_reader.specs.declared.frames.Outer.{Outer}
-use Rattle.exi_reader.specs.declared.start.Start.{Start}
-use Rattle.exi_reader.specs.declared.start.Start.TheVariants as start
-use Rattle.exi_reader.specs.declared.rule.Content.{Content}
-use Rattle.exi_reader.specs.declared.rule.Content.TheVariants as content
-use Rattle.exi_reader.specs.declared.rule.Rule.{Rule as Kept}
-use Rattle.exi_reader.proofs.Fitting.{Fits}
+use Rattle.exi_processing.specs.Configurations.{Config, Setting, first_config, first_outer, first_place, rules_of}
+use Rattle.exi_processing.specs.Handing.{charges_on, first_outer_of, rule_in, terminal_in}
+use Rattle.exi_processing.specs.Plans.{Alone, Plan, alone_in, no_element, plan_of, plan_on}
+use Rattle.exi_processing.specs.Rules.{Rule, Telling, Terminal, attribute, characters, comment, declaration, document_type, element, end_document, end_element, entity, instruction, self_contained, start_document}
+use Rattle.exi_processing.specs.Sound.{FitsIn}
+use Rattle.exi_processing.specs.declared.charges.Charges.{Charges}
+use Rattle.exi_processing.specs.declared.frames.Outer.{Outer}
+use Rattle.exi_processing.specs.declared.start.Start.{Start}
+use Rattle.exi_processing.specs.declared.start.Start.TheVariants as start
+use Rattle.exi_processing.specs.declared.rule.Content.{Content}
+use Rattle.exi_processing.specs.declared.rule.Content.TheVariants as content
+use Rattle.exi_processing.specs.declared.rule.Rule.{Rule as Kept}
+use Rattle.exi_processing.proofs.Fitting.{Fits}
 use Rattle.exi_writing.specs.OneEvent.{by_code, is_taken, matches, not_derived, written_by}
 use Rattle.exi_toll.specs.Charges.{Charged, charge_event, charge_level}
 use Rattle.exi_writing.specs.OneEvent.{chosen, fewest, first_of, or_else}

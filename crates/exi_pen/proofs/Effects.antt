@@ -8,11 +8,11 @@ use Rattle.exi_meter.specs.Metering.{Metering}
 use Rattle.exi_names.specs.declared.names.NameId.{NameId}
 use Rattle.exi_names.specs.declared.names.QName.{QName}
 use Rattle.exi_names.specs.Seen.{Value}
-use Rattle.exi_reader.specs.Changes.{Effect, effect_of, room_in}
-use Rattle.exi_reader.specs.Configurations.{Setting}
-use Rattle.exi_reader.specs.Contents.{is_nil}
-use Rattle.exi_reader.specs.Handing.{learned_by}
-use Rattle.exi_reader.specs.Rules.{Telling, Valuing, by_name, typed, untyped}
+use Rattle.exi_processing.specs.Changes.{Effect, effect_of, room_in}
+use Rattle.exi_processing.specs.Configurations.{Setting}
+use Rattle.exi_processing.specs.Contents.{is_nil}
+use Rattle.exi_processing.specs.Handing.{learned_by}
+use Rattle.exi_processing.specs.Rules.{Telling, Valuing, by_name, typed, untyped}
 use Rattle.exi_choice.specs.Fitting.{Declared, declared_in, is_nil_at, is_type_at}
 use Rattle.exi_pen.specs.Pages.{Page, at_config, attribute_page, effected_page}
 use Rattle.exi_pen.specs.Told.{IsDeclaredAt, effect_as}

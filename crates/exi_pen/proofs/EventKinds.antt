@@ -8,14 +8,14 @@ use Rattle.exi_names.specs.Events.{Happening}
 use Rattle.exi_names.specs.Events as event
 use Rattle.exi_tables.specs.Partitions.{Partitions}
 use Rattle.exi_typed.specs.Strings.{Declaration}
-use Rattle.exi_reader.specs.Changes.{moves, resumed}
-use Rattle.exi_reader.specs.Configurations.{Body, Config, Setting}
-use Rattle.exi_reader.specs.Handing.{rule_in}
-use Rattle.exi_reader.specs.OneEvent.{is_start, remembered}
-use Rattle.exi_reader.specs.Plans.{Alone, Plan, alone_in, at_end, at_first, at_start, end_plan, nowhere, plan_of, seen_in}
-use Rattle.exi_reader.specs.Rules.{Terminal, comment, declaration, document_type, end_document, end_element, entity, instruction, self_contained, start_document}
-use Rattle.exi_reader.specs.declared.rule.Content.TheVariants as content
-use Rattle.exi_reader.specs.declared.rule.Rule.{Rule as Kept}
+use Rattle.exi_processing.specs.Changes.{moves, resumed}
+use Rattle.exi_processing.specs.Configurations.{Body, Config, Setting}
+use Rattle.exi_processing.specs.Handing.{rule_in}
+use Rattle.exi_processing.specs.OneEvent.{is_start, remembered}
+use Rattle.exi_processing.specs.Plans.{Alone, Plan, alone_in, at_end, at_first, at_start, end_plan, nowhere, plan_of, seen_in}
+use Rattle.exi_processing.specs.Rules.{Terminal, comment, declaration, document_type, end_document, end_element, entity, instruction, self_contained, start_document}
+use Rattle.exi_processing.specs.declared.rule.Content.TheVariants as content
+use Rattle.exi_processing.specs.declared.rule.Rule.{Rule as Kept}
 use Rattle.exi_writing.specs.Contents.{four_texts, text, two_texts}
 use Rattle.exi_writing.specs.OneEvent.{Refused, Written, padding, written_by}
 use Rattle.exi_writing.specs.Pieces as piece

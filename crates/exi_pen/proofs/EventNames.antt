@@ -20,21 +20,21 @@ use Rattle.exi_tables.specs.Partitions.{IsName, Partitions}
 use Rattle.exi_typed.specs.Strings.{Named}
 use Rattle.exi_typed.specs.Written.{after_local, after_name, name_bits, prefix_bits, under_bits}
 use Rattle.exi_typed.specs.WrittenLaws.{name_units, named_for}
-use Rattle.exi_reader.specs.Changes.{Effect, effected, emptied, innermost, leads, learns_name, moves, opened, opener, retyped, stays}
-use Rattle.exi_reader.specs.Configurations.{Config, Setting, rules_of}
-use Rattle.exi_reader.specs.Handing.{HasLevels, datatype_in, root_at, rule_in, telling_of, terminal_in}
-use Rattle.exi_reader.specs.OneEvent.{remembered}
-use Rattle.exi_reader.specs.Plans.{Alone, alone_in, at_end, at_first, at_start, element_made, is_event, nowhere, plan_of, wrong_element}
-use Rattle.exi_reader.specs.Rules.{Rule, Telling, Terminal, characters, element, end_document, end_element, known, spelled, under}
-use Rattle.exi_reader.specs.Sound.{FitsBook, FitsFragment, FitsIn, FitsOutside}
-use Rattle.exi_reader.specs.declared.frames.Element.{Element}
-use Rattle.exi_reader.specs.declared.frames.Outer.{Outer}
-use Rattle.exi_reader.specs.declared.frames.Outer.TheVariants as outer
-use Rattle.exi_reader.specs.declared.rule.Content.{Content}
-use Rattle.exi_reader.specs.declared.rule.Content.TheVariants as content
-use Rattle.exi_reader.specs.declared.rule.Rule.{Rule as Kept}
-use Rattle.exi_reader.specs.declared.rule.Telling.{Telling as Told}
-use Rattle.exi_reader.proofs.Steady.{open_name}
+use Rattle.exi_processing.specs.Changes.{Effect, effected, emptied, innermost, leads, learns_name, moves, opened, opener, retyped, stays}
+use Rattle.exi_processing.specs.Configurations.{Config, Setting, rules_of}
+use Rattle.exi_processing.specs.Handing.{HasLevels, datatype_in, root_at, rule_in, telling_of, terminal_in}
+use Rattle.exi_processing.specs.OneEvent.{remembered}
+use Rattle.exi_processing.specs.Plans.{Alone, alone_in, at_end, at_first, at_start, element_made, is_event, nowhere, plan_of, wrong_element}
+use Rattle.exi_processing.specs.Rules.{Rule, Telling, Terminal, characters, element, end_document, end_element, known, spelled, under}
+use Rattle.exi_processing.specs.Sound.{FitsBook, FitsFragment, FitsIn, FitsOutside}
+use Rattle.exi_processing.specs.declared.frames.Element.{Element}
+use Rattle.exi_processing.specs.declared.frames.Outer.{Outer}
+use Rattle.exi_processing.specs.declared.frames.Outer.TheVariants as outer
+use Rattle.exi_processing.specs.declared.rule.Content.{Content}
+use Rattle.exi_processing.specs.declared.rule.Content.TheVariants as content
+use Rattle.exi_processing.specs.declared.rule.Rule.{Rule as Kept}
+use Rattle.exi_processing.specs.declared.rule.Telling.{Telling as Told}
+use Rattle.exi_processing.proofs.Steady.{open_name}
 use Rattle.exi_writing.specs.Contents.{told_name}
 use Rattle.exi_writing.specs.OneEvent.{by_code, is_taken, matches, not_derived}
 use Rattle.exi_writing.specs.Pieces.{Piece, can_know, can_know_under, can_name, if_spelled, is_at, named_under}

@@ -13,19 +13,19 @@ use Rattle.exi_tables.specs.Partitions.{Partitions}
 use Rattle.exi_typed.specs.Strings.{Named}
 use Rattle.exi_typed.specs.Written.{after_name}
 use Rattle.exi_typed.specs.WrittenLaws.{name_units, named_for}
-use Rattle.exi_reader.specs.Changes.{Effect, effect_of, effected, innermost}
-use Rattle.exi_reader.specs.Configurations.{Config, Setting}
+use Rattle.exi_processing.specs.Changes.{Effect, effect_of, effected, innermost}
+use Rattle.exi_processing.specs.Configurations.{Config, Setting}
 use Rattle.exi_builtin.specs.Learning.{Learning}
-use Rattle.exi_reader.specs.Handing.{AreThere, IsThereIn, rule_in, telling_of}
-use Rattle.exi_reader.specs.Rules.{Telling, Terminal, Valuing, attribute, characters, spelled}
-use Rattle.exi_reader.specs.Stacks.{HasForm, HaveForm}
-use Rattle.exi_reader.specs.declared.frames.Element.{Element}
-use Rattle.exi_reader.specs.declared.frames.State.{State}
-use Rattle.exi_reader.specs.declared.frames.State.TheVariants as state
-use Rattle.exi_reader.specs.declared.rule.Content.TheVariants as content
-use Rattle.exi_reader.specs.declared.rule.Rule.{Rule as Kept}
-use Rattle.exi_reader.specs.declared.rule.Telling.{Telling as Told}
-use Rattle.exi_reader.specs.declared.rule.Valuing.TheVariants as valuing
+use Rattle.exi_processing.specs.Handing.{AreThere, IsThereIn, rule_in, telling_of}
+use Rattle.exi_processing.specs.Rules.{Telling, Terminal, Valuing, attribute, characters, spelled}
+use Rattle.exi_processing.specs.Stacks.{HasForm, HaveForm}
+use Rattle.exi_processing.specs.declared.frames.Element.{Element}
+use Rattle.exi_processing.specs.declared.frames.State.{State}
+use Rattle.exi_processing.specs.declared.frames.State.TheVariants as state
+use Rattle.exi_processing.specs.declared.rule.Content.TheVariants as content
+use Rattle.exi_processing.specs.declared.rule.Rule.{Rule as Kept}
+use Rattle.exi_processing.specs.declared.rule.Telling.{Telling as Told}
+use Rattle.exi_processing.specs.declared.rule.Valuing.TheVariants as valuing
 use Rattle.exi_values.specs.Stops.{IsRoomy}
 use Rattle.exi_writing.specs.Contents.{attribute_value, told_name}
 use Rattle.exi_writing.specs.OneEvent.{paid}

@@ -21,11 +21,11 @@ use Rattle.exi_typed.specs.Written.{after_name, name_bits}
 use Rattle.exi_typed.specs.WrittenLaws.{name_units, named_for}
 use Rattle.exi_values.specs.Written.{after_valued, valued_bits}
 use Rattle.exi_values.specs.WrittenLaws.{valued_units}
-use Rattle.exi_reader.specs.Changes.{effect_of, leads, nil_effect, stays, type_effect}
-use Rattle.exi_reader.specs.Configurations.{Setting}
-use Rattle.exi_reader.specs.Contents.{is_nil, named_type}
+use Rattle.exi_processing.specs.Changes.{effect_of, leads, nil_effect, stays, type_effect}
+use Rattle.exi_processing.specs.Configurations.{Setting}
+use Rattle.exi_processing.specs.Contents.{is_nil, named_type}
 use Rattle.exi_gram.specs.Globals.{attribute_datatype, is_named, type_grammar}
-use Rattle.exi_reader.specs.Rules.{Terminal, Valuing, attribute, by_name, characters, comment, declaration, document_type, element, end_document, end_element, entity, instruction, self_contained, start_document, typed, untyped}
+use Rattle.exi_processing.specs.Rules.{Terminal, Valuing, attribute, by_name, characters, comment, declaration, document_type, element, end_document, end_element, entity, instruction, self_contained, start_document, typed, untyped}
 use Rattle.exi_writing.specs.Contents.{attribute_value, of, text_of, type_value, valued}
 use Rattle.exi_writing.specs.Pieces as piece
 use Rattle.exi_writing.specs.Pieces.{Piece, can_be_valued, can_name, if_spelled, turned, with_unit}

@@ -14,15 +14,15 @@ use Rattle.exi_names.specs.Seen.{Value}
 use Rattle.exi_names.specs.Seen as shape
 use Rattle.exi_names.specs.declared.names.NameId.{NameId}
 use Rattle.exi_names.specs.declared.names.QName.{QName}
-use Rattle.exi_reader.specs.Changes.{Effect, effect_of, effected, leads, moves, opened, opener, type_effect}
-use Rattle.exi_reader.specs.Configurations.{rules_of}
-use Rattle.exi_reader.specs.Contents.{named_type}
-use Rattle.exi_reader.specs.Handing.{root_at, rule_in}
-use Rattle.exi_reader.specs.Plans.{Alone, alone_in, is_event, nowhere, wrong_element}
-use Rattle.exi_reader.specs.Rules.{Rule, Telling, Terminal, attribute, element, known, untyped}
-use Rattle.exi_reader.specs.declared.rule.Content.TheVariants as content
-use Rattle.exi_reader.specs.declared.rule.Telling.TheVariants as told
-use Rattle.exi_reader.specs.declared.rule.Valuing.TheVariants as valuing
+use Rattle.exi_processing.specs.Changes.{Effect, effect_of, effected, leads, moves, opened, opener, type_effect}
+use Rattle.exi_processing.specs.Configurations.{rules_of}
+use Rattle.exi_processing.specs.Contents.{named_type}
+use Rattle.exi_processing.specs.Handing.{root_at, rule_in}
+use Rattle.exi_processing.specs.Plans.{Alone, alone_in, is_event, nowhere, wrong_element}
+use Rattle.exi_processing.specs.Rules.{Rule, Telling, Terminal, attribute, element, known, untyped}
+use Rattle.exi_processing.specs.declared.rule.Content.TheVariants as content
+use Rattle.exi_processing.specs.declared.rule.Telling.TheVariants as told
+use Rattle.exi_processing.specs.declared.rule.Valuing.TheVariants as valuing
 use Rattle.exi_tables.specs.Partitions.{IsName, prefixes as prefixes_at}
 use Rattle.exi_typed.specs.Strings.{Named}
 use Rattle.exi_typed.specs.Written.{prefix_bits, prefix_bits_of}

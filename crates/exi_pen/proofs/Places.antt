@@ -8,9 +8,9 @@ use Rattle.exi_names.specs.declared.names.QName.{QName}
 use Rattle.exi_tables.specs.Partitions.{IsName, Partitions, least_place, live_at, locals, uris}
 use Rattle.exi_tables.proofs.Given.{same_is}
 use Rattle.exi_tables.proofs.Least.{least_found}
-use Rattle.exi_reader.specs.Rules.{known, under}
-use Rattle.exi_reader.specs.declared.rule.Telling.{Telling as Told}
-use Rattle.exi_reader.specs.declared.rule.Telling.TheVariants as told
+use Rattle.exi_processing.specs.Rules.{known, under}
+use Rattle.exi_processing.specs.declared.rule.Telling.{Telling as Told}
+use Rattle.exi_processing.specs.declared.rule.Telling.TheVariants as told
 use Rattle.exi_writing.specs.Pieces.{is_at, is_text}
 use Rattle.exi_choice.specs.Wanted.{is_told, told_local, told_of, told_under}
 

@@ -16,16 +16,16 @@ use Rattle.exi_gram.specs.Switches.{align_of}
 use Rattle.exi_gram.specs.Tables.{parts_at, parts_of, size}
 use Rattle.exi_gram.specs.declared.code.Code.{Code}
 use Rattle.exi_gram.specs.declared.options.Options.{Options}
-use Rattle.exi_reader.specs.Configurations.{Setting, alone_rules, built_in, element_rules, in_book, outer_rules, rules_in, rules_of}
-use Rattle.exi_reader.specs.Handing.{AreThere, IsThere, IsThereIn}
-use Rattle.exi_reader.specs.Plans.{alone_in, nowhere}
-use Rattle.exi_reader.specs.Rules.{Rule, book_rule, fragment_start}
-use Rattle.exi_reader.specs.Stacks.{first_element}
-use Rattle.exi_reader.specs.declared.frames.Element.{Element}
-use Rattle.exi_reader.specs.declared.frames.Outer.{Outer}
-use Rattle.exi_reader.specs.declared.frames.Outer.TheVariants as outer
-use Rattle.exi_reader.specs.declared.frames.State.{State}
-use Rattle.exi_reader.specs.declared.frames.State.TheVariants as state
+use Rattle.exi_processing.specs.Configurations.{Setting, alone_rules, built_in, element_rules, in_book, outer_rules, rules_in, rules_of}
+use Rattle.exi_processing.specs.Handing.{AreThere, IsThere, IsThereIn}
+use Rattle.exi_processing.specs.Plans.{alone_in, nowhere}
+use Rattle.exi_processing.specs.Rules.{Rule, book_rule, fragment_start}
+use Rattle.exi_processing.specs.Stacks.{first_element}
+use Rattle.exi_processing.specs.declared.frames.Element.{Element}
+use Rattle.exi_processing.specs.declared.frames.Outer.{Outer}
+use Rattle.exi_processing.specs.declared.frames.Outer.TheVariants as outer
+use Rattle.exi_processing.specs.declared.frames.State.{State}
+use Rattle.exi_processing.specs.declared.frames.State.TheVariants as state
 use Rattle.exi_choice.specs.Choices.{Finds, IsWay, way_parts}
 use Rattle.exi_choice.specs.Wanted.{Seeking}
 use Rattle.exi_choice.specs.declared.found.Found.{Found}

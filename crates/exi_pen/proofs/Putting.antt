@@ -27,12 +27,12 @@ use Rattle.exi_values.specs.WrittenLaws.{valued_units}
 use Rattle.exi_writing.specs.Contents as contents
 use Rattle.exi_writing.specs.Contents.{type_value}
 use Rattle.exi_writing.specs.Pruned.{pruned_name, pruned_value}
-use Rattle.exi_reader.specs.Contents.{named_type}
+use Rattle.exi_processing.specs.Contents.{named_type}
 use Rattle.std.specs.Option.{is_none}
 use Rattle.exi_writing.specs.Pieces as piece
 use Rattle.exi_writing.specs.Pieces.{Piece, can_be_spelled, can_be_valued, can_know, can_know_under, can_name, if_spelled, is_at, named_under, turned, with_unit}
-use Rattle.exi_reader.specs.Rules.{known, under}
-use Rattle.exi_reader.specs.declared.rule.Telling.TheVariants as told
+use Rattle.exi_processing.specs.Rules.{known, under}
+use Rattle.exi_processing.specs.declared.rule.Telling.TheVariants as told
 use Rattle.exi_choice.specs.Wanted.{is_told, told_of}
 use Rattle.exi_toll.specs.Charges.{Charged, charge, is_within}
 use Rattle.exi_toll.specs.declared.stop.PutStop.{PutStop}

@@ -5,8 +5,8 @@ use Rattle.exi_names.specs.Events.{Happening}
 use Rattle.exi_names.specs.Events as event
 use Rattle.exi_names.specs.Seen.{Value}
 use Rattle.exi_names.specs.declared.names.QName.{QName}
-use Rattle.exi_reader.specs.Configurations.{Config, Setting}
-use Rattle.exi_reader.specs.Runs.{has_ended}
+use Rattle.exi_processing.specs.Configurations.{Config, Setting}
+use Rattle.exi_processing.specs.Runs.{has_ended}
 use Rattle.exi_writing.specs.OneEvent.{Refused, Written, not_derived, written}
 use Rattle.exi_writing.specs.Pruned.{pruned_name, pruned_value}
 use Rattle.exi_toll.specs.declared.stop.PutStop.{PutStop}

@@ -4,13 +4,13 @@ use Rattle.std.specs.Prelude.{Result, Ok, Err}
 use Rattle.std.proofs.lemmas.List.{length-append}
 use Rattle.exi_meter.specs.Metering.{Metering}
 use Rattle.exi_names.specs.Events.{Happening}
-use Rattle.exi_reader.specs.Configurations.{Config, Setting}
-use Rattle.exi_reader.specs.Handing.{rule_in}
-use Rattle.exi_reader.specs.OneEvent.{remembered}
+use Rattle.exi_processing.specs.Configurations.{Config, Setting}
+use Rattle.exi_processing.specs.Handing.{rule_in}
+use Rattle.exi_processing.specs.OneEvent.{remembered}
 use Rattle.exi_tables.specs.Partitions.{Partitions}
-use Rattle.exi_reader.specs.Plans.{Plan, plan_of}
-use Rattle.exi_reader.specs.Rules.{Rule, Terminal}
-use Rattle.exi_reader.specs.declared.rule.Rule.{Rule as Kept}
+use Rattle.exi_processing.specs.Plans.{Plan, plan_of}
+use Rattle.exi_processing.specs.Rules.{Rule, Terminal}
+use Rattle.exi_processing.specs.declared.rule.Rule.{Rule as Kept}
 use Rattle.exi_writing.specs.OneEvent.{◌>>=◌}
 use Rattle.exi_writing.specs.OneEvent.{Refused, Written, at_end, behind, behind_code, followed_by, not_derived, one_deeper, one_more, padding, paid, written_by}
 use Rattle.exi_choice.specs.Wanted.{Seeking}

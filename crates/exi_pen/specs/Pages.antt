@@ -10,20 +10,20 @@ use Rattle.exi_names.specs.declared.names.NameId.{NameId}
 use Rattle.exi_names.specs.declared.names.QName.{QName}
 use Rattle.exi_names.specs.Events.{Happening}
 use Rattle.exi_tables.specs.Partitions.{Partitions}
-use Rattle.exi_reader.specs.Configurations.{Body, Config, IsSetting, Setting, first_config, rules_of}
-use Rattle.exi_reader.specs.declared.start.Start.{Start}
-use Rattle.exi_reader.specs.declared.start.Start.TheVariants as start
-use Rattle.exi_reader.specs.Changes.{Effect, closed, effect_of, effected, enclosing, learns, moves, opened, opener, put_aside, room_in}
-use Rattle.exi_reader.specs.Handing.{AreThere, HasLevels, HasRoom, IsThere, rule_in, CanLearn, learned_by, root_at}
-use Rattle.exi_reader.specs.Sound.{FitsIn, IsSound}
-use Rattle.exi_reader.specs.Plans.{Alone, Plan, alone_in, ended_in, is_event, no_element, plan_of}
-use Rattle.exi_reader.specs.Rules.{Rule, Telling, Valuing}
-use Rattle.exi_reader.specs.declared.frames.Outer.TheVariants as outer
-use Rattle.exi_reader.specs.declared.rule.Content.{Content}
-use Rattle.exi_reader.specs.declared.rule.Content.TheVariants as content
-use Rattle.exi_reader.specs.declared.rule.Rule.{Rule as Kept}
-use Rattle.exi_reader.specs.declared.rule.Telling.{Telling as Told}
-use Rattle.exi_reader.specs.declared.rule.Valuing.TheVariants as valuing
+use Rattle.exi_processing.specs.Configurations.{Body, Config, IsSetting, Setting, first_config, rules_of}
+use Rattle.exi_processing.specs.declared.start.Start.{Start}
+use Rattle.exi_processing.specs.declared.start.Start.TheVariants as start
+use Rattle.exi_processing.specs.Changes.{Effect, closed, effect_of, effected, enclosing, learns, moves, opened, opener, put_aside, room_in}
+use Rattle.exi_processing.specs.Handing.{AreThere, HasLevels, HasRoom, IsThere, rule_in, CanLearn, learned_by, root_at}
+use Rattle.exi_processing.specs.Sound.{FitsIn, IsSound}
+use Rattle.exi_processing.specs.Plans.{Alone, Plan, alone_in, ended_in, is_event, no_element, plan_of}
+use Rattle.exi_processing.specs.Rules.{Rule, Telling, Valuing}
+use Rattle.exi_processing.specs.declared.frames.Outer.TheVariants as outer
+use Rattle.exi_processing.specs.declared.rule.Content.{Content}
+use Rattle.exi_processing.specs.declared.rule.Content.TheVariants as content
+use Rattle.exi_processing.specs.declared.rule.Rule.{Rule as Kept}
+use Rattle.exi_processing.specs.declared.rule.Telling.{Telling as Told}
+use Rattle.exi_processing.specs.declared.rule.Valuing.TheVariants as valuing
 use Rattle.exi_typed.specs.Strings.{Named}
 use Rattle.exi_typed.specs.Written.{after_string, string_bits}
 use Rattle.exi_writing.specs.Pieces.{Piece, can_be_spelled}

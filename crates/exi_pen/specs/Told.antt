@@ -5,10 +5,10 @@ use Rattle.exi_gram.specs.Outlines.{Outline}
 use Rattle.exi_names.specs.Seen.{Value}
 use Rattle.exi_names.specs.declared.names.NameId.{NameId}
 use Rattle.exi_names.specs.declared.names.QName.{QName}
-use Rattle.exi_reader.specs.Changes.{Effect, leads, nil_effect, stays, type_effect}
-use Rattle.exi_reader.specs.Configurations.{Setting}
-use Rattle.exi_reader.specs.Contents.{named_type}
-use Rattle.exi_reader.specs.Rules.{Telling, Terminal, Valuing, attribute, by_name, characters, comment, declaration, document_type, element, end_document, end_element, entity, instruction, self_contained, spelled, start_document, typed, untyped}
+use Rattle.exi_processing.specs.Changes.{Effect, leads, nil_effect, stays, type_effect}
+use Rattle.exi_processing.specs.Configurations.{Setting}
+use Rattle.exi_processing.specs.Contents.{named_type}
+use Rattle.exi_processing.specs.Rules.{Telling, Terminal, Valuing, attribute, by_name, characters, comment, declaration, document_type, element, end_document, end_element, entity, instruction, self_contained, spelled, start_document, typed, untyped}
 
 -- how a production tells the name of an element or an attribute
 abbrev pub told_in : Terminal → Telling

@@ -9,8 +9,8 @@ use Rattle.exi_names.specs.Datatypes as datatype
 use Rattle.exi_names.specs.Forms.{IsOf}
 use Rattle.exi_names.specs.Seen.{Value}
 use Rattle.exi_names.specs.declared.names.NameId.{NameId}
-use Rattle.exi_reader.specs.Configurations.{Setting}
-use Rattle.exi_reader.specs.Contents.{named_type}
+use Rattle.exi_processing.specs.Configurations.{Setting}
+use Rattle.exi_processing.specs.Contents.{named_type}
 use Rattle.exi_tables.specs.Partitions.{Partitions}
 use Rattle.exi_toll.specs.Charges.{Charged}
 use Rattle.exi_values.specs.Stops.{IsRoomy}

@@ -1,21 +1,24 @@
-ghost use Rattle.std.specs.Prelude.{◌≡◌, ◌<◌, ◌%◌, true, IfOk, OnOk, length};
+ghost use Rattle.std.specs.Prelude.{◌≡◌, ◌<◌, ◌%◌, [], true, IfOk, OnOk, length};
 ghost use Rattle.exi_bits.specs.Written.{IsWholeBytes};
+ghost use Rattle.exi_builtin.specs.Learning.{nothing_learned};
 ghost use Rattle.exi_gram.specs.Switches.{align_of};
 ghost use Rattle.exi_meter.specs.Metering.{IsWithinStream, tally_fits};
 ghost use Rattle.exi_names.specs.StartTables.{IsStart};
-ghost use Rattle.exi_reader.specs.Changes.{innermost, texts_of};
-ghost use Rattle.exi_reader.specs.Configurations.{IsSetting};
-ghost use Rattle.exi_reader.specs.Handing.{HasLevels, alone_of};
+ghost use Rattle.exi_processing.specs.Changes.{innermost, texts_of};
+ghost use Rattle.exi_processing.specs.Configurations.{IsSetting, first_tables};
+ghost use Rattle.exi_processing.specs.Handing.{HasLevels, alone_of};
 ghost use Rattle.exi_tables.specs.Partitions.{IsName};
 ghost use Rattle.exi_pen.specs.Pages.{StartsAt, ended_page, first_page, fragment_page, refused_page, resumed_page, spliced_page};
 
 use crate::pen::Pen;
 use exi_bits::BitOut;
-use exi_builtin::Overlay;
+use exi_builtin::{LookUp, Overlay};
 use exi_gram::Book;
 use exi_meter::{Limits, Meter, Tally};
 use exi_names::{NameId, NameRef, QName};
-use exi_reader::{Alone, Aside, Asides, Elements, Outer, Start, first_outer, first_tables};
+use exi_processing::{
+    Alone, Aside, Asides, Elements, Outer, Spare, Start, first_outer, first_tables, tables_at_start,
+};
 use exi_tables::Tables;
 use exi_toll::PutStop;
 use std::alloc::{AllocError, Global};
@@ -52,20 +55,22 @@ impl<'a, T: Tables + Drop> Pen<'a, T> {
         ensures setting { IfOk result (λ p. IsSetting book.now) }
         ensures names { IfOk result (λ p. IsStart book.now.schema.names) }
     {
-        let tables = first_tables(alloc, book)?;
+        let first = first_tables(alloc, book)?;
         Ok(Pen {
             alloc,
             book,
             start,
             out: head,
             meter: Meter::new(limits),
-            tables,
+            tables: tables_at_start(alloc, book, &first)?,
             elements: Elements::new(alloc),
             outer: first_outer(book.schema().is_known(), book.options(), start),
-            overlay: Overlay::new(alloc),
+            overlay: Overlay::new(alloc, LookUp::ByName),
             after_start: false,
             root: None,
             aside: Asides::new(alloc),
+            first,
+            spare: None,
         })
     }
 
@@ -105,10 +110,28 @@ impl<'a, T: Tables + Drop> Pen<'a, T> {
     {
         let (tables, overlay, elements, outer) = body.into_parts();
         self.meter.leave();
-        self.tables = tables;
-        self.overlay = overlay;
-        self.elements = elements;
+        let tables = mem::replace(&mut self.tables, tables);
+        let overlay = mem::replace(&mut self.overlay, overlay);
+        let elements = mem::replace(&mut self.elements, elements);
         self.outer = outer;
+        self.spare = Some(Spare::of(tables, overlay, elements));
+    }
+
+    /// String tables, learned grammars and open elements as a fragment begins with them, in the room that the last one left.
+    fn fresh(&mut self) -> Result<(T, Overlay, Elements), AllocError>
+        ensures tables { IfOk result (λ parts. T.held parts.0 ≡ first_tables self.old.setting) }
+        ensures learned { IfOk result (λ parts. parts.1 ≡ nothing_learned) }
+        ensures elements { IfOk result (λ parts. parts.2 ≡ []) }
+        ensures same { self.new ≡ self.old }
+    {
+        match self.spare.take() {
+            Some(spare) => spare.into_parts(self.book, &self.first),
+            None => Ok((
+                tables_at_start(self.alloc, self.book, &self.first)?,
+                Overlay::new(self.alloc, LookUp::ByName),
+                Elements::new(self.alloc),
+            )),
+        }
     }
 
     /// Puts the body aside, and stands in the fragment that begins here.
@@ -116,10 +139,10 @@ impl<'a, T: Tables + Drop> Pen<'a, T> {
         requires name { IsName self.old.config.tables (innermost self.old.config.elements) }
         ensures { OnOk result (self.new ≡ fragment_page self.old) }
     {
-        let tables = first_tables(self.alloc, self.book)?;
-        let overlay = mem::replace(&mut self.overlay, Overlay::new(self.alloc));
-        let elements = mem::replace(&mut self.elements, Elements::new(self.alloc));
+        let (tables, overlay, elements) = self.fresh()?;
         let tables = mem::replace(&mut self.tables, tables);
+        let overlay = mem::replace(&mut self.overlay, overlay);
+        let elements = mem::replace(&mut self.elements, elements);
         let body = Aside::new(tables, overlay, elements, self.outer);
         self.outer = Outer::AloneStart;
         self.aside.push(body)

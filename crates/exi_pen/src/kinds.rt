@@ -14,7 +14,7 @@ use exi_choice::Fit;
 use exi_choice::laws::chosen_suits;
 use exi_names::{NameRef, Txt, Val};
 use exi_pieces::can_be_spelled;
-use exi_reader::{Content, Telling, Valuing, is_type};
+use exi_processing::{Content, Telling, Valuing, is_type};
 use exi_tables::Tables;
 use exi_toll::PutStop;
 

@@ -1,11 +1,11 @@
 ghost use Rattle.std.specs.Prelude.{◌≡◌, ◌<◌, Ok, OnOk, true};
 ghost use Rattle.exi_names.specs.Seen.{seen};
 ghost use Rattle.exi_names.specs.Shown.{named};
-ghost use Rattle.exi_reader.specs.Changes.{has_level};
-ghost use Rattle.exi_reader.specs.Contents.{named_type};
-ghost use Rattle.exi_reader.specs.Stacks.{HaveForm};
+ghost use Rattle.exi_processing.specs.Changes.{has_level};
+ghost use Rattle.exi_processing.specs.Contents.{named_type};
+ghost use Rattle.exi_processing.specs.Stacks.{HaveForm};
 ghost use Rattle.std.specs.Option.{option_copied};
-ghost use Rattle.exi_reader.specs.Handing.{HasLevels, alone_of, root_at, rule_in, telling_of, valuing_in};
+ghost use Rattle.exi_processing.specs.Handing.{HasLevels, alone_of, root_at, rule_in, telling_of, valuing_in};
 ghost use Rattle.exi_pen.specs.Pages.{CanGrow, Ends, KeepsLevel, attribute_page, closed_page, effected_page, ending_page, learned_page, moved_page, opened_page, padded_page};
 ghost use Rattle.exi_choice.specs.Fitting.{as_type, declaring};
 ghost use Rattle.exi_pen.specs.Told.{IsDeclaredAt, effect_as, told_in, valuing_on};
@@ -14,7 +14,7 @@ use crate::pen::Pen;
 use exi_builtin::Learned;
 use exi_choice::Declared;
 use exi_names::{NameId, NameRef, QName, Val};
-use exi_reader::{
+use exi_processing::{
     Alone, Asides, Content, Rule, Telling, Valuing, alone_in, close, empty_by, go_to, learn,
     learn_name, open, opener, retype,
 };

@@ -4,10 +4,10 @@ ghost use Rattle.exi_gram.specs.Books.{IsStateOf};
 ghost use Rattle.exi_gram.specs.Codes.{code_bits};
 ghost use Rattle.exi_gram.specs.Laws.{codes};
 ghost use Rattle.exi_gram.specs.Switches.{align_of};
-ghost use Rattle.exi_reader.specs.Configurations.{alone_rules, built_in, in_book, outer_rules, rules_of};
-ghost use Rattle.exi_reader.specs.Handing.{AreThere, IsThere, alone_of};
-ghost use Rattle.exi_reader.specs.Plans.{alone_in, nowhere};
-ghost use Rattle.exi_reader.specs.declared.rule.Content.TheVariants as content;
+ghost use Rattle.exi_processing.specs.Configurations.{alone_rules, built_in, in_book, outer_rules, rules_of};
+ghost use Rattle.exi_processing.specs.Handing.{AreThere, IsThere, alone_of};
+ghost use Rattle.exi_processing.specs.Plans.{alone_in, nowhere};
+ghost use Rattle.exi_processing.specs.declared.rule.Content.TheVariants as content;
 ghost use Rattle.std.specs.Option.{is_some};
 ghost use Rattle.exi_pen.specs.Pages.{Begins, BeginsKind, IsReady, attribute_wanted, characters_wanted, no_element_for, with_bits};
 ghost use Rattle.exi_choice.specs.Choices.{Finds, IsWay, wanting, way_parts};
@@ -24,11 +24,11 @@ use exi_choice::{
 use exi_gram::{Book, write_code};
 use exi_meter::Meter;
 use exi_names::{NameRef, QName, Val};
-use exi_reader::{
-    Alone, Asides, Charges, Content, Elements, Outer, Rule, Start, State, Telling, Valuing,
+use exi_processing::{
+    Alone, Asides, Charges, Content, Elements, Outer, Rule, Spare, Start, State, Telling, Valuing,
     alone_in,
 };
-use exi_tables::Tables;
+use exi_tables::{FirstTables, Tables};
 use exi_toll::{PutStop, Toll};
 use std::alloc::{AllocError, Global};
 use std::marker::Model;
@@ -48,6 +48,8 @@ pub struct Pen<'a, T: Tables + Drop> {
     pub after_start: bool,
     pub root: Option<QName>,
     pub aside: Asides<T>,
+    pub first: FirstTables,
+    pub spare: Option<Spare<T>>,
 }
 
 /// A production whose code is written.
@@ -83,7 +85,7 @@ fn pay_charges(toll: &mut Toll, charges: Charges)
 }
 
 impl<'a, T: Tables + Drop> Model for Pen<'a, T> {
-    ghost use Rattle.std.specs.Prelude.{length};
+    ghost use Rattle.std.specs.Prelude.{◌≡◌, length};
     ghost use Rattle.exi_bits.specs.Written.{IsWholeBytes};
     ghost use Rattle.exi_gram.specs.Switches.{align_of};
     ghost use Rattle.exi_pen.specs.Pages.{Page};
@@ -112,7 +114,7 @@ impl<'a, T: Tables + Drop> Model for Pen<'a, T> {
       };
     } };
 
-    ghost invariant = { λ p. IsWholeBytes (align_of p.book.now.options) p.out };
+    ghost invariant = { λ p. IsWholeBytes (align_of p.book.now.options) p.out × (p.first ≡ p.book.now.schema.names) };
 }
 
 impl<'a, T: Tables + Drop> Pen<'a, T> {

@@ -6,11 +6,11 @@ ghost use Rattle.exi_names.specs.Seen.{seen};
 ghost use Rattle.exi_names.specs.Seen as shape;
 ghost use Rattle.exi_names.specs.Shown.{named};
 ghost use Rattle.exi_names.specs.declared.names.NameId.{NameId};
-ghost use Rattle.exi_reader.specs.Changes.{innermost};
-ghost use Rattle.exi_reader.specs.Handing.{datatype_in, rule_in, telling_of};
-ghost use Rattle.exi_reader.specs.Plans.{alone_in, wrong_element};
-ghost use Rattle.exi_reader.specs.Rules.{known, spelled, under};
-ghost use Rattle.exi_reader.specs.declared.rule.Telling.TheVariants as Told;
+ghost use Rattle.exi_processing.specs.Changes.{innermost};
+ghost use Rattle.exi_processing.specs.Handing.{datatype_in, rule_in, telling_of};
+ghost use Rattle.exi_processing.specs.Plans.{alone_in, wrong_element};
+ghost use Rattle.exi_processing.specs.Rules.{known, spelled, under};
+ghost use Rattle.exi_processing.specs.declared.rule.Telling.TheVariants as Told;
 ghost use Rattle.exi_tables.specs.Growth.{NoneLonger};
 ghost use Rattle.exi_tables.specs.Partitions.{IsName, least_place, uris};
 ghost use Rattle.exi_typed.specs.Written.{after_local, after_name};
@@ -18,7 +18,7 @@ ghost use Rattle.exi_writing.specs.Contents.{told_name};
 ghost use Rattle.exi_writing.specs.Contents as contents;
 ghost use Rattle.exi_pen.specs.Pages.{PutsIn, PutsLast, id_of};
 ghost use Rattle.std.specs.Option.{is_none, option_copied};
-ghost use Rattle.exi_reader.specs.Contents.{named_type};
+ghost use Rattle.exi_processing.specs.Contents.{named_type};
 ghost use Rattle.exi_choice.specs.Fitting.{as_nil, as_type, declared_in, declaring};
 ghost use Rattle.exi_choice.specs.Wanted.{is_told, place_told, told_of};
 ghost use Rattle.exi_names.specs.Datatypes.{represented};
@@ -36,7 +36,7 @@ use exi_names::{Datatype, NameId, NameRef, Txt, Val};
 use exi_pieces::{
     put_declaration, put_known, put_literal, put_name, put_spelled, put_under, put_value,
 };
-use exi_reader::{Alone, Rule, Telling, alone_in, innermost, is_strict, keeps_prefixes};
+use exi_processing::{Alone, Rule, Telling, alone_in, innermost, is_strict, keeps_prefixes};
 use exi_tables::Tables;
 use exi_toll::{PutStop, Toll};
 

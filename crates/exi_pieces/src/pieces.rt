@@ -25,7 +25,7 @@ use crate::spelled::{can_be_spelled, can_name, can_tell};
 use exi_bits::BitOut;
 use exi_gram::Options;
 use exi_names::{NameId, NameRef, Txt};
-use exi_reader::keeps_prefixes;
+use exi_processing::keeps_prefixes;
 use exi_tables::Tables;
 use exi_toll::Toll;
 use exi_typed::{

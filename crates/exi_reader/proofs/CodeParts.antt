@@ -29,10 +29,10 @@ use Rattle.exi_gram.specs.Terminals as gram
 use Rattle.exi_gram.specs.declared.code.Coded.{Coded as Kept}
 use Rattle.exi_gram.specs.Wholes.{listed}
 use Rattle.exi_gram.proofs.CodeLaws.{mapped_read}
-use Rattle.exi_reader.specs.Configurations.{Setting, built_in, in_book, outer_rules}
-use Rattle.exi_reader.specs.declared.frames.Outer.{Outer}
-use Rattle.exi_reader.specs.declared.frames.Outer.TheVariants as outer
-use Rattle.exi_reader.specs.Rules.{Rule, book_rule, built_in_rule, built_in_terminal, fragment_start, rule_of, start_document}
+use Rattle.exi_processing.specs.Configurations.{Setting, built_in, in_book, outer_rules}
+use Rattle.exi_processing.specs.declared.frames.Outer.{Outer}
+use Rattle.exi_processing.specs.declared.frames.Outer.TheVariants as outer
+use Rattle.exi_processing.specs.Rules.{Rule, book_rule, built_in_rule, built_in_terminal, fragment_start, rule_of, start_document}
 
 -- ---- what stands at the places from one on
 abbrev Agrees : {X : Type 0} → (ℕ → X) → ℕ → List X → Type 0

@@ -6,11 +6,11 @@ use Rattle.exi_names.specs.Events.{Happening}
 use Rattle.exi_names.specs.declared.stops.PushStop.{PushStop}
 use Rattle.exi_names.specs.declared.stops.PushStop.TheVariants as push
 use Rattle.exi_typed.specs.ReadStates.{Failure}
-use Rattle.exi_reader.specs.Configurations.{Config}
-use Rattle.exi_reader.specs.Handing.{Hands, HandsAny, HandsFragment, Standing, push_halt}
-use Rattle.exi_reader.specs.OneEvent.{at_event, moved_limit}
-use Rattle.exi_reader.specs.Plans.{Given}
-use Rattle.exi_reader.specs.declared.halt.Halt.TheVariants as halt
+use Rattle.exi_processing.specs.Configurations.{Config}
+use Rattle.exi_processing.specs.Handing.{Hands, HandsAny, HandsFragment, Standing, push_halt}
+use Rattle.exi_processing.specs.OneEvent.{at_event, moved_limit}
+use Rattle.exi_processing.specs.Plans.{Given}
+use Rattle.exi_processing.specs.declared.halt.Halt.TheVariants as halt
 
 module _ {T : Type 0} (took : T → List Happening → T → Type 0) (broke : T → Happening → T → Type 0) (bit : ℕ) (made read : Result Given Failure) (is : read ≡ at_event bit made) (before after : T) where
   pub hands_none : (c : Config) → Hands took broke (Ok tt) c made before after → Hands took broke (Ok tt) c read before after

@@ -6,25 +6,25 @@ use Rattle.exi_meter.specs.Metering.{IsWithin}
 use Rattle.exi_names.specs.Events.{Happening}
 use Rattle.exi_names.specs.StartTables.{IsStart}
 use Rattle.exi_names.specs.declared.names.QName.{QName}
-use Rattle.exi_reader.specs.Changes.{innermost, put_aside, same_texts, texts_of}
-use Rattle.exi_reader.specs.Configurations.{Config, IsSetting, Setting, first_config}
-use Rattle.exi_reader.specs.Handing.{Standing}
-use Rattle.exi_reader.specs.Joins.{CanJoin, CanSplice, IsPlaceBehind, JoinedAs}
-use Rattle.exi_reader.specs.OneEvent.{one}
-use Rattle.exi_reader.specs.Reading.{GoesOnReached, IsOutcome, IsReached, Reading}
-use Rattle.exi_reader.specs.Runs.{Leads}
-use Rattle.exi_reader.specs.Spelled.{IsIn}
-use Rattle.exi_reader.specs.Splices.{AtFragment, GoesAs, Spliced, ended, fits, on, on_behind, other_root, root_of, spliced, with_root, wrong_root}
-use Rattle.exi_reader.specs.declared.end.End.{End}
-use Rattle.exi_reader.specs.declared.end.End.TheVariants as end
-use Rattle.exi_reader.specs.declared.splice.Spliced.{Spliced as Joined}
-use Rattle.exi_reader.specs.declared.splice.Spliced.TheVariants as joined
-use Rattle.exi_reader.proofs.EventOne.{one_is_spelled}
-use Rattle.exi_reader.proofs.Sequences.{by_result}
-use Rattle.exi_reader.proofs.SpliceRuns.{splices_are_runs}
-use Rattle.exi_reader.proofs.Splicing.{levels_of}
-use Rattle.exi_reader.proofs.Turning.{reached_sound, reader_name, view}
-use Rattle.exi_reader.proofs.Withins.{run_kept}
+use Rattle.exi_processing.specs.Changes.{innermost, put_aside, same_texts, texts_of}
+use Rattle.exi_processing.specs.Configurations.{Config, IsSetting, Setting, first_config}
+use Rattle.exi_processing.specs.Handing.{Standing}
+use Rattle.exi_processing.specs.Joins.{CanJoin, CanSplice, IsPlaceBehind, JoinedAs}
+use Rattle.exi_processing.specs.OneEvent.{one}
+use Rattle.exi_processing.specs.Reading.{GoesOnReached, IsOutcome, IsReached, Reading}
+use Rattle.exi_processing.specs.Runs.{Leads}
+use Rattle.exi_processing.specs.Spelled.{IsIn}
+use Rattle.exi_processing.specs.Splices.{AtFragment, GoesAs, Spliced, ended, fits, on, on_behind, other_root, root_of, spliced, with_root, wrong_root}
+use Rattle.exi_processing.specs.declared.end.End.{End}
+use Rattle.exi_processing.specs.declared.end.End.TheVariants as end
+use Rattle.exi_processing.specs.declared.spliced.Spliced.{Spliced as Joined}
+use Rattle.exi_processing.specs.declared.spliced.Spliced.TheVariants as joined
+use Rattle.exi_processing.proofs.EventOne.{one_is_spelled}
+use Rattle.exi_processing.proofs.Sequences.{by_result}
+use Rattle.exi_processing.proofs.SpliceRuns.{splices_are_runs}
+use Rattle.exi_processing.proofs.Splicing.{levels_of}
+use Rattle.exi_processing.proofs.Turning.{reached_sound, reader_name, view}
+use Rattle.exi_processing.proofs.Withins.{run_kept}
 
 -- ---- turns
 leads_in : (g : Setting) (bytes : List ℕ) (turns : List (Option Happening)) (c last : Config) → IsSetting g → IsIn g bytes c → Leads g bytes c turns last → IsIn g bytes last

@@ -24,17 +24,17 @@ use Rattle.exi_typed.specs.ReadStates.{ReadState, ContextReader, Failure, failin
 use Rattle.exi_typed.specs.Items.{item_at}
 use Rattle.exi_typed.specs.Strings.{Named, value_at}
 use Rattle.exi_values.specs.Valued.{valued_at}
-use Rattle.exi_reader.specs.declared.frames.Outer.TheVariants as outer
-use Rattle.exi_reader.specs.declared.rule.Valuing.{Valuing as Kinds}
-use Rattle.exi_reader.specs.declared.rule.Valuing.TheVariants as valuing
-use Rattle.exi_reader.specs.Configurations.{Body, Config, Setting, read_state_in, reached, rules_of, spot_in}
-use Rattle.exi_reader.specs.Handing.{characters_made, charged_at, charges_on, leading_to, effected_elements, effected_outer, emptied_by, learned_by, making, opening_to, root_at, typing, value_made, valued_made, valuing_in}
-use Rattle.exi_reader.specs.OneEvent.{at_event, behind, charge_at, followed, moved_limit, one, remembered, unless}
-use Rattle.exi_reader.specs.Changes.{Effect, effect_of, effected, emptied, enclosing, inner_state, innermost, leads, learns_name, moved_elements, moves, opener, outer_behind, resumed, retyped, room_in, stays, with_inner}
-use Rattle.exi_reader.specs.Contents.{acts_as_type, attribute_value_at, both_at, four_texts_at, is_missing, is_nil, named_type, represented_by, text_at, told_name_at, two_texts_at}
+use Rattle.exi_processing.specs.declared.frames.Outer.TheVariants as outer
+use Rattle.exi_processing.specs.declared.rule.Valuing.{Valuing as Kinds}
+use Rattle.exi_processing.specs.declared.rule.Valuing.TheVariants as valuing
+use Rattle.exi_processing.specs.Configurations.{Body, Config, Setting, read_state_in, reached, rules_of, spot_in}
+use Rattle.exi_processing.specs.Handing.{characters_made, charged_at, charges_on, leading_to, effected_elements, effected_outer, emptied_by, learned_by, making, opening_to, root_at, typing, value_made, valued_made, valuing_in}
+use Rattle.exi_processing.specs.OneEvent.{at_event, behind, charge_at, followed, moved_limit, one, remembered, unless}
+use Rattle.exi_processing.specs.Changes.{Effect, effect_of, effected, emptied, enclosing, inner_state, innermost, leads, learns_name, moved_elements, moves, opener, outer_behind, resumed, retyped, room_in, stays, with_inner}
+use Rattle.exi_processing.specs.Contents.{acts_as_type, attribute_value_at, both_at, four_texts_at, is_missing, is_nil, named_type, represented_by, text_at, told_name_at, two_texts_at}
 use Rattle.exi_gram.specs.Globals.{attribute_datatype, type_grammar}
-use Rattle.exi_reader.specs.Plans.{Alone, Given, Plan, alone_in, at_end, at_first, at_start, attribute_plan, characters_plan, element_made, element_plan, end_plan, is_event, no_element, nowhere, plan_on, seen_in, start_plan, wrong_element}
-use Rattle.exi_reader.specs.Rules.{Rule, Telling, Terminal, Valuing, attribute, by_name, characters, comment, declaration, document_type, element, end_document, end_element, entity, instruction, known, self_contained, spelled, start_document, typed, under, untyped}
+use Rattle.exi_processing.specs.Plans.{Alone, Given, Plan, alone_in, at_end, at_first, at_start, attribute_plan, characters_plan, element_made, element_plan, end_plan, is_event, no_element, nowhere, plan_on, seen_in, start_plan, wrong_element}
+use Rattle.exi_processing.specs.Rules.{Rule, Telling, Terminal, Valuing, attribute, by_name, characters, comment, declaration, document_type, element, end_document, end_element, entity, instruction, known, self_contained, spelled, start_document, typed, under, untyped}
 
 -- what a plan asks and charges
 pub charges_are : (g : Setting) (a : Alone) (c : Config) (r : Rule) (t : Terminal) (bit : ℕ) (m : Metering) → charge_at bit (plan_on g a c r t) m ≡ charged_at bit (charges_on a c.after_start t) m

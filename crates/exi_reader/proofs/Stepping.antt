@@ -13,23 +13,23 @@ use Rattle.exi_names.specs.declared.names.NameId.{NameId}
 use Rattle.exi_tables.specs.Partitions.{IsName, Partitions, uris}
 use Rattle.exi_typed.specs.ReadStates.{Failure}
 use Rattle.exi_values.proofs.Growths.{few_more}
-use Rattle.exi_reader.specs.Configurations.{Config, Setting, built_in, element_rules, in_book, rules_in, rules_of, spot_in}
-use Rattle.exi_reader.specs.Handing.{AreThere, HasLevels, HasNames, HasRoom, IsThereIn, IsTold, StandsIn, Standing, charged_at, charges_on, making, telling_of, terminal_in, with_place}
-use Rattle.exi_reader.specs.Plans.{Alone, Plan, alone_in, nowhere, plan_on}
-use Rattle.exi_reader.specs.OneEvent.{at_event, followed, one}
-use Rattle.exi_reader.specs.declared.charges.Charges.{Charges}
-use Rattle.exi_reader.specs.declared.frames.Element.{Element}
-use Rattle.exi_reader.specs.declared.frames.Outer.{Outer}
-use Rattle.exi_reader.specs.declared.frames.State.{State}
-use Rattle.exi_reader.specs.declared.frames.State.TheVariants as state
-use Rattle.exi_reader.specs.declared.rule.Content.{Content}
-use Rattle.exi_reader.specs.declared.rule.Content.TheVariants as content
-use Rattle.exi_reader.specs.declared.rule.Telling.{Telling as Told}
-use Rattle.exi_reader.specs.declared.rule.Telling.TheVariants as told
-use Rattle.exi_reader.specs.Rules.{Rule, Terminal, attribute, characters, comment, declaration, document_type, element, end_document, end_element, entity, instruction, self_contained, start_document}
-use Rattle.exi_reader.specs.Spelled.{IsCharged, counted_by, entered_by}
-use Rattle.exi_reader.specs.Stacks.{HasForm, HaveForm, first_element}
-use Rattle.exi_reader.proofs.EventOne.{charge_is}
+use Rattle.exi_processing.specs.Configurations.{Config, Setting, built_in, element_rules, in_book, rules_in, rules_of, spot_in}
+use Rattle.exi_processing.specs.Handing.{AreThere, HasLevels, HasNames, HasRoom, IsThereIn, IsTold, StandsIn, Standing, charged_at, charges_on, making, telling_of, terminal_in, with_place}
+use Rattle.exi_processing.specs.Plans.{Alone, Plan, alone_in, nowhere, plan_on}
+use Rattle.exi_processing.specs.OneEvent.{at_event, followed, one}
+use Rattle.exi_processing.specs.declared.charges.Charges.{Charges}
+use Rattle.exi_processing.specs.declared.frames.Element.{Element}
+use Rattle.exi_processing.specs.declared.frames.Outer.{Outer}
+use Rattle.exi_processing.specs.declared.frames.State.{State}
+use Rattle.exi_processing.specs.declared.frames.State.TheVariants as state
+use Rattle.exi_processing.specs.declared.rule.Content.{Content}
+use Rattle.exi_processing.specs.declared.rule.Content.TheVariants as content
+use Rattle.exi_processing.specs.declared.rule.Telling.{Telling as Told}
+use Rattle.exi_processing.specs.declared.rule.Telling.TheVariants as told
+use Rattle.exi_processing.specs.Rules.{Rule, Terminal, attribute, characters, comment, declaration, document_type, element, end_document, end_element, entity, instruction, self_contained, start_document}
+use Rattle.exi_processing.specs.Spelled.{IsCharged, counted_by, entered_by}
+use Rattle.exi_processing.specs.Stacks.{HasForm, HaveForm, first_element}
+use Rattle.exi_processing.proofs.EventOne.{charge_is}
 use Rattle.exi_reader.proofs.StepParts.{charges_are, followed_paid, followed_unpaid, one_followed}
 
 entered_up : (e : Bool) (m : Metering) → m.level ≤ (entered_by e m).level

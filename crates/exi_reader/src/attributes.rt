@@ -3,106 +3,32 @@ ghost use Rattle.std.specs.Option.{option_copied};
 ghost use Rattle.exi_names.specs.Datatypes.{represented};
 ghost use Rattle.exi_names.specs.Datatypes as datatype;
 ghost use Rattle.exi_names.specs.Events.{Rose};
-ghost use Rattle.exi_names.specs.Seen.{seen};
 ghost use Rattle.exi_tables.specs.Growth.{NoneLonger};
 ghost use Rattle.exi_typed.specs.Places.{IsNameAt, name_in};
 ghost use Rattle.exi_values.specs.Stops.{IsRoomy};
-ghost use Rattle.exi_reader.specs.Changes.{room_in};
-ghost use Rattle.exi_reader.specs.Contents.{acts_as_type, is_nil};
-ghost use Rattle.exi_reader.specs.Handing.{
-  CanLearn,
-  HandsAny,
-  IsTold,
-  OnFault,
-  alone_of,
-  datatype_in,
-  effected_elements,
-  effected_outer,
-  emptied_by,
-  is_true,
-  leading_to,
-  making,
-  telling_of,
-  typing,
-  value_made,
-  valued_made,
-  valuing_in,
-};
-ghost use Rattle.exi_reader.specs.Plans.{attribute_plan};
-ghost use Rattle.exi_reader.specs.Rules.{by_name};
-ghost use Rattle.exi_reader.specs.Stacks.{HaveForm};
+ghost use Rattle.exi_processing.specs.Changes.{room_in};
+ghost use Rattle.exi_processing.specs.Contents.{acts_as_type, is_nil};
+ghost use Rattle.exi_processing.specs.Handing.{CanLearn, HandsAny, IsTold, OnFault, alone_of, datatype_in, leading_to, making, telling_of, value_made, valued_made, valuing_in};
+ghost use Rattle.exi_processing.specs.Plans.{attribute_plan};
+ghost use Rattle.exi_processing.specs.Rules.{by_name};
+ghost use Rattle.exi_processing.specs.Stacks.{HaveForm};
 
-use crate::alone::Alone;
-use crate::declared::attribute_datatype;
-use crate::elements::Elements;
-use crate::frames::{Outer, State};
-use crate::halt::Halt;
-use crate::parts::{
-    go_to, is_nil, is_type, learn_name, nil_read, read_type, see_name, see_string, see_value,
-    told_name, typed_value,
-};
-use crate::rule::{Telling, Valuing};
+use crate::names::{read_type, told_name};
+use crate::seen::{see_name, see_string, see_value};
 use crate::stepper::Stepper;
+use crate::texts::{nil_read, typed_value};
 use exi_builtin::Learned;
-use exi_names::{Datatype, EventOut, Val};
+use exi_names::{Datatype, EventOut};
+use exi_processing::{
+    Alone, Halt, Telling, Valuing, attribute_datatype, empty_by, go_to, is_nil, is_type,
+    learn_name, retype,
+};
 use exi_tables::Tables;
 use exi_typed::{NameAt, StringRead, name_ref, read_string};
 
-/// The state behind an attribute that names a type: the innermost element goes on with the type's grammar. Where that
-/// is not there, a built-in grammar leads on, and one of the schema stays where it is.
-pub fn retype(
-    elements: &mut Elements,
-    outer: &mut Outer,
-    valuing: Valuing,
-    grammar: Option<u32>,
-    to: u32,
-)
-    ensures elements { elements.new ≡ effected_elements (typing valuing grammar) to elements.old }
-    ensures outer { outer.new ≡ effected_outer (typing valuing grammar) to elements.old outer.old }
-{
-    match grammar {
-        Some(grammar) => elements.restate(State::Informed {
-            grammar,
-            state: 0,
-            empty: false,
-        }),
-        None => match valuing {
-            Valuing::Untyped => go_to(elements, outer, to),
-            Valuing::Typed | Valuing::ByName => {}
-        },
-    }
-}
-
-/// Whether a value is true.
-fn is_true(value: &Val) -> bool
-    ensures { result ≡ is_true (seen value.now) }
-{
-    match value {
-        Val::Bool { yes, .. } => *yes,
-        Val::Text(_)
-        | Val::Int(_)
-        | Val::Dec { .. }
-        | Val::Flo { .. }
-        | Val::Mom(_)
-        | Val::Bin { .. }
-        | Val::Items(_)
-        | Val::Name(_) => false,
-    }
-}
-
-/// The innermost element goes on with the empty form of its grammar, where the value of `xsi:nil` is true.
-pub fn empty_by(elements: &mut Elements, value: &Val)
-    requires forms { HaveForm elements.old }
-    ensures { elements.new ≡ emptied_by (seen value.now) elements.old }
-{
-    if is_true(value) {
-        elements.empty();
-    }
-}
-
 impl<'a, T: Tables + Drop> Stepper<'a, T> {
     /// The value of an attribute that names the type by which its element goes on, whose name is read.
-    #[tactic(auto, unfolding(crate::specs::Handing::value_made))]
+    #[tactic(auto, unfolding(exi_processing::specs::Handing::value_made))]
     #[inline(never)]
     fn type_value_apart<E: EventOut>(
         &mut self,
@@ -178,7 +104,7 @@ impl<'a, T: Tables + Drop> Stepper<'a, T> {
     }
 
     /// The value of `xsi:nil`, whose name is read.
-    #[tactic(auto, unfolding(crate::specs::Handing::value_made, crate::specs::Contents::attribute_value_at))]
+    #[tactic(auto, unfolding(exi_processing::specs::Handing::value_made, exi_processing::specs::Contents::attribute_value_at))]
     #[inline(never)]
     fn nil_value<E: EventOut>(
         &mut self,
@@ -218,7 +144,7 @@ impl<'a, T: Tables + Drop> Stepper<'a, T> {
     }
 
     /// The value of an attribute that is a string, whose name is read.
-    #[tactic(auto, unfolding(crate::specs::Handing::valued_made, exi_values::specs::Valued::valued_at, exi_typed::specs::Items::item_at))]
+    #[tactic(auto, unfolding(exi_processing::specs::Handing::valued_made, exi_values::specs::Valued::valued_at, exi_typed::specs::Items::item_at))]
     #[inline(always)]
     fn string_value<E: EventOut>(
         &mut self,
@@ -264,7 +190,7 @@ impl<'a, T: Tables + Drop> Stepper<'a, T> {
     }
 
     /// The value of an attribute of a datatype, whose name is read.
-    #[tactic(auto, unfolding(crate::specs::Handing::valued_made))]
+    #[tactic(auto, unfolding(exi_processing::specs::Handing::valued_made))]
     #[inline(always)]
     fn typed_attribute<E: EventOut>(
         &mut self,
@@ -335,7 +261,7 @@ impl<'a, T: Tables + Drop> Stepper<'a, T> {
     /// The value of an attribute whose name is read, in a grammar of a schema: `xsi:type` and `xsi:nil` have theirs, a
     /// global attribute has its datatype, and any other a string.
     #[inline(never)]
-    #[tactic(auto, unfolding(crate::specs::Handing::value_made, crate::specs::Handing::valued_made, crate::specs::Contents::attribute_value_at))]
+    #[tactic(auto, unfolding(exi_processing::specs::Handing::value_made, exi_processing::specs::Handing::valued_made, exi_processing::specs::Contents::attribute_value_at))]
     fn value_by_name<E: EventOut>(
         &mut self,
         bit: u64,
@@ -369,7 +295,7 @@ impl<'a, T: Tables + Drop> Stepper<'a, T> {
     }
 
     /// AT.
-    #[tactic(auto, unfolding(crate::specs::Handing::making, crate::specs::Handing::value_made, crate::specs::Handing::valued_made, crate::specs::Contents::attribute_value_at, crate::specs::Contents::both_at))]
+    #[tactic(auto, unfolding(exi_processing::specs::Handing::making, exi_processing::specs::Handing::value_made, exi_processing::specs::Handing::valued_made, exi_processing::specs::Contents::attribute_value_at, exi_processing::specs::Contents::both_at))]
     #[inline(always)]
     pub fn attribute<E: EventOut>(
         &mut self,

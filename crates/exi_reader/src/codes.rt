@@ -1,16 +1,15 @@
 ghost use Rattle.std.specs.Prelude.{◌≡◌, None, true};
 ghost use Rattle.exi_builtin.specs.Learning.{IsRoom, state_behind};
 ghost use Rattle.exi_gram.specs.Books.{IsStateOf};
-ghost use Rattle.exi_reader.specs.Configurations.{alone_rules, built_in, in_book, outer_rules, rules_in};
-ghost use Rattle.exi_reader.specs.Handing.{AreThere, IsThere, Picks, PicksBuiltIn, rule_in};
-ghost use Rattle.exi_reader.specs.Rules.{start_document};
+ghost use Rattle.exi_processing.specs.Configurations.{alone_rules, built_in, in_book, outer_rules, rules_in};
+ghost use Rattle.exi_processing.specs.Handing.{AreThere, IsThere, Picks, PicksBuiltIn, rule_in};
+ghost use Rattle.exi_processing.specs.Rules.{start_document};
 
-use crate::frames::{Outer, State};
-use crate::rule::{Content, Rule};
 use crate::stepper::Stepper;
 use exi_bits::{Fault, Kind};
 use exi_builtin::{Learnable, Room};
 use exi_gram::read_code;
+use exi_processing::{Content, Outer, Rule, State, state_behind};
 use exi_tables::Tables;
 
 /// SD of a fragment, whose code takes no bits.
@@ -23,17 +22,6 @@ fn fragment_start<'a>() -> Rule<'a>
         to: 1,
         inner: None,
         datatype: None,
-    }
-}
-
-/// The place of the state that a production of a built-in grammar leads to.
-#[inline(always)]
-pub fn state_behind(room: Room, production: Learnable) -> u32
-    ensures { result ≡ state_behind room production }
-{
-    match (room, production) {
-        (Room::StartTag(_), Learnable::Known(_, true) | Learnable::AtAny | Learnable::Ns) => 0,
-        _ => 1,
     }
 }
 

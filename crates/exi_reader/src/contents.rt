@@ -7,8 +7,8 @@ ghost use Rattle.exi_names.specs.Seen.{seen};
 ghost use Rattle.exi_tables.specs.Growth.{NoneLonger};
 ghost use Rattle.exi_tables.specs.Partitions.{IsName};
 ghost use Rattle.exi_values.specs.Stops.{IsRoomy};
-ghost use Rattle.exi_reader.specs.Changes.{has_level, innermost, room_in};
-ghost use Rattle.exi_reader.specs.Handing.{
+ghost use Rattle.exi_processing.specs.Changes.{has_level, innermost, room_in};
+ghost use Rattle.exi_processing.specs.Handing.{
   CanLearn,
   IsTold,
   HandsAny,
@@ -21,7 +21,7 @@ ghost use Rattle.exi_reader.specs.Handing.{
   telling_of,
   told_apart,
 };
-ghost use Rattle.exi_reader.specs.Plans.{
+ghost use Rattle.exi_processing.specs.Plans.{
   characters_plan,
   comment_plan,
   declaration_plan,
@@ -36,26 +36,24 @@ ghost use Rattle.exi_reader.specs.Plans.{
   start_plan,
 };
 
-use crate::alone::Alone;
-use crate::declared::opener;
-use crate::frames::Outer;
-use crate::halt::Halt;
-use crate::parts::{
-    close, go_to, innermost, learn, learn_name, meet_root, open, see_characters, see_end,
-    see_start, see_text, text, told_name, typed_value,
-};
-use crate::rule::Telling;
+use crate::names::told_name;
+use crate::roots::meet_root;
+use crate::seen::{see_characters, see_end, see_start, see_text};
 use crate::stepper::Stepper;
+use crate::texts::{text, typed_value};
 use exi_bits::Stop;
 use exi_builtin::Learned;
 use exi_names::{Datatype, EventOut, EventRef, Moment, MomentKind, Octets, Val, Whole};
+use exi_processing::{
+    Alone, Halt, Outer, Telling, close, go_to, innermost, learn, learn_name, open, opener,
+};
 use exi_tables::Tables;
 use exi_typed::{StringRead, declaration_texts, name_ref, read_declaration, read_string};
 use exi_values::{short_integer, short_moment, short_octets};
 
 impl<'a, T: Tables + Drop> Stepper<'a, T> {
     /// SD.
-    #[tactic(auto, unfolding(crate::specs::Handing::making))]
+    #[tactic(auto, unfolding(exi_processing::specs::Handing::making))]
     #[inline(never)]
     pub fn start_document<E: EventOut>(
         &mut self,
@@ -84,7 +82,7 @@ impl<'a, T: Tables + Drop> Stepper<'a, T> {
     }
 
     /// ED.
-    #[tactic(auto, unfolding(crate::specs::Handing::making))]
+    #[tactic(auto, unfolding(exi_processing::specs::Handing::making))]
     #[inline(never)]
     pub fn end_document<E: EventOut>(
         &mut self,
@@ -112,20 +110,13 @@ impl<'a, T: Tables + Drop> Stepper<'a, T> {
         self.input.skip_to_byte();
         match self.aside.pop() {
             None => self.outer = Outer::Ended,
-            Some(body) => {
-                let (tables, overlay, elements, outer) = body.into_parts();
-                self.meter.leave();
-                self.tables = tables;
-                self.overlay = overlay;
-                self.elements = elements;
-                self.outer = outer;
-            }
+            Some(body) => self.resume(body),
         }
         Ok(None)
     }
 
     /// SE.
-    #[tactic(auto, unfolding(crate::specs::Handing::making))]
+    #[tactic(auto, unfolding(exi_processing::specs::Handing::making))]
     #[inline(always)]
     pub fn element<E: EventOut>(
         &mut self,
@@ -174,7 +165,7 @@ impl<'a, T: Tables + Drop> Stepper<'a, T> {
     }
 
     /// CH, a string.
-    #[tactic(auto, unfolding(crate::specs::Handing::making, exi_values::specs::Valued::valued_at, exi_typed::specs::Items::item_at))]
+    #[tactic(auto, unfolding(exi_processing::specs::Handing::making, exi_values::specs::Valued::valued_at, exi_typed::specs::Items::item_at))]
     #[inline(always)]
     pub fn characters<E: EventOut>(
         &mut self,
@@ -221,7 +212,7 @@ impl<'a, T: Tables + Drop> Stepper<'a, T> {
     }
 
     /// CH, of a datatype.
-    #[tactic(auto, unfolding(crate::specs::Handing::making))]
+    #[tactic(auto, unfolding(exi_processing::specs::Handing::making))]
     #[inline(never)]
     pub fn typed_characters<E: EventOut>(
         &mut self,
@@ -587,7 +578,7 @@ impl<'a, T: Tables + Drop> Stepper<'a, T> {
     }
 
     /// EE.
-    #[tactic(auto, unfolding(crate::specs::Handing::making))]
+    #[tactic(auto, unfolding(exi_processing::specs::Handing::making))]
     #[inline(always)]
     pub fn end_element<E: EventOut>(
         &mut self,
@@ -615,7 +606,7 @@ impl<'a, T: Tables + Drop> Stepper<'a, T> {
     }
 
     /// NS.
-    #[tactic(auto, unfolding(crate::specs::Handing::making))]
+    #[tactic(auto, unfolding(exi_processing::specs::Handing::making))]
     #[inline(never)]
     pub fn declaration<E: EventOut>(
         &mut self,
@@ -655,7 +646,7 @@ impl<'a, T: Tables + Drop> Stepper<'a, T> {
     }
 
     /// SC. Answers the byte at which the fragment begins.
-    #[tactic(auto, unfolding(crate::specs::Handing::making))]
+    #[tactic(auto, unfolding(exi_processing::specs::Handing::making))]
     #[inline(never)]
     pub fn self_contained<E: EventOut>(
         &mut self,
@@ -681,7 +672,7 @@ impl<'a, T: Tables + Drop> Stepper<'a, T> {
     }
 
     /// CM.
-    #[tactic(auto, unfolding(crate::specs::Handing::making))]
+    #[tactic(auto, unfolding(exi_processing::specs::Handing::making))]
     #[inline(never)]
     pub fn comment<E: EventOut>(
         &mut self,
@@ -714,7 +705,7 @@ impl<'a, T: Tables + Drop> Stepper<'a, T> {
     }
 
     /// PI.
-    #[tactic(auto, unfolding(crate::specs::Handing::making, crate::specs::Contents::both_at))]
+    #[tactic(auto, unfolding(exi_processing::specs::Handing::making, exi_processing::specs::Contents::both_at))]
     #[inline(never)]
     pub fn instruction<E: EventOut>(
         &mut self,
@@ -757,7 +748,7 @@ impl<'a, T: Tables + Drop> Stepper<'a, T> {
     }
 
     /// DT.
-    #[tactic(auto, unfolding(crate::specs::Handing::making, crate::specs::Contents::both_at))]
+    #[tactic(auto, unfolding(exi_processing::specs::Handing::making, exi_processing::specs::Contents::both_at))]
     #[inline(never)]
     pub fn document_type<E: EventOut>(
         &mut self,
@@ -816,7 +807,7 @@ impl<'a, T: Tables + Drop> Stepper<'a, T> {
     }
 
     /// ER.
-    #[tactic(auto, unfolding(crate::specs::Handing::making))]
+    #[tactic(auto, unfolding(exi_processing::specs::Handing::making))]
     #[inline(never)]
     pub fn entity<E: EventOut>(
         &mut self,

@@ -1,64 +1,29 @@
-ghost use Rattle.std.specs.Prelude.{◌≡◌, ◌≤◌, ◌^◌, length, IfOk, OnOk};
+ghost use Rattle.std.specs.Prelude.{◌≡◌, ◌<◌, ◌≤◌, ◌^◌, ◌∷◌, [], length, IfOk, OnOk};
 ghost use Rattle.exi_bits.specs.Bits.{IsBytes};
-ghost use Rattle.exi_gram.specs.Switches.{fragment};
+ghost use Rattle.exi_builtin.specs.Learning.{nothing_learned};
 ghost use Rattle.exi_meter.specs.Metering.{IsWithinStream};
 ghost use Rattle.exi_names.specs.StartTables.{IsStart};
-ghost use Rattle.exi_reader.specs.Configurations.{IsSetting, first_tables};
-ghost use Rattle.exi_reader.specs.Changes.{innermost, put_aside};
-ghost use Rattle.exi_reader.specs.Handing.{first_outer_of, standing, with_config};
-ghost use Rattle.exi_reader.specs.Reading.{IsJob, IsStartIn, job_of};
-ghost use Rattle.exi_reader.specs.Runs.{closing, first, has_ended};
-ghost use Rattle.exi_reader.specs.Splices.{fits, is_limit};
-ghost use Rattle.exi_reader.specs.declared.end.End.TheVariants as end;
+ghost use Rattle.exi_processing.specs.Configurations.{IsSetting, first_tables};
+ghost use Rattle.exi_processing.specs.Changes.{innermost, put_aside, resumed};
+ghost use Rattle.exi_processing.specs.Handing.{standing, with_config};
+ghost use Rattle.exi_processing.specs.Reading.{IsJob, IsStartIn, job_of};
+ghost use Rattle.exi_processing.specs.Runs.{closing, first, has_ended};
+ghost use Rattle.exi_processing.specs.Splices.{fits, is_limit};
+ghost use Rattle.exi_processing.specs.declared.end.End.TheVariants as end;
 ghost use Rattle.exi_tables.specs.Partitions.{IsName};
 
-use crate::aside::{Aside, Asides};
-use crate::elements::Elements;
-use crate::end::End;
-use crate::frames::Outer;
-use crate::job::Job;
-use crate::start::Start;
 use crate::stepper::Stepper;
-use bitflags::Flags;
 use exi_bits::{BitIn, Fault, Kind};
-use exi_builtin::Overlay;
-use exi_gram::{Book, OptionFlags, Options};
+use exi_builtin::{LookUp, Overlay};
+use exi_gram::Book;
 use exi_meter::{Limits, Meter};
+use exi_processing::{
+    Aside, Asides, Elements, End, Job, Outer, Spare, Start, first_outer, first_tables,
+    tables_at_start,
+};
 use exi_tables::Tables;
 use std::alloc::{AllocError, Global};
 use std::mem;
-
-/// The state at which reading begins, by whether there is a schema.
-pub fn first_outer(known: bool, options: &Options, start: Start) -> Outer
-    ensures { result ≡ first_outer_of known (fragment options.now) start }
-{
-    let fragment = options.flags.contains(OptionFlags::FRAGMENT);
-    match start {
-        Start::Body => {
-            if fragment && !known {
-                Outer::FragmentStart
-            } else {
-                Outer::Book {
-                    grammar: u32::from(fragment),
-                    state: 0,
-                }
-            }
-        }
-        Start::Fragment(_) => Outer::AloneStart,
-    }
-}
-
-/// The string tables at the start of a stream.
-pub fn first_tables<T: Tables>(alloc: Global, book: &Book) -> Result<T, AllocError>
-    ensures tables { IfOk result (λ t. T.held t ≡ first_tables book.now) }
-    ensures setting { IsSetting book.now }
-    ensures names { IsStart book.now.schema.names }
-{
-    let options = book.options();
-    let names = book.schema().names();
-    let _ = names.uris();
-    T::start(alloc, names, options.most, options.capacity)
-}
 
 /// The bits of the input, of which each byte is one.
 fn input_of(bytes: &[u8]) -> BitIn<'_>
@@ -85,7 +50,7 @@ impl<'a, T: Tables + Drop> Stepper<'a, T> {
         ensures names { IfOk result (λ s. IsStart job.now.book.now.schema.names) }
         ensures octets { IfOk result (λ s. IsBytes job.now.bytes.now) }
     {
-        let tables = first_tables(alloc, job.book)?;
+        let first = first_tables(alloc, job.book)?;
         let mut input = input_of(job.bytes);
         match start {
             Start::Body => input.go_to_bit(job.body),
@@ -97,13 +62,15 @@ impl<'a, T: Tables + Drop> Stepper<'a, T> {
             start,
             input,
             meter: Meter::new(limits),
-            tables,
+            tables: tables_at_start(alloc, job.book, &first)?,
             elements: Elements::new(alloc),
             outer: first_outer(job.book.schema().is_known(), job.book.options(), start),
-            overlay: Overlay::new(alloc),
+            overlay: Overlay::new(alloc, LookUp::ByCode),
             after_start: false,
             root: None,
             aside: Asides::new(alloc),
+            first,
+            spare: None,
         })
     }
 
@@ -165,6 +132,37 @@ impl<'a, T: Tables + Drop> Stepper<'a, T> {
         }
     }
 
+    /// String tables, learned grammars and open elements as a fragment begins with them, in the room that the last one left.
+    fn fresh(&mut self) -> Result<(T, Overlay, Elements), AllocError>
+        ensures tables { IfOk result (λ parts. T.held parts.0 ≡ first_tables self.old.setting) }
+        ensures learned { IfOk result (λ parts. parts.1 ≡ nothing_learned) }
+        ensures elements { IfOk result (λ parts. parts.2 ≡ []) }
+        ensures same { self.new ≡ self.old }
+    {
+        match self.spare.take() {
+            Some(spare) => spare.into_parts(self.book, &self.first),
+            None => Ok((
+                tables_at_start(self.alloc, self.book, &self.first)?,
+                Overlay::new(self.alloc, LookUp::ByCode),
+                Elements::new(self.alloc),
+            )),
+        }
+    }
+
+    /// Takes up the body that was put aside, where there is one. What the fragment used is kept for the next one.
+    pub fn resume(&mut self, body: Aside<T>)
+        requires level { 0 < self.old.config.meter.level }
+        ensures resumed { self.new ≡ with_config self.old (resumed (body ∷ self.old.config.aside) self.old.config) }
+    {
+        let (tables, overlay, elements, outer) = body.into_parts();
+        self.meter.leave();
+        let tables = mem::replace(&mut self.tables, tables);
+        let overlay = mem::replace(&mut self.overlay, overlay);
+        let elements = mem::replace(&mut self.elements, elements);
+        self.outer = outer;
+        self.spare = Some(Spare::of(tables, overlay, elements));
+    }
+
     /// Puts the body aside, and stands in the fragment that begins here.
     pub fn enter(&mut self) -> Result<(), AllocError>
         requires name { IsName self.old.config.tables (innermost self.old.config.elements) }
@@ -172,10 +170,10 @@ impl<'a, T: Tables + Drop> Stepper<'a, T> {
         ensures setting { self.new.setting ≡ self.old.setting }
         ensures bytes { self.new.bytes ≡ self.old.bytes }
     {
-        let tables = first_tables(self.alloc, self.book)?;
-        let overlay = mem::replace(&mut self.overlay, Overlay::new(self.alloc));
-        let elements = mem::replace(&mut self.elements, Elements::new(self.alloc));
+        let (tables, overlay, elements) = self.fresh()?;
         let tables = mem::replace(&mut self.tables, tables);
+        let overlay = mem::replace(&mut self.overlay, overlay);
+        let elements = mem::replace(&mut self.elements, elements);
         let body = Aside::new(tables, overlay, elements, self.outer);
         self.outer = Outer::AloneStart;
         self.aside.push(body)

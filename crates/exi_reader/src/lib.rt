@@ -1,66 +1,30 @@
-//! Sequential processing of EXI 1.0 (sections 6, 8.4 and 8.5), with a schema and without: what it is, and what
-//! holds of it.
+//! Reads a body or a fragment of an EXI stream event by event (EXI 1.0, sections 6, 8.4 and 8.5), with a schema and
+//! without.
 //!
-//! A body is a row of events. Each has a code that tells a production of the state in which reading is, and
-//! what that production reads: a name, a value, texts, or nothing. `80 40 98 70 37 80`, behind the header's
-//! byte, bit by bit:
+//! What sequential processing is stands in exi_processing; here is the reader that does it. A turn of it is:
 //!
 //! ```text
-//!        SE(*)                             CH                        EE  ED
-//!   SD   URI   length  "a"                 code  length  "x"         code
-//! +----+----+--------+--------+----------+----+--------+--------+----+----+
-//! |    | 01 |00000010|01100001|          | 11 |00000011|01111000|  0 |    |
-//! +----+----+--------+--------+----------+----+--------+--------+----+----+
-//! 8    8    10       18       26         26   28       36       44   45
+//!   state --> code --> production --> charges --> content --> event --> next state
+//!             codes.rt                step.rt     contents.rt, attributes.rt
 //! ```
 //!
-//! The definitions are in `specs/`: the configuration (place, meter, string tables, open elements, what was
-//! learned), one event as a function from a configuration to an event and the next configuration or to the
-//! first fault, and the run. [`laws`] has what is proved of them.
+//! [`Reader`] goes on turn by turn: at a self-contained fragment it stops, and the fragment is entered, or what came of
+//! reading it elsewhere is taken in its place ([`Reader::splice`]). [`read_from`] reads to the end.
 #![tactic(auto)]
 
-mod alone;
-mod aside;
 mod attributes;
-mod charges;
 mod codes;
 mod contents;
-mod declared;
-mod elements;
-mod end;
 mod ends;
-mod frames;
-mod halt;
-mod job;
-pub mod laws;
-mod parts;
+mod names;
 mod read;
 mod reader;
-mod rule;
+mod roots;
+mod seen;
 mod splice;
-mod start;
 mod step;
 mod stepper;
-mod turn;
+mod texts;
 
-pub use alone::Alone;
-pub use aside::{Aside, Asides};
-pub use attributes::{empty_by, retype};
-pub use charges::Charges;
-pub use codes::state_behind;
-pub use declared::{attribute_datatype, opener};
-pub use elements::Elements;
-pub use end::End;
-pub use ends::{first_outer, first_tables};
-pub use frames::{Element, Outer, State};
-pub use job::Job;
-pub use parts::{
-    alone_in, close, go_to, innermost, is_nil, is_strict, is_type, keeps_prefixes, learn,
-    learn_name, open,
-};
 pub use read::read_from;
 pub use reader::Reader;
-pub use rule::{Content, Rule, Telling, Valuing};
-pub use splice::Spliced;
-pub use start::Start;
-pub use turn::{ReadStop, Turn};

@@ -1,14 +1,11 @@
 ghost use Rattle.std.specs.Prelude.{◌≡◌, ◌≤◌, IsErrOf};
 ghost use Rattle.exi_names.specs.Events.{Rose};
-ghost use Rattle.exi_reader.specs.Reading.{IsJob, IsStartIn, Sequences, job_of};
+ghost use Rattle.exi_processing.specs.Reading.{IsJob, IsStartIn, Sequences, job_of};
 
-use crate::end::End;
-use crate::job::Job;
 use crate::reader::Reader;
-use crate::start::Start;
-use crate::turn::{Came, ReadStop};
 use exi_meter::Limits;
 use exi_names::EventOut;
+use exi_processing::{Came, End, Job, ReadStop, Start};
 use exi_steps::Steps;
 use exi_tables::Tables;
 use std::alloc::Global;

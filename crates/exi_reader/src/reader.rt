@@ -1,22 +1,16 @@
 ghost use Rattle.std.specs.Prelude.{◌≡◌, ◌≤◌, ◌+◌, false, true, IfOk, IsErrOf, OnOk};
 ghost use Rattle.exi_meter.specs.Metering.{IsWithinStream};
 ghost use Rattle.exi_names.specs.Events.{Rose};
-ghost use Rattle.exi_reader.specs.Reading.{IsJob, IsReached, IsStartIn, StandsAt, StandsAtNone, StaysReached, Turns, come_to, job_of, reading};
-ghost use Rattle.exi_reader.specs.Runs.{closing, first};
-ghost use Rattle.exi_reader.specs.declared.end.End.TheVariants as end;
-ghost use Rattle.exi_reader.specs.Splices.{fits};
+ghost use Rattle.exi_processing.specs.Reading.{IsJob, IsReached, IsStartIn, LiesWithin, StandsAt, StandsAtNone, StaysReached, Turns, come_to, job_of, reading};
+ghost use Rattle.exi_processing.specs.Runs.{closing, first};
+ghost use Rattle.exi_processing.specs.declared.end.End.TheVariants as end;
+ghost use Rattle.exi_processing.specs.Splices.{fits};
 
-use crate::aside::Asides;
-use crate::elements::Elements;
-use crate::end::End;
-use crate::halt::Halt;
-use crate::job::Job;
-use crate::start::Start;
 use crate::stepper::Stepper;
-use crate::turn::{Came, ReadStop, Turn};
 use exi_bits::Fault;
 use exi_meter::Limits;
 use exi_names::EventOut;
+use exi_processing::{Asides, Came, Elements, End, Halt, Job, ReadStop, Start, Turn};
 use exi_steps::Steps;
 use exi_tables::Tables;
 use std::alloc::{AllocError, Global};
@@ -34,8 +28,8 @@ pub struct Reader<'a, T: Tables + Drop> {
 }
 
 impl<'a, T: Tables + Drop> Model for Reader<'a, T> {
-    ghost use Rattle.exi_reader.specs.Handing.{fragment_in};
-    ghost use Rattle.exi_reader.specs.Reading.{Reading};
+    ghost use Rattle.exi_processing.specs.Handing.{fragment_in};
+    ghost use Rattle.exi_processing.specs.Reading.{Reading};
 
     ghost Value = { Reading };
 
@@ -94,6 +88,7 @@ impl<'a, T: Tables + Drop> Reader<'a, T> {
         ensures turned { Turns E.took E.broke result self.old self.new out.old out.new }
         ensures reached { StaysReached result self.new }
         ensures fragment { StandsAt result self.new }
+        ensures inside { LiesWithin result self.new }
         ensures setting { self.new.setting ≡ self.old.setting }
         ensures bytes { self.new.bytes ≡ self.old.bytes }
         ensures steps { steps.new ≡ steps.old + 1 }
@@ -121,6 +116,7 @@ impl<'a, T: Tables + Drop> Reader<'a, T> {
         ensures turned { Turns E.took E.broke (come_to result self.new) self.old self.new out.old out.new }
         ensures reached { StaysReached (come_to result self.new) self.new }
         ensures fragment { StandsAt (come_to result self.new) self.new }
+        ensures inside { LiesWithin (come_to result self.new) self.new }
         ensures none { StandsAtNone result self.new }
         ensures setting { self.new.setting ≡ self.old.setting }
         ensures bytes { self.new.bytes ≡ self.old.bytes }
@@ -139,6 +135,7 @@ impl<'a, T: Tables + Drop> Reader<'a, T> {
             }
             Ok(Some(byte)) => {
                 self.waits = true;
+                self.stepper.stands();
                 Ok(Came::AtFragment(byte))
             }
             Err(Halt::Fault(fault)) => Ok(Came::Failed(fault)),

@@ -1,37 +1,21 @@
 ghost use Rattle.std.specs.Prelude.{◌≡◌, ◌≤◌, ◌<◌, ◌+◌, ◌*◌, true, length};
 ghost use Rattle.exi_meter.specs.Metering.{IsWithin};
-ghost use Rattle.exi_reader.specs.Changes.{innermost, put_aside, same_texts, texts_of};
-ghost use Rattle.exi_reader.specs.Joins.{CanSplice, IsPlaceBehind, JoinedAs};
-ghost use Rattle.exi_reader.specs.Reading.{GoesOnReached, IsOutcome, IsReached, SplicedAs};
-ghost use Rattle.exi_reader.specs.Splices.{fits, on_behind, other_root, spliced, tally_of};
+ghost use Rattle.exi_processing.specs.Changes.{innermost, put_aside, same_texts, texts_of};
+ghost use Rattle.exi_processing.specs.Joins.{CanSplice, IsPlaceBehind, JoinedAs};
+ghost use Rattle.exi_processing.specs.Reading.{GoesOnReached, IsOutcome, IsReached, SplicedAs};
+ghost use Rattle.exi_processing.specs.Splices.{fits, on_behind, other_root, spliced};
 ghost use Rattle.exi_tables.specs.Partitions.{IsName};
 
-use crate::aside::{Asides, has_texts};
-use crate::elements::Elements;
-use crate::end::End;
-use crate::parts::innermost;
 use crate::reader::Reader;
 use crate::stepper::Stepper;
-use exi_bits::{BitIn, Fault, Kind};
-use exi_builtin::Overlay;
-use exi_meter::Meter;
+use exi_bits::{Fault, Kind};
 use exi_names::QName;
+use exi_processing::{End, Spliced, has_texts, innermost};
 use exi_tables::Tables;
-
-/// What became of a reader at a fragment that was read by itself.
-#[derive(Debug, Drop)]
-pub enum Spliced {
-    /// It goes on behind the fragment.
-    On,
-    /// It has ended as the fragment did, by its fault.
-    Ended(End),
-    /// It has ended by `ScRoot`: the fragment is that of another element than the one in which it stands.
-    WrongRoot(End),
-}
 
 impl<'a, T: Tables + Drop> Stepper<'a, T> {
     /// What holds wherever it stands.
-    fn stands(&self)
+    pub fn stands(&self)
         ensures place { self.now.config.place ≤ 8 * length self.now.bytes }
         ensures meter { IsWithin self.now.config.meter }
     {

@@ -2,27 +2,23 @@ ghost use Rattle.std.specs.Prelude.{◌≡◌, ◌≤◌, None, IsErrOf};
 ghost use Rattle.exi_names.specs.Events.{Rose};
 ghost use Rattle.exi_names.specs.Datatypes as datatype;
 ghost use Rattle.exi_names.specs.Datatypes.{represented};
-ghost use Rattle.exi_reader.specs.Handing.{HandsAny, HasLevels, HasNames, HasRoom, IsSteady, OnFault, alone_of, making, rule_in, telling_of, told_apart};
-ghost use Rattle.exi_reader.specs.OneEvent.{followed, moved_limit, one};
-ghost use Rattle.exi_reader.specs.Plans.{alone_in, nowhere, plan_on};
-ghost use Rattle.exi_reader.specs.Rules.{attribute, built_in_terminal, characters, element, end_element, untyped};
+ghost use Rattle.exi_processing.specs.Handing.{HandsAny, HasLevels, HasNames, HasRoom, IsSteady, OnFault, alone_of, making, rule_in, telling_of, told_apart};
+ghost use Rattle.exi_processing.specs.OneEvent.{followed, moved_limit, one};
+ghost use Rattle.exi_processing.specs.Plans.{alone_in, nowhere, plan_on};
+ghost use Rattle.exi_processing.specs.Rules.{attribute, built_in_terminal, characters, element, end_element, untyped};
 ghost use Rattle.exi_gram.specs.Books.{IsStateOf};
-ghost use Rattle.exi_reader.specs.Configurations.{built_in, in_book, rules_of};
+ghost use Rattle.exi_processing.specs.Configurations.{built_in, in_book, rules_of};
 ghost use Rattle.exi_builtin.specs.Learning.{IsRoom, state_behind};
-ghost use Rattle.exi_reader.specs.Stacks.{HaveForm};
-ghost use Rattle.exi_reader.specs.declared.halt.Halt.TheVariants as halt;
+ghost use Rattle.exi_processing.specs.Stacks.{HaveForm};
+ghost use Rattle.exi_processing.specs.declared.halt.Halt.TheVariants as halt;
 
-use crate::alone::Alone;
-use crate::charges::Charges;
-use crate::codes::state_behind;
-use crate::frames::State;
-use crate::halt::Halt;
-use crate::parts::alone_in;
-use crate::rule::{Content, Rule, Telling, Valuing};
 use crate::stepper::Stepper;
 use exi_bits::{Fault, Kind};
 use exi_builtin::{Learnable, Room};
 use exi_names::{Datatype, EventOut};
+use exi_processing::{
+    Alone, Charges, Content, Halt, Rule, State, Telling, Valuing, alone_in, state_behind,
+};
 use exi_tables::Tables;
 
 /// A limit of text that is passed within an event has the event's first bit.

@@ -1,13 +1,10 @@
-use crate::aside::Asides;
-use crate::elements::Elements;
-use crate::frames::Outer;
-use crate::start::Start;
 use exi_bits::BitIn;
 use exi_builtin::Overlay;
 use exi_gram::Book;
 use exi_meter::Meter;
 use exi_names::QName;
-use exi_tables::Tables;
+use exi_processing::{Asides, Elements, Outer, Spare, Start};
+use exi_tables::{FirstTables, Tables};
 use std::alloc::Global;
 use std::marker::Model;
 
@@ -26,12 +23,15 @@ pub struct Stepper<'a, T: Tables + Drop> {
     pub after_start: bool,
     pub root: Option<QName>,
     pub aside: Asides<T>,
+    pub first: FirstTables,
+    pub spare: Option<Spare<T>>,
 }
 
 impl<'a, T: Tables + Drop> Model for Stepper<'a, T> {
+    ghost use Rattle.std.specs.Prelude.{◌≡◌};
     ghost use Rattle.exi_bits.specs.Bits.{IsAligned};
     ghost use Rattle.exi_gram.specs.Switches.{align_of};
-    ghost use Rattle.exi_reader.specs.Handing.{Standing};
+    ghost use Rattle.exi_processing.specs.Handing.{Standing};
 
     ghost Value = { Standing };
 
@@ -57,5 +57,5 @@ impl<'a, T: Tables + Drop> Model for Stepper<'a, T> {
       };
     } };
 
-    ghost invariant = { λ r. IsAligned (align_of r.book.now.options) r.input };
+    ghost invariant = { λ r. IsAligned (align_of r.book.now.options) r.input × (r.first ≡ r.book.now.schema.names) };
 }

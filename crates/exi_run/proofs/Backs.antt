@@ -22,10 +22,10 @@ use Rattle.exi_header.specs.declared.header.Header.{Header}
 use Rattle.exi_header.specs.Laws.{WrittenIsRead as HeadIsRead}
 use Rattle.exi_meter.specs.Metering.{stream_bounds}
 use Rattle.exi_names.specs.Events.{Happening}
-use Rattle.exi_reader.specs.Configurations.{IsSetting}
-use Rattle.exi_reader.specs.Runs.{Job, done, events_of, first, whole_bytes}
-use Rattle.exi_reader.specs.Spelled.{IsIn}
-use Rattle.exi_reader.specs.declared.start.Start.TheVariants as start
+use Rattle.exi_processing.specs.Configurations.{IsSetting}
+use Rattle.exi_processing.specs.Runs.{Job, done, events_of, first, whole_bytes}
+use Rattle.exi_processing.specs.Spelled.{IsIn}
+use Rattle.exi_processing.specs.declared.start.Start.TheVariants as start
 use Rattle.exi_run.specs.Backs.{IsSound, ReadsBack, WrittenIsRead, written_end, written_from, written_job}
 use Rattle.exi_run.specs.declared.ending.Ending.{Ending}
 use Rattle.exi_run.specs.declared.ending.Ending.TheVariants as ending

@@ -8,13 +8,13 @@ use Rattle.exi_gram.specs.declared.options.Options.{Options}
 use Rattle.exi_header.specs.declared.header.Header.{Header}
 use Rattle.exi_meter.specs.Metering.{Bounds, stream_bounds}
 use Rattle.exi_names.specs.Events.{Happening, Rose}
-use Rattle.exi_reader.specs.Reading.{Sequences}
-use Rattle.exi_reader.specs.Reading as reader
-use Rattle.exi_reader.specs.Runs.{Job}
-use Rattle.exi_reader.specs.declared.end.End.{End}
-use Rattle.exi_reader.specs.declared.start.Start.TheVariants as start
-use Rattle.exi_reader.specs.declared.turn.ReadStop.{ReadStop}
-use Rattle.exi_reader.specs.declared.turn.ReadStop.TheVariants as stop
+use Rattle.exi_processing.specs.Reading.{Sequences}
+use Rattle.exi_processing.specs.Reading as reader
+use Rattle.exi_processing.specs.Runs.{Job}
+use Rattle.exi_processing.specs.declared.end.End.{End}
+use Rattle.exi_processing.specs.declared.start.Start.TheVariants as start
+use Rattle.exi_processing.specs.declared.turn.ReadStop.{ReadStop}
+use Rattle.exi_processing.specs.declared.turn.ReadStop.TheVariants as stop
 use Rattle.exi_run.specs.declared.ending.Ending.{Ending}
 use Rattle.exi_run.specs.declared.ending.Ending.TheVariants as ending
 use Rattle.exi_run.specs.declared.form.Form.{Form}

@@ -8,14 +8,14 @@ use Rattle.exi_builtin.specs.declared.learnable.Learned.TheVariants as used
 use Rattle.exi_meter.specs.Metering.{Bounds}
 use Rattle.exi_names.specs.declared.names.QName.{QName}
 use Rattle.exi_names.specs.Events.{Happening}
-use Rattle.exi_reader.specs.Changes.{Effect, effect_of, effected, emptied, leads, learns_name, resumed, retyped, stays}
-use Rattle.exi_reader.specs.Configurations.{Body, Config, Setting, first_config}
-use Rattle.exi_reader.specs.OneEvent.{remembered}
-use Rattle.exi_reader.specs.Plans.{Alone, Given, alone_in, at_end, at_first, at_start, ended_in, nowhere, plan_on, rooted_in}
-use Rattle.exi_reader.specs.Rules.{Rule, Telling, Terminal, attribute, characters, comment, declaration, document_type, element, end_document, end_element, entity, instruction, known, self_contained, spelled, start_document, under}
-use Rattle.exi_reader.specs.Runs.{has_ended}
-use Rattle.exi_reader.specs.Spelled.{IsOne, further}
-use Rattle.exi_reader.specs.declared.start.Start.TheVariants as start
+use Rattle.exi_processing.specs.Changes.{Effect, effect_of, effected, emptied, leads, learns_name, resumed, retyped, stays}
+use Rattle.exi_processing.specs.Configurations.{Body, Config, Setting, first_config}
+use Rattle.exi_processing.specs.OneEvent.{remembered}
+use Rattle.exi_processing.specs.Plans.{Alone, Given, alone_in, at_end, at_first, at_start, ended_in, nowhere, plan_on, rooted_in}
+use Rattle.exi_processing.specs.Rules.{Rule, Telling, Terminal, attribute, characters, comment, declaration, document_type, element, end_document, end_element, entity, instruction, known, self_contained, spelled, start_document, under}
+use Rattle.exi_processing.specs.Runs.{has_ended}
+use Rattle.exi_processing.specs.Spelled.{IsOne, further}
+use Rattle.exi_processing.specs.declared.start.Start.TheVariants as start
 use Rattle.exi_tables.proofs.Sound.{first_sound}
 use Rattle.exi_writing.proofs.OneEvent.{bind_parts, one_sound, one_spelled}
 use Rattle.exi_writing.specs.OneEvent.{Refused, Written, written}

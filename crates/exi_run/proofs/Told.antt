@@ -11,14 +11,14 @@ use Rattle.exi_gram.specs.declared.options.SchemaWord.{SchemaWord}
 use Rattle.exi_meter.specs.Metering.{stream_bounds}
 use Rattle.exi_names.specs.Events.{Happening}
 use Rattle.exi_opening.specs.Openings.{setting_by}
-use Rattle.exi_reader.specs.Configurations.{Config, Setting, first_config, rules_of, spot_in}
-use Rattle.exi_reader.specs.Contents.{attribute_value_at}
-use Rattle.exi_reader.specs.OneEvent.{charge_at, followed, one}
-use Rattle.exi_reader.specs.Plans.{Alone, alone_in, plan_of, plan_on}
-use Rattle.exi_reader.specs.Rules.{Rule, Terminal, attribute, characters, comment, declaration, document_type, element, end_document, end_element, entity, instruction, self_contained, start_document}
-use Rattle.exi_reader.specs.Runs.{IsRun, Leads, turned_by}
-use Rattle.exi_reader.specs.declared.end.End.{End}
-use Rattle.exi_reader.specs.declared.start.Start.TheVariants as start
+use Rattle.exi_processing.specs.Configurations.{Config, Setting, first_config, rules_of, spot_in}
+use Rattle.exi_processing.specs.Contents.{attribute_value_at}
+use Rattle.exi_processing.specs.OneEvent.{charge_at, followed, one}
+use Rattle.exi_processing.specs.Plans.{Alone, alone_in, plan_of, plan_on}
+use Rattle.exi_processing.specs.Rules.{Rule, Terminal, attribute, characters, comment, declaration, document_type, element, end_document, end_element, entity, instruction, self_contained, start_document}
+use Rattle.exi_processing.specs.Runs.{IsRun, Leads, turned_by}
+use Rattle.exi_processing.specs.declared.end.End.{End}
+use Rattle.exi_processing.specs.declared.start.Start.TheVariants as start
 use Rattle.exi_run.specs.declared.ending.Ending.{Ending}
 use Rattle.exi_run.specs.Wholes.{IsBody}
 use Rattle.exi_typed.specs.ReadStates.{Failure, failing}

@@ -4,9 +4,9 @@ use Rattle.exi_bits.specs.declared.fault.Fault.{Fault}
 use Rattle.exi_header.specs.declared.header.Header.{Header}
 use Rattle.exi_meter.specs.Metering.{stream_bounds}
 use Rattle.exi_names.specs.Events.{Happening}
-use Rattle.exi_reader.specs.Runs.{Job}
-use Rattle.exi_reader.specs.declared.start.Start.TheVariants as start
-use Rattle.exi_reader.specs.Laws.{ASequenceIsThere, OneSequence}
+use Rattle.exi_processing.specs.Runs.{Job}
+use Rattle.exi_processing.specs.declared.start.Start.TheVariants as start
+use Rattle.exi_processing.specs.Laws.{ASequenceIsThere, OneSequence}
 use Rattle.exi_run.specs.declared.ending.Ending.{Ending}
 use Rattle.exi_run.specs.declared.ending.Ending.TheVariants as ending
 use Rattle.exi_run.specs.Endings.{ending_of}

@@ -16,7 +16,7 @@ use Rattle.exi_meter.specs.Metering.{Bounds, stream_bounds}
 use Rattle.exi_names.specs.Events.{Happening, Grows}
 use Rattle.exi_names.specs.declared.stops.TextStop.{TextStop}
 use Rattle.exi_names.specs.declared.stops.TextStop.TheVariants as text_stop
-use Rattle.exi_reader.specs.Configurations.{Setting}
+use Rattle.exi_processing.specs.Configurations.{Setting}
 use Rattle.exi_run.specs.declared.halt.Halt.{Halt}
 use Rattle.exi_run.specs.declared.halt.Halt.TheVariants as halt
 use Rattle.exi_run.specs.declared.halt.Refusal.TheVariants as refusal

@@ -6,9 +6,9 @@ use Rattle.exi_gram.specs.Schemas.{IsSchema}
 use Rattle.exi_gram.specs.declared.options.SchemaWord.TheVariants as schema
 use Rattle.exi_names.specs.Events.{Happening}
 use Rattle.exi_meter.specs.Metering.{stream_bounds}
-use Rattle.exi_reader.specs.Configurations.{Config, first_config}
-use Rattle.exi_reader.specs.Runs.{Job, events_of}
-use Rattle.exi_reader.specs.declared.start.Start.TheVariants as start
+use Rattle.exi_processing.specs.Configurations.{Config, first_config}
+use Rattle.exi_processing.specs.Runs.{Job, events_of}
+use Rattle.exi_processing.specs.declared.start.Start.TheVariants as start
 use Rattle.exi_run.specs.declared.ending.Ending.{Ending}
 use Rattle.exi_run.specs.declared.ending.Ending.TheVariants as ending
 use Rattle.exi_run.specs.Tasks.{IsReady, writing}

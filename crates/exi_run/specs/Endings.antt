@@ -3,8 +3,8 @@ use Rattle.std.specs.Prelude.{ℕ, List, [], ◌∷◌, ◌++◌, codes, decimal
 use Rattle.exi_bits.specs.declared.fault.Kind.{Kind}
 use Rattle.exi_bits.specs.declared.fault.Kind.TheVariants as kind
 use Rattle.exi_bits.specs.Words.{kind_word, part_word}
-use Rattle.exi_reader.specs.declared.end.End.{End}
-use Rattle.exi_reader.specs.declared.end.End.TheVariants as end
+use Rattle.exi_processing.specs.declared.end.End.{End}
+use Rattle.exi_processing.specs.declared.end.End.TheVariants as end
 use Rattle.exi_run.specs.declared.ending.Ending.{Ending}
 use Rattle.exi_run.specs.declared.ending.Ending.TheVariants as ending
 use Rattle.exi_run.specs.declared.status.Status.{Status}

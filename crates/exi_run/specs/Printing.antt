@@ -8,12 +8,12 @@ use Rattle.std.proofs.lemmas.List.{append-nil}
 use Rattle.exi_names.specs.Events.{Happening, Grows, Rose}
 use Rattle.exi_ports.specs.Ports.{GrowsInPart}
 use Rattle.exi_meter.specs.Metering.{stream_bounds}
-use Rattle.exi_reader.specs.Reading.{IsFront}
-use Rattle.exi_reader.specs.Runs.{IsSequence, Job}
-use Rattle.exi_reader.specs.declared.end.End.{End}
-use Rattle.exi_reader.specs.declared.start.Start.TheVariants as start
-use Rattle.exi_reader.specs.declared.turn.ReadStop.{ReadStop}
-use Rattle.exi_reader.specs.declared.turn.ReadStop.TheVariants as read_stop
+use Rattle.exi_processing.specs.Reading.{IsFront}
+use Rattle.exi_processing.specs.Runs.{IsSequence, Job}
+use Rattle.exi_processing.specs.declared.end.End.{End}
+use Rattle.exi_processing.specs.declared.start.Start.TheVariants as start
+use Rattle.exi_processing.specs.declared.turn.ReadStop.{ReadStop}
+use Rattle.exi_processing.specs.declared.turn.ReadStop.TheVariants as read_stop
 use Rattle.exi_names.specs.declared.stops.PushStop.{PushStop}
 use Rattle.exi_names.specs.declared.stops.PushStop.TheVariants as push_stop
 use Rattle.exi_run.specs.declared.form.Form.{Form}

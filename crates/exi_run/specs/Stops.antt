@@ -9,8 +9,8 @@ use Rattle.exi_run.specs.declared.halt.Refusal.TheVariants as refusal
 use Rattle.exi_run.specs.declared.unwritten.Unwritten.TheVariants as unwritten
 use Rattle.exi_writer.specs.declared.fault.WriteFault.{WriteFault}
 use Rattle.exi_writer.specs.declared.fault.WriteFault.TheVariants as fault
-use Rattle.exi_reader.specs.declared.turn.ReadStop.{ReadStop}
-use Rattle.exi_reader.specs.declared.turn.ReadStop.TheVariants as read_stop
+use Rattle.exi_processing.specs.declared.turn.ReadStop.{ReadStop}
+use Rattle.exi_processing.specs.declared.turn.ReadStop.TheVariants as read_stop
 
 -- of the sink
 abbrev pub halt_of : SinkStop → Halt

@@ -5,9 +5,9 @@ use Rattle.exi_header.specs.declared.header.Header.{Header}
 use Rattle.exi_meter.specs.Metering.{stream_bounds}
 use Rattle.exi_names.specs.Events.{Happening}
 use Rattle.xsd_file.specs.Bases.{Basis, header_by, job_by}
-use Rattle.exi_reader.specs.Runs.{IsSequence, Job}
-use Rattle.exi_reader.specs.declared.end.End.{End}
-use Rattle.exi_reader.specs.declared.start.Start.TheVariants as start
+use Rattle.exi_processing.specs.Runs.{IsSequence, Job}
+use Rattle.exi_processing.specs.declared.end.End.{End}
+use Rattle.exi_processing.specs.declared.start.Start.TheVariants as start
 use Rattle.exi_run.specs.declared.ending.Ending.{Ending}
 use Rattle.exi_run.specs.declared.ending.Ending.TheVariants as ending
 use Rattle.exi_run.specs.Endings.{ending_of}

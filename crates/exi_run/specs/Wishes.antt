@@ -14,7 +14,7 @@ use Rattle.exi_run.specs.declared.unwritten.Unwritten.{Unwritten}
 use Rattle.exi_run.specs.declared.unwritten.Unwritten.TheVariants as unwritten
 use Rattle.exi_opening.specs.Openings.{setting_by}
 use Rattle.xsd_file.specs.Bases.{if_any}
-use Rattle.exi_reader.specs.Configurations.{Setting}
+use Rattle.exi_processing.specs.Configurations.{Setting}
 use Rattle.exi_run.specs.Words.{Given}
 use Rattle.exi_writing.specs.OneEvent.{Refused, limit, not_derived}
 use Rattle.exi_writing.specs.Runs.{Refusal, Run, body}

@@ -3,7 +3,7 @@ ghost use Rattle.exi_run.specs.Endings.{ending_of, kind_words, last_line, status
 
 use crate::status::Status;
 use exi_bits::{Fault, Kind};
-use exi_reader::End;
+use exi_processing::End;
 use itoa::Buffer;
 use std::alloc::{AllocError, Global};
 

@@ -7,7 +7,7 @@ use crate::status::Status;
 use crate::unwritten::Unwritten;
 use exi_names::TextStop;
 use exi_ports::SinkStop;
-use exi_reader::ReadStop;
+use exi_processing::ReadStop;
 use std::alloc::AllocError;
 use xsd_file::SchemaRefusal;
 

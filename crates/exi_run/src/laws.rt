@@ -6,7 +6,7 @@ ghost use Rattle.exi_run.specs.declared.ending.Ending.{Ending};
 ghost use Rattle.exi_run.specs.Wholes.{IsWhole, IsFront};
 ghost use Rattle.exi_run.specs.Writable.{RefusedIsUnwritable, WrittenIsWritable};
 
-use exi_reader::laws::{a_sequence_is_there, one_sequence};
+use exi_processing::laws::{a_sequence_is_there, one_sequence};
 
 /// Bytes have, by the options of the words and by a schema, if one is known, exactly one list of events, with one end.
 pub fn one_whole()

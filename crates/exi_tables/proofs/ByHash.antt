@@ -1,6 +1,6 @@
 -- Texts that are told by the indices of their keys.
 use Rattle.std.proofs.Common.{◌≡◌, ℕ, zero, suc, ◌<◌, ◌+◌, ◌-◌, ◌^◌, cond, true, false, List, [], ◌∷◌, ◌++◌, length, get_or, Option, Some, None, is_some, refl, sym, ap, ◌∙◌, arith, inl, inr, true≢false, length-append}
-use Rattle.std.specs.Prelude.{position, slice_get}
+use Rattle.std.specs.Prelude.{position, slice_get, unwrap_or}
 use Rattle.std.specs.List.{position_or_len}
 use Rattle.std.specs.Map.{keys_of, lookup}
 use Rattle.std.specs.Str.{bytes_eq}
@@ -10,9 +10,9 @@ use Rattle.std.proofs.lemmas.List.Quantifiers.{position-Some}
 use Rattle.std.proofs.lemmas.Option.{slice_get_within}
 use Rattle.std.proofs.lemmas.Slice.Eq.{bytes_eq-Decides}
 use Rattle.indexmap.specs.IndexMap.{insert_entry}
+use Rattle.exi_tables.specs.Added.{Puts, number_of}
 use Rattle.exi_tables.specs.Kept.{IsHashed, texts_at}
-use Rattle.exi_tables.specs.Partitions.{least_place}
-use Rattle.exi_tables.proofs.Least.{get_before, get_last, position_append, position_new, position_other}
+use Rattle.exi_tables.proofs.Least.{get_before, get_last}
 
 some_of : (o : Option ℕ) → true ≡ is_some o → o ≡ None → ⊥
 some_of o some none = true≢false (some ∙ ap is_some none)
@@ -45,25 +45,25 @@ known_text entries places text index found =
     map-append (λ i. get_or (keys_of entries) i []) places (index ∷ []) ∙ ap (λ t. texts_at (keys_of entries) places ++ t ∷ []) is
 
 pub known_kept : (entries : List (List ℕ × ℕ)) (places : List ℕ) (text : List ℕ) (index : ℕ) → IsHashed entries places → length places < 2 ^ 32 - 1 →
-    position (bytes_eq text) (keys_of entries) ≡ Some index → true ≡ is_some (lookup (bytes_eq text) entries) → IsHashed entries (places ++ index ∷ [])
-known_kept entries places text index kept room found some =
+    position (bytes_eq text) (keys_of entries) ≡ Some index → IsHashed entries (places ++ index ∷ [])
+known_kept entries places text index kept room found =
     let at = position-Some (bytes_eq text) (keys_of entries) index [] found in
     let below : index < length entries = rw length-map at at.0 in
     record {
-      least_is = λ t. kept.least_is t ∙ same t (least_place (texts_at (keys_of entries) places) t) refl;
       within = within_push places index (length entries) kept.within below;
       few_keys = omega (arith, kept.few_keys, length-append places (index ∷ []));
       few = omega (arith, room, length-append places (index ∷ []));
     }
+
+pub known_puts : (entries : List (List ℕ × ℕ)) (text : List ℕ) (number : ℕ) → true ≡ is_some (lookup (bytes_eq text) entries) → Puts entries text number entries
+known_puts entries text number some t = elim (cases_Bool (bytes_eq text t)) [
+  | inr no_is ↦ rw no_is refl
+  | inl yes_is ↦ rw yes_is (by (number_of entries t) (some ∙ ap (λ u. is_some (number_of entries u)) ((bytes_eq-Decides text t).0 yes_is)))
+]
   where
-    same : (t : List ℕ) (o : Option ℕ) → least_place (texts_at (keys_of entries) places) t ≡ o → o ≡ least_place (texts_at (keys_of entries) (places ++ index ∷ [])) t
-    same t (Some p) e = sym (ap (λ ts. least_place ts t) (known_text entries places text index found) ∙ position_append (λ u. bytes_eq u t) p (texts_at (keys_of entries) places) (text ∷ []) e)
-    same t None e = elim (cases_Bool (bytes_eq text t)) [
-      | inl yes_is ↦
-          let is : text ≡ t = (bytes_eq-Decides text t).0 yes_is in
-          absurd (some_of (lookup (bytes_eq text) entries) some (ap (λ u. lookup (bytes_eq u) entries) is ∙ kept.least_is t ∙ e))
-      | inr no_is ↦ sym (ap (λ ts. least_place ts t) (known_text entries places text index found) ∙ position_other (λ u. bytes_eq u t) (texts_at (keys_of entries) places) text no_is ∙ e)
-    ]
+    by : (o : Option ℕ) → true ≡ is_some o → o ≡ Some (unwrap_or o number)
+    by None e = absurd (true≢false e)
+    by (Some m) e = refl
 
 -- ---- the text is new
 pub new_entry : (entries : List (List ℕ × ℕ)) (text : List ℕ) (place : ℕ) → lookup (bytes_eq text) entries ≡ None → insert_entry bytes_eq entries text place ≡ entries ++ (text, place) ∷ []
@@ -114,24 +114,19 @@ module _ (entries more : List (List ℕ × ℕ)) (places : List ℕ) (text : Lis
       ap (λ ks. texts_at ks (places ++ index ∷ [])) all_keys ∙ map-append (λ i. get_or (keys_of entries ++ text ∷ []) i []) places (index ∷ [])
       ∙ ap (λ t. texts_at (keys_of entries ++ text ∷ []) places ++ t ∷ []) last ∙ ap (λ ts. ts ++ text ∷ []) (old_texts (keys_of entries) text places within)
 
-  pub new_kept : length places < 2 ^ 32 - 1 → place ≡ length places → ((q : List ℕ) → lookup (bytes_eq q) more ≡ cond (bytes_eq text q) (Some place) (lookup (bytes_eq q) entries)) → IsHashed more (places ++ index ∷ [])
-  new_kept room place_is updates =
+  pub new_kept : length places < 2 ^ 32 - 1 → IsHashed more (places ++ index ∷ [])
+  new_kept room =
       let longer : length more ≡ length entries + 1 = ap length all_entries ∙ length-append entries ((text, place) ∷ []) in
       let long : length (keys_of entries) ≡ length entries = rw length-map refl in
       let below : index < length more = omega (arith, at_end, longer, long) in
       record {
-        least_is = λ t. updates t ∙ elim (cases_Bool (bytes_eq text t)) [
-          | inl yes_is ↦ rw yes_is (here t yes_is)
-          | inr no_is ↦ rw no_is (kept.least_is t ∙ sym (ap (λ ts. least_place ts t) new_text ∙ position_other (λ u. bytes_eq u t) (texts_at (keys_of entries) places) text no_is))
-        ];
         within = within_push places index (length more) (λ k i at. omega (arith, kept.within k i at, longer)) below;
         few_keys = omega (arith, kept.few_keys, longer, length-append places (index ∷ []));
         few = omega (arith, room, length-append places (index ∷ []));
       }
-    where
-      here : (t : List ℕ) → bytes_eq text t ≡ true → Some place ≡ least_place (texts_at (keys_of more) (places ++ index ∷ [])) t
-      here t yes_is =
-          let is : text ≡ t = (bytes_eq-Decides text t).0 yes_is in
-          let absent : least_place (texts_at (keys_of entries) places) t ≡ None = sym (kept.least_is t) ∙ ap (λ u. lookup (bytes_eq u) entries) (sym is) ∙ none in
-          let long : length (texts_at (keys_of entries) places) ≡ length places = rw length-map refl in
-          ap (λ (i : ℕ). Some i) (place_is ∙ sym long) ∙ sym (ap (λ ts. least_place ts t) new_text ∙ position_new (λ u. bytes_eq u t) (texts_at (keys_of entries) places) text absent yes_is)
+
+  pub new_puts : ((q : List ℕ) → lookup (bytes_eq q) more ≡ cond (bytes_eq text q) (Some place) (lookup (bytes_eq q) entries)) → Puts entries text place more
+  new_puts updates t = updates t ∙ elim (cases_Bool (bytes_eq text t)) [
+    | inr no_is ↦ rw no_is refl
+    | inl yes_is ↦ rw yes_is (ap (λ (o : Option ℕ). Some (unwrap_or o place)) (sym none ∙ ap (number_of entries) ((bytes_eq-Decides text t).0 yes_is)))
+  ]

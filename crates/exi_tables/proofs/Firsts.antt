@@ -1,37 +1,10 @@
 -- The first namespaces.
 use Rattle.std.proofs.Common.{◌≡◌, ℕ, zero, suc, ◌<◌, ◌≤◌, ◌+◌, ◌^◌, List, [], ◌∷◌, ◌++◌, length, take, get_or, Option, refl, ap, sym, ◌∙◌, arith, map}
 use Rattle.std.specs.Prelude.{slice_get, IfSome}
-use Rattle.std.proofs.lemmas.List.{take_more, length-take, length-map}
+use Rattle.std.proofs.lemmas.List.{length-map}
 use Rattle.exi_tables.specs.Partitions.{Namespace, namespaces_from, first_prefixes, first_partitions, locals_in, prefixes_in}
 use Rattle.exi_tables.specs.Growth.{NoneLonger}
 use Rattle.exi_names.specs.StartTables.{Names, IsStart}
-use Rattle.exi_tables.specs.Kept.{Space, spaces_from, with_spaces}
-
--- one space more
-spaces_push : (k : ℕ) (ls : List (List (List ℕ))) (l : List (List ℕ)) → spaces_from k (ls ++ l ∷ []) ≡ spaces_from k ls ++ record { locals = l; prefixes = first_prefixes (k + length ls) } ∷ []
-spaces_push k [] l = let at : k + 0 ≡ k = omega arith in rw at refl
-spaces_push k (m ∷ ls) l =
-    let one : Space = record { locals = m; prefixes = first_prefixes k } in
-    let at : k + 1 + length ls ≡ k + length (m ∷ ls) = omega arith in
-    ap (λ ss. one ∷ ss) (rw at at (spaces_push (k + 1) ls l))
-
-pub spaces_more : (ls : List (List (List ℕ))) (i : ℕ) (l ps : List (List ℕ)) → i < length ls → l ≡ get_or ls i l → ps ≡ first_prefixes i →
-    spaces_from 0 (take i ls) ++ record { locals = l; prefixes = ps } ∷ [] ≡ spaces_from 0 (take (i + 1) ls)
-spaces_more ls i l ps within l_is ps_is =
-    let at : 0 + length (take i ls) ≡ i = omega (arith, length-take i ls, within) in
-    let pushed : spaces_from 0 (take i ls ++ l ∷ []) ≡ spaces_from 0 (take i ls) ++ record { locals = l; prefixes = first_prefixes i } ∷ []
-    = rw at at (spaces_push 0 (take i ls) l) in
-    let more_ls : take (i + 1) ls ≡ take i ls ++ l ∷ [] = take_more ls i l within ∙ ap (λ m. take i ls ++ m ∷ []) (sym l_is) in
-    rw (more_ls, pushed, ps_is) refl
-
-pub length_spaces : (k : ℕ) (ls : List (List (List ℕ))) → length (spaces_from k ls) ≡ length ls
-length_spaces k [] = refl
-length_spaces k (l ∷ ls) = ap suc (length_spaces (k + 1) ls)
-
-pub first_with : (k : ℕ) (us : List (List ℕ)) (ls : List (List (List ℕ))) → with_spaces us (spaces_from k ls) ≡ namespaces_from k us ls
-first_with k [] ls = refl
-first_with k (u ∷ us) [] = refl
-first_with k (u ∷ us) (l ∷ ls) = let one : Namespace = record { uri = u; locals = l; prefixes = first_prefixes k } in ap (λ ns. one ∷ ns) (first_with (k + 1) us ls)
 
 pub length_from : (k : ℕ) (us : List (List ℕ)) (ls : List (List (List ℕ))) → length (namespaces_from k us ls) ≤ length us
 length_from k [] ls = omega arith

@@ -11,7 +11,6 @@ use Rattle.std.proofs.lemmas.List.Quantifiers.{position-Some}
 use Rattle.std.proofs.lemmas.Option.{slice_get-get_or, slice_get_within, get_or_from_slice_get}
 use Rattle.exi_tables.specs.Partitions.{live_at, least_place}
 use Rattle.exi_tables.specs.Growth.{IsLeast}
-use Rattle.exi_tables.specs.Kept.{IsLeastKept}
 
 pub least_found : (partition : List (List ℕ)) (text : List ℕ) (place : ℕ) → least_place partition text ≡ Some place → IsLeast partition text place
 least_found partition text place e =
@@ -89,10 +88,6 @@ least_of_last xs x = by (least_place xs x) refl
     by None e = position_new (λ t. bytes_eq t x) xs x e ((bytes_eq-Decides x x).1 refl)
     by (Some i) e = position_append (λ t. bytes_eq t x) i xs (x ∷ []) e
 
-get_end : (xs : List (List ℕ)) (x : List ℕ) → live_at (xs ++ x ∷ []) (length xs) ≡ Some x
-get_end [] x = refl
-get_end (y ∷ ys) x = get_end ys x
-
 pub get_last : {X : Type 0} (xs : List X) (x : X) → slice_get (xs ++ x ∷ []) (length xs) ≡ Some x
 get_last [] x = refl
 get_last (y ∷ ys) x = get_last ys x
@@ -101,31 +96,3 @@ pub get_before : {X : Type 0} (xs : List X) (x : X) (k : ℕ) → k < length xs 
 get_before [] x k within = absurd (omega (arith, within))
 get_before (y ∷ ys) x zero within = refl
 get_before (y ∷ ys) x (suc k) within = get_before ys x k (omega (arith, within))
-
--- what is kept stays right with one text more
-pub kept_push : (items : List (List ℕ)) (least : List ℕ) (text : List ℕ) (m : ℕ) → IsLeastKept items least → length items < 2 ^ 32 - 1 →
-    m ≡ unwrap_or (least_place items text) (length items) → IsLeastKept (items ++ text ∷ []) (least ++ m ∷ [])
-kept_push items least text m kept room m_is = record {
-  same = omega (arith, kept.same, length-append items (text ∷ []), length-append least (m ∷ []));
-  few = omega (arith, room, length-append items (text ∷ []));
-  least_is = λ k n at. elim (cases_lt k (length least)) [
-    | inl before ↦ earlier k n before (sym (get_before least m k before) ∙ at)
-    | inr past ↦ last k n past at
-  ];
-}
-  where
-    earlier : (k n : ℕ) → k < length least → slice_get least k ≡ Some n → Some n ≡ option_and_then (least_place (items ++ text ∷ [])) (live_at (items ++ text ∷ []) k)
-    earlier k n before at =
-        let within : k < length items = omega (arith, before, kept.same) in
-        let there : live_at items k ≡ Some (get_or items k []) = slice_get-get_or items k [] within in
-        let found : Some n ≡ least_place items (get_or items k []) = rw there at (kept.least_is k n at) in
-        rw (get_before items text k within, there) (sym (position_append (λ t. bytes_eq t (get_or items k [])) n items (text ∷ []) (sym found)))
-
-    last : (k n : ℕ) → length least ≤ k → slice_get (least ++ m ∷ []) k ≡ Some n → Some n ≡ option_and_then (least_place (items ++ text ∷ [])) (live_at (items ++ text ∷ []) k)
-    last k n past at =
-        let within : k < length (least ++ m ∷ []) = slice_get_within (least ++ m ∷ []) k n at in
-        let k_is : k ≡ length least = omega (arith, within, past, length-append least (m ∷ [])) in
-        let end : slice_get (least ++ m ∷ []) (length least) ≡ Some m = get_last least m in
-        let n_is : Some n ≡ Some m = sym at ∙ ap (slice_get (least ++ m ∷ [])) k_is ∙ end in
-        let there : live_at (items ++ text ∷ []) k ≡ Some text = ap (live_at (items ++ text ∷ [])) (k_is ∙ kept.same) ∙ get_end items text in
-        rw there (n_is ∙ ap (λ (i : ℕ). Some i) m_is ∙ sym (least_of_last items text))

@@ -3,7 +3,10 @@ pub mod FirstPrefixes
 pub mod Firsts
 pub mod Least
 pub mod Growing
-pub mod Spaces
+pub mod Placed
+pub mod Joined
+pub mod Used
+pub mod Pairs
 pub mod SomeText
 pub mod Counts
 pub mod Given

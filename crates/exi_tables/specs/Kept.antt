@@ -1,39 +1,25 @@
 -- What is kept beside texts and values, so that no list has to be walked.
-use Rattle.std.specs.Prelude.{◌≡◌, ◌≢◌, ◌<◌, ◌≤◌, ◌^◌, ℕ, ◌+◌, ◌-◌, Bool, true, false, List, [], ◌∷◌, ◌++◌, length, map, fold, nat_eq, nat_lt, encode_utf8_all, Option, Some, None, option_and_then, slice_get, slice_index_or, if◌then◌else◌}
+use Rattle.std.specs.Prelude.{◌≡◌, ◌⊎◌, ◌≢◌, ◌<◌, ◌≤◌, ◌^◌, ℕ, ◌+◌, ◌-◌, Bool, true, false, List, [], ◌∷◌, ◌++◌, length, map, fold, nat_eq, nat_lt, encode_utf8_all, Option, Some, None, option_and_then, slice_get, slice_index_or, if◌then◌else◌}
 use Rattle.std.specs.Hash as fed
 use Rattle.std.specs.Hash.FoldHasher as folding
-use Rattle.std.specs.Map.{keys_of, lookup}
+use Rattle.std.specs.List.{list_any}
 use Rattle.std.specs.Str.{bytes_eq}
-use Rattle.exi_tables.specs.Partitions.{Namespace, first_prefixes, least_place, live_at}
+use Rattle.exi_tables.specs.declared.list_texts.Numbered.{Numbered}
 use Rattle.exi_tables.specs.declared.live.Bounds.{Bounds}
 use Rattle.exi_tables.specs.declared.live.Given.{Given}
 use Rattle.exi_tables.specs.declared.live.Live.{Live}
 use Rattle.exi_names.specs.NameMaps.{kept_for}
 use Rattle.exi_names.specs.declared.names.NameId.{NameId}
+use Rattle.exi_tables.specs.Added.{Added, idle, list_at}
 use Rattle.exi_tables.specs.Spots.{SpotSet, is_listed}
 use Rattle.exi_tables.specs.Values.{given_to, is_value, name_place, or_less}
 
--- the local names and the prefixes of a URI
-pub record Space : Type 0 where
-  pub locals : List (List ℕ)
-  pub prefixes : List (List ℕ)
+-- each text beside its number
+abbrev pub pairs_of : List Numbered → List (List ℕ × ℕ)
+pairs_of items = map (λ i. (i.text, i.number)) items
 
--- each URI with its space
-abbrev pub with_spaces : List (List ℕ) → List Space → List Namespace
-with_spaces [] more = []
-with_spaces (uri ∷ us) [] = []
-with_spaces (uri ∷ us) (s ∷ more) = record { uri = uri; locals = s.locals; prefixes = s.prefixes } ∷ with_spaces us more
-
--- the spaces of the URIs from a place on, each with these local names and its first prefixes
-abbrev pub spaces_from : ℕ → List (List (List ℕ)) → List Space
-spaces_from place [] = []
-spaces_from place (names ∷ more) = record { locals = names; prefixes = first_prefixes place } ∷ spaces_from (place + 1) more
-
--- the numbers kept are the least places of the texts
-pub record IsLeastKept (items : List (List ℕ)) (least : List ℕ) : Type 0 where
-  pub same : length least ≡ length items
-  pub least_is : (place n : ℕ) → slice_get least place ≡ Some n → Some n ≡ option_and_then (least_place items) (live_at items place)
-  pub few : length items < 2 ^ 32
+abbrev pub holds_place : List ℕ → ℕ → Bool
+holds_place used uri = list_any (nat_eq uri) used
 
 -- the next place is that of a value, or the one behind them all, and is below the capacity
 pub record IsRound (b : Bounds) (live : List Live) (place : ℕ) : Type 0 where
@@ -45,9 +31,8 @@ pub record IsRound (b : Bounds) (live : List Live) (place : ℕ) : Type 0 where
 abbrev pub texts_at : List (List ℕ) → List ℕ → List (List ℕ)
 texts_at keys places = map (λ index. slice_index_or keys index []) places
 
--- each text is a key once, beside the least place that has it
+-- each place has a key
 pub record IsHashed (entries : List (List ℕ × ℕ)) (places : List ℕ) : Type 0 where
-  pub least_is : (text : List ℕ) → lookup (bytes_eq text) entries ≡ least_place (texts_at (keys_of entries) places) text
   pub within : (place index : ℕ) → slice_get places place ≡ Some index → index < length entries
   pub few_keys : length entries ≤ length places
   pub few : length places < 2 ^ 32
@@ -134,3 +119,8 @@ lesser (Some place) o = Some (or_less place o)
 abbrev pub least_of : (ℕ → Option ℕ) → List ℕ → Option ℕ
 least_of told [] = None
 least_of told (place ∷ more) = lesser (told place) (least_of told more)
+
+-- ---- lists that are cleared
+-- nothing is added to a list that is not among those used
+pub record IsUsed (used : List ℕ) (lists : List Added) : Type 0 where
+  pub others : (uri : ℕ) → (holds_place used uri ≡ true) ⊎ (list_at lists uri ≡ idle)

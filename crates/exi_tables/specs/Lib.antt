@@ -3,3 +3,4 @@ pub mod Partitions
 pub mod Growth
 pub mod Kept
 pub mod Spots
+pub mod Added

@@ -1,7 +1,6 @@
-ghost use Rattle.std.specs.Prelude.{◌≡◌, ◌≤◌, length};
+ghost use Rattle.std.specs.Prelude.{◌≡◌};
 ghost use Rattle.std.specs.Map.{lookup};
 ghost use Rattle.std.specs.Str.{bytes_eq};
-ghost use Rattle.indexmap.specs.IndexMap.{index_map_len};
 
 use crate::texts::Texts;
 use exi_names::Txt;
@@ -12,33 +11,37 @@ use std::marker::Model;
 /// How many texts are compared one by one. Among more a text is looked up by hash.
 const COMPARED: usize = 8;
 
-/// Texts by hash, few of them one by one: each text once, beside the least place that has it, and for each place the index of its
-/// text.
+/// Texts by hash, few of them one by one: each text once, beside its number, and for each place the index of its text.
 #[derive(Drop)]
 pub struct HashTexts {
-    least: IndexMap<Txt, u32>,
     places: Vec<u32>,
+    numbers: IndexMap<Txt, u32>,
 }
 
 impl Model for HashTexts {
-    ghost use Rattle.std.specs.Prelude.{List, ℕ};
     ghost use Rattle.indexmap.specs.IndexMap.{keys};
+    ghost use Rattle.exi_tables.specs.Added.{TextTable};
     ghost use Rattle.exi_tables.specs.Kept.{IsHashed, texts_at};
 
-    ghost Value = { List (List ℕ) };
+    ghost Value = { TextTable };
 
-    ghost view = { λ t. texts_at (keys t.least) t.places.items };
+    ghost view = { λ t. record {
+      texts = texts_at (keys t.numbers) t.places.items;
+      known = t.numbers.entries;
+    } };
 
-    ghost invariant = { λ t. IsHashed t.least.entries t.places.items };
+    ghost invariant = { λ t. IsHashed t.numbers.entries t.places.items };
 }
 
 impl Texts for HashTexts {
-    ghost texts = { λ t. t };
+    ghost texts = { λ t. t.texts };
+
+    ghost known = { λ t. t.known };
 
     fn new(alloc: Global) -> HashTexts {
         HashTexts {
-            least: IndexMap::new(alloc),
             places: Vec::new(alloc),
+            numbers: IndexMap::new(alloc),
         }
     }
 
@@ -48,33 +51,38 @@ impl Texts for HashTexts {
 
     fn at(&self, place: u32) -> Option<&Txt> {
         let index = *self.places.get(place as usize)?;
-        let (text, _) = self.least.get_index(index as usize)?;
+        let (text, _) = self.numbers.get_index(index as usize)?;
         Some(text)
     }
 
     fn of(&self, text: &Txt) -> Option<u32> {
-        if self.least.len() <= COMPARED {
-            return compared(&self.least, text);
+        if self.numbers.len() <= COMPARED {
+            return compared(&self.numbers, text);
         }
-        self.least.get(text).copied()
+        self.numbers.get(text).copied()
     }
 
-    fn least(&self, place: u32) -> u32 {
-        let index = self.places[place as usize];
-        let (_, least) = self.least.get_index(index as usize).unwrap();
-        *least
+    fn number(&self, place: u32) -> Option<u32> {
+        let index = *self.places.get(place as usize)?;
+        let (_, number) = self.numbers.get_index(index as usize)?;
+        Some(*number)
     }
 
-    fn push(&mut self, text: Txt) -> Result<(), AllocError> {
-        let place = self.places.len() as u32;
+    fn push(&mut self, text: Txt, number: u32) -> Result<(), AllocError> {
         self.places.reserve(1)?;
-        if let Some(index) = self.least.get_index_of(&text) {
+        if let Some(index) = self.numbers.get_index_of(&text) {
             self.places.push_reserved(index as u32);
             return Ok(());
         }
-        let (index, _) = self.least.insert_full(text, place)?;
+        let (index, _) = self.numbers.insert_full(text, number)?;
         self.places.push_reserved(index as u32);
         Ok(())
+    }
+
+    fn clear(&mut self) {
+        self.places.clear();
+        // `IndexMap::clear` walks all the room, which may be far more than what goes.
+        self.numbers.truncate(0);
     }
 }
 
@@ -86,11 +94,11 @@ fn is_same(text: &Txt, other: &Txt) -> bool
     text.count() == other.count() && text.same(other)
 }
 
-/// The place beside a text, which is compared with each in turn.
-fn compared(least: &IndexMap<Txt, u32>, text: &Txt) -> Option<u32>
-    ensures { result ≡ lookup (bytes_eq text.now) least.now.entries }
+/// The number beside a text, which is compared with each in turn.
+fn compared(numbers: &IndexMap<Txt, u32>, text: &Txt) -> Option<u32>
+    ensures { result ≡ lookup (bytes_eq text.now) numbers.now.entries }
 {
-    for entry in least.iter() {
+    for entry in numbers.iter() {
         if is_same(text, entry.0) {
             return Some(*entry.1);
         }

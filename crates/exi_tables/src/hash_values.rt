@@ -47,6 +47,12 @@ impl ValueStore for HashValues {
         }
     }
 
+    fn restart(&mut self, most: Option<u128>, capacity: Option<u128>) {
+        self.values.restart(most, capacity);
+        // `IndexMap::clear` walks all the room, which may be far more than what goes.
+        self.index.truncate(0);
+    }
+
     fn count(&self) -> u32 {
         self.values.count()
     }

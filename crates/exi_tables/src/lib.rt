@@ -32,6 +32,9 @@
 //!
 //! # Implementations
 //!
+//! [`FirstTables`] are the tables with which a stream begins, made once. All tables hold a share of them and what was
+//! added: they start without memory, and start again with the room that they have.
+//!
 //! [`Tables`] is what readers and writers need: each partition's count, its texts by place, the least place of
 //! a text, and growth at a miss. Three kinds meet it; each keeps a text no longer than it is live and stores a
 //! value's text once, and no look-up takes memory. What the proofs say is the same for all; the steps below
@@ -58,6 +61,8 @@
 //! of its live values alone, and gives room back once it has four times too much.
 #![tactic(auto)]
 
+mod added;
+mod first_tables;
 mod hash_texts;
 mod hash_values;
 pub mod laws;
@@ -73,6 +78,7 @@ mod tables;
 mod texts;
 mod value_store;
 
+pub use first_tables::FirstTables;
 use hash_texts::HashTexts;
 use hash_values::HashValues;
 use list_texts::ListTexts;

@@ -1,37 +1,50 @@
-ghost use Rattle.std.specs.Prelude.{◌≡◌, ◌<◌, ◌^◌, position};
+ghost use Rattle.std.specs.Prelude.{◌≡◌, ◌<◌, ◌^◌};
+ghost use Rattle.std.specs.Map.{lookup};
 ghost use Rattle.std.specs.Option.{ForSome};
 ghost use Rattle.std.specs.Str.{bytes_eq};
+ghost use Rattle.exi_tables.specs.Kept.{pairs_of};
 
 use crate::texts::Texts;
 use exi_names::Txt;
 use std::alloc::{AllocError, Global};
 use std::marker::Model;
 
-/// Texts as a plain list, each beside the least place that has it.
+/// A text and the number beside it.
+#[derive(Debug, Drop)]
+struct Numbered {
+    text: Txt,
+    number: u32,
+}
+
+/// Texts as a plain list, each beside its number.
 #[derive(Debug, Drop)]
 pub struct ListTexts {
-    items: Vec<Txt>,
-    least: Vec<u32>,
+    items: Vec<Numbered>,
 }
 
 impl Model for ListTexts {
-    ghost use Rattle.std.specs.Prelude.{List, ℕ};
-    ghost use Rattle.exi_tables.specs.Kept.{IsLeastKept};
+    ghost use Rattle.std.specs.Prelude.{◌<◌, ◌^◌, length, map};
+    ghost use Rattle.exi_tables.specs.Added.{TextTable};
+    ghost use Rattle.exi_tables.specs.Kept.{pairs_of};
 
-    ghost Value = { List (List ℕ) };
+    ghost Value = { TextTable };
 
-    ghost view = { λ t. t.items.items };
+    ghost view = { λ t. record {
+      texts = map (λ i. i.text) t.items.items;
+      known = pairs_of t.items.items;
+    } };
 
-    ghost invariant = { λ t. IsLeastKept t.items.items t.least.items };
+    ghost invariant = { λ t. length t.items.items < 2 ^ 32 };
 }
 
 impl Texts for ListTexts {
-    ghost texts = { λ t. t };
+    ghost texts = { λ t. t.texts };
+
+    ghost known = { λ t. t.known };
 
     fn new(alloc: Global) -> ListTexts {
         ListTexts {
             items: Vec::new(alloc),
-            least: Vec::new(alloc),
         }
     }
 
@@ -40,25 +53,41 @@ impl Texts for ListTexts {
     }
 
     fn at(&self, place: u32) -> Option<&Txt> {
-        self.items.get(place as usize)
+        match self.items.get(place as usize) {
+            Some(item) => Some(&item.text),
+            None => None,
+        }
     }
 
     fn of(&self, text: &Txt) -> Option<u32> {
-        narrowed(least_text(&self.items, text))
+        number_of(&self.items, text)
     }
 
-    fn least(&self, place: u32) -> u32 {
-        self.least[place as usize]
+    fn number(&self, place: u32) -> Option<u32> {
+        self.of(self.at(place)?)
     }
 
-    fn push(&mut self, text: Txt) -> Result<(), AllocError> {
-        let place = self.items.len() as u32;
-        let least = self.of(&text).unwrap_or(place);
-        self.least.reserve(1)?;
-        self.items.push(text)?;
-        self.least.push_reserved(least);
+    fn push(&mut self, text: Txt, number: u32) -> Result<(), AllocError> {
+        let number = self.of(&text).unwrap_or(number);
+        self.items.push(Numbered { text, number })?;
         Ok(())
     }
+
+    fn clear(&mut self) {
+        self.items.clear();
+    }
+}
+
+/// The number beside a text.
+fn number_of(items: &[Numbered], text: &Txt) -> Option<u32>
+    ensures { result ≡ lookup (bytes_eq text.now) (pairs_of items.now) }
+{
+    for item in items {
+        if text.same(&item.text) {
+            return Some(item.number);
+        }
+    }
+    None
 }
 
 /// A place that is a number of 32 bits.
@@ -70,11 +99,4 @@ pub fn narrowed(place: Option<usize>) -> Option<u32>
         Some(place) => Some(place as u32),
         None => None,
     }
-}
-
-/// The least place of a text.
-fn least_text(texts: &[Txt], text: &Txt) -> Option<usize>
-    ensures { result ≡ position (λ t. bytes_eq t text.now) texts.now }
-{
-    texts.iter().position(|t| t.same(text))
 }

@@ -45,6 +45,13 @@ impl ValueStore for ListValues {
         }
     }
 
+    fn restart(&mut self, most: Option<u128>, capacity: Option<u128>) {
+        self.bounds = Bounds { most, capacity };
+        self.live.clear();
+        self.next = 0;
+        self.given.clear();
+    }
+
     fn count(&self) -> u32 {
         self.live.len() as u32
     }

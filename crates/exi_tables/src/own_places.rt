@@ -9,6 +9,9 @@ use std::alloc::{AllocError, Global};
 use std::collections::VecDeque;
 use std::marker::Model;
 
+/// For how many places under a name room is kept at most.
+const SPARE: usize = 16;
+
 /// The places given under a name. Of the last of them, from `first` on, the places among all are kept.
 #[derive(Drop)]
 struct OwnRow {
@@ -29,12 +32,12 @@ impl Model for OwnRow {
 }
 
 impl OwnRow {
-    /// The first place under a name.
-    fn one(alloc: Global, name: NameId, global: u32) -> Result<OwnRow, AllocError>
+    /// The first place under a name, in this room.
+    fn one(mut places: VecDeque<u32>, name: NameId, global: u32) -> Result<OwnRow, AllocError>
         ensures { IfOk result (λ row.
             row ≡ record { name = name; first = 0; places = global ∷ [] }) }
     {
-        let mut places = VecDeque::new(alloc);
+        places.clear();
         places.push_back(global)?;
         Ok(OwnRow {
             name,
@@ -95,6 +98,8 @@ impl OwnRow {
 pub struct OwnPlaces {
     numbers: NameMap<usize>,
     rows: Vec<OwnRow>,
+    /// The room of rows that were cleared.
+    spares: Vec<VecDeque<u32>>,
 }
 
 impl Model for OwnPlaces {
@@ -116,6 +121,17 @@ impl OwnPlaces {
         OwnPlaces {
             numbers: NameMap::new(alloc),
             rows: Vec::new(alloc),
+            spares: Vec::new(alloc),
+        }
+    }
+
+    /// Removes all, and keeps room for each name's next few places.
+    pub fn clear(&mut self, alloc: Global)
+        ensures { self.new ≡ [] }
+    {
+        self.numbers = NameMap::new(alloc);
+        while let Some(row) = self.rows.pop() {
+            keep(&mut self.spares, row.places);
         }
     }
 
@@ -209,9 +225,12 @@ impl OwnPlaces {
             kept_place self.new n local ≡ kept_place self.old n local) }
         ensures err { OnErr result (self.new ≡ self.old) }
     {
-        let row = OwnRow::one(alloc, name, global)?;
+        let number = self.rows.len();
         self.rows.reserve(1)?;
-        self.numbers.insert(alloc, name, self.rows.len())?;
+        self.spares.reserve(number + 1)?;
+        let places = self.spares.pop().unwrap_or(VecDeque::new(alloc));
+        let row = OwnRow::one(places, name, global)?;
+        self.numbers.insert(alloc, name, number)?;
         self.rows.push_reserved(row);
         Ok(0)
     }
@@ -226,5 +245,14 @@ impl OwnPlaces {
         if let Some(number) = self.numbers.get(name).copied() {
             self.rows[number].forget(local);
         }
+    }
+}
+
+/// Keeps the room for a few places, where there is a place for it.
+fn keep(spares: &mut Vec<VecDeque<u32>>, mut places: VecDeque<u32>) {
+    places.clear();
+    places.shrink_to(SPARE);
+    if spares.len() < spares.capacity() {
+        spares.push_reserved(places);
     }
 }

@@ -1,71 +1,38 @@
-ghost use Rattle.std.specs.Prelude.{◌≡◌, [], ◌∷◌, ◌<◌, ◌≤◌, ◌-◌, ◌^◌, ℕ, length, slice_get, IfOk, IfSome};
-ghost use Rattle.std.specs.Str.{chars};
-ghost use Rattle.exi_tables.specs.Kept.{spaces_from};
-ghost use Rattle.exi_tables.specs.Partitions.{first_prefixes, locals, prefixes, uris};
-
+use crate::added::{Added, AddedLists};
+use crate::first_tables::FirstTables;
 use crate::standing::Standing;
 use crate::tables::Tables;
 use crate::texts::Texts;
 use crate::value_store::ValueStore;
-use exi_names::{NameId, StartNames, Txt, TxtList};
+use exi_names::{NameId, Txt};
 use std::alloc::{AllocError, Global};
 use std::marker::Model;
 
-/// The local names and the prefixes of a URI.
-#[derive(Drop)]
-struct Space<T: Texts + Drop> {
-    locals: T,
-    prefixes: T,
-}
-
-impl<T: Texts + Drop> Model for Space<T> {
-    ghost use Rattle.exi_tables.specs.Kept.{Space as Seen};
-
-    ghost Value = { Seen };
-
-    ghost view = { λ s. record { locals = T.texts s.locals; prefixes = T.texts s.prefixes } };
-}
-
-/// String tables over lists of texts and a store of values.
+/// String tables: first ones, which others share, what was added to their lists, and a store of values.
+///
+/// A text that was added is found without a look at the first ones.
 #[derive(Drop)]
 pub struct Partitioned<T: Texts + Drop, V: ValueStore + Drop> {
     alloc: Global,
-    uris: T,
-    spaces: Vec<Space<T>>,
+    first: FirstTables,
+    uris: Added<T>,
+    locals: AddedLists<T>,
+    prefixes: AddedLists<T>,
     values: V,
 }
 
 impl<T: Texts + Drop, V: ValueStore + Drop> Model for Partitioned<T, V> {
-    ghost use Rattle.std.specs.Prelude.{◌≡◌, length};
-    ghost use Rattle.exi_tables.specs.Kept.{with_spaces};
+    ghost use Rattle.exi_tables.specs.Added.{IsJoined, joined};
     ghost use Rattle.exi_tables.specs.Partitions.{Partitions};
 
     ghost Value = { Partitions };
 
     ghost view = { λ t. record {
-      namespaces = with_spaces (T.texts t.uris) t.spaces.items;
+      namespaces = joined t.first t.uris t.locals t.prefixes;
       values = V.table t.values;
     } };
 
-    ghost invariant = { λ t. length t.spaces.items ≡ length (T.texts t.uris) };
-}
-
-impl<T: Texts + Drop, V: ValueStore + Drop> Partitioned<T, V> {
-    /// The URIs.
-    fn uri_texts(&self) -> &T
-        ensures { T.texts result.now ≡ uris self.now }
-    {
-        &self.uris
-    }
-
-    /// The space of the URI at a place.
-    fn space(&self, uri: u32) -> &Space<T>
-        requires { uri < length (uris self.now) }
-        ensures locals { result.now.locals ≡ locals self.now uri }
-        ensures prefixes { result.now.prefixes ≡ prefixes self.now uri }
-    {
-        &self.spaces[uri as usize]
-    }
+    ghost invariant = { λ t. IsJoined t.first t.uris t.locals t.prefixes };
 }
 
 impl<T: Texts + Drop, V: ValueStore + Drop> Tables for Partitioned<T, V> {
@@ -73,84 +40,122 @@ impl<T: Texts + Drop, V: ValueStore + Drop> Tables for Partitioned<T, V> {
 
     fn start(
         alloc: Global,
-        names: &StartNames,
+        first: FirstTables,
         most: Option<u128>,
         capacity: Option<u128>,
-    ) -> Result<Partitioned<T, V>, AllocError> {
-        let uris = texts_of(alloc, names.uris().as_slice())?;
-        let spaces = first_spaces(alloc, names.locals().as_slice())?;
-        Ok(Partitioned {
+    ) -> Partitioned<T, V> {
+        Partitioned {
             alloc,
-            uris,
-            spaces,
+            uris: Added::new(alloc, first.uris()),
+            locals: AddedLists::new(alloc),
+            prefixes: AddedLists::new(alloc),
             values: V::new(alloc, most, capacity),
-        })
+            first,
+        }
+    }
+
+    fn restart(&mut self, first: FirstTables, most: Option<u128>, capacity: Option<u128>) {
+        self.uris.clear(first.uris());
+        self.locals.clear();
+        self.prefixes.clear();
+        self.values.restart(most, capacity);
+        self.first = first;
     }
 
     fn uris(&self) -> u32 {
-        self.uri_texts().count()
+        self.uris.count()
     }
 
     fn uri_at(&self, place: u32) -> Option<&Txt> {
-        self.uri_texts().at(place)
+        match self.uris.at(place) {
+            Some(text) => Some(text),
+            None => self.first.uri_at(place),
+        }
     }
 
     fn uri_of(&self, text: &Txt) -> Option<u32> {
-        self.uri_texts().of(text)
+        match self.uris.of(text) {
+            Some(place) => Some(place),
+            None => self.first.uri_of(text),
+        }
     }
 
     fn least_uri(&self, place: u32) -> u32 {
-        self.uri_texts().least(place)
+        match self.uris.least(place) {
+            Some(least) => least,
+            None => self.first.least_uri(place).unwrap(),
+        }
     }
 
     fn add_uri(&mut self, text: Txt) -> Result<u32, AllocError> {
         let place = self.uris();
-        self.spaces.reserve(1)?;
-        self.uris.push(text)?;
-        self.spaces.push_reserved(Space {
-            locals: T::new(self.alloc),
-            prefixes: T::new(self.alloc),
-        });
+        let least = self.first.uri_of(&text).unwrap_or(place);
+        self.uris.push(self.first.uris(), text, least)?;
         Ok(place)
     }
 
     fn locals(&self, uri: u32) -> u32 {
-        self.space(uri).locals.count()
+        match self.locals.count(uri) {
+            Some(count) => count,
+            None => self.first.locals(uri),
+        }
     }
 
     fn local_at(&self, uri: u32, place: u32) -> Option<&Txt> {
-        self.space(uri).locals.at(place)
+        match self.locals.at(uri, place) {
+            Some(text) => Some(text),
+            None => self.first.local_at(uri, place),
+        }
     }
 
     fn local_of(&self, uri: u32, text: &Txt) -> Option<u32> {
-        self.space(uri).locals.of(text)
+        match self.locals.of(uri, text) {
+            Some(place) => Some(place),
+            None => self.first.local_of(uri, text),
+        }
     }
 
     fn least_local(&self, uri: u32, place: u32) -> u32 {
-        self.space(uri).locals.least(place)
+        match self.locals.least(uri, place) {
+            Some(least) => least,
+            None => self.first.least_local(uri, place).unwrap(),
+        }
     }
 
     fn add_local(&mut self, uri: u32, text: Txt) -> Result<u32, AllocError> {
         let place = self.locals(uri);
-        self.spaces[uri as usize].locals.push(text)?;
+        let first = self.first.locals(uri);
+        let least = self.first.local_of(uri, &text).unwrap_or(place);
+        self.locals.push(self.alloc, uri, first, text, least)?;
         Ok(place)
     }
 
     fn prefixes(&self, uri: u32) -> u32 {
-        self.space(uri).prefixes.count()
+        match self.prefixes.count(uri) {
+            Some(count) => count,
+            None => self.first.prefixes(uri),
+        }
     }
 
     fn prefix_at(&self, uri: u32, place: u32) -> Option<&Txt> {
-        self.space(uri).prefixes.at(place)
+        match self.prefixes.at(uri, place) {
+            Some(text) => Some(text),
+            None => self.first.prefix_at(uri, place),
+        }
     }
 
     fn prefix_of(&self, uri: u32, text: &Txt) -> Option<u32> {
-        self.space(uri).prefixes.of(text)
+        match self.prefixes.of(uri, text) {
+            Some(place) => Some(place),
+            None => self.first.prefix_of(uri, text),
+        }
     }
 
     fn add_prefix(&mut self, uri: u32, text: Txt) -> Result<u32, AllocError> {
         let place = self.prefixes(uri);
-        self.spaces[uri as usize].prefixes.push(text)?;
+        let first = self.first.prefixes(uri);
+        let least = self.first.prefix_of(uri, &text).unwrap_or(place);
+        self.prefixes.push(self.alloc, uri, first, text, least)?;
         Ok(place)
     }
 
@@ -198,54 +203,4 @@ impl<T: Texts + Drop, V: ValueStore + Drop> Tables for Partitioned<T, V> {
         self.values.add(name, text)?;
         Ok(())
     }
-}
-
-/// These texts, copied.
-fn texts_of<T: Texts + Drop>(alloc: Global, texts: &[Txt]) -> Result<T, AllocError>
-    requires { length texts.now < 2 ^ 32 - 1 }
-    ensures { IfOk result (λ copy. T.texts copy ≡ texts.now) }
-{
-    let mut copy = T::new(alloc);
-    for text in texts {
-        copy.push(text.copy()?)?;
-    }
-    Ok(copy)
-}
-
-/// The first spaces: these local names, and the first prefixes.
-fn first_spaces<T: Texts + Drop>(
-    alloc: Global,
-    names: &[TxtList],
-) -> Result<Vec<Space<T>>, AllocError>
-    requires { (place : ℕ) → IfSome (slice_get names.now place) (λ list. length list ≤ 2 ^ 30) }
-    ensures { IfOk result (λ list. list.items ≡ spaces_from 0 names.now) }
-{
-    let mut spaces = Vec::new(alloc);
-    for (place, list) in names.iter().enumerate() {
-        let locals = texts_of(alloc, list.as_slice())?;
-        let prefixes = first_prefixes(alloc, place)?;
-        spaces.push(Space { locals, prefixes })?;
-    }
-    Ok(spaces)
-}
-
-/// The first prefixes of the URI at a place: one for each of the first three.
-fn first_prefixes<T: Texts + Drop>(alloc: Global, uri: usize) -> Result<T, AllocError>
-    ensures { IfOk result (λ list. T.texts list ≡ first_prefixes uri) }
-{
-    match uri {
-        0 => text_alone(alloc, ""),
-        1 => text_alone(alloc, "xml"),
-        2 => text_alone(alloc, "xsi"),
-        _ => Ok(T::new(alloc)),
-    }
-}
-
-/// This text alone.
-fn text_alone<T: Texts + Drop>(alloc: Global, text: &str) -> Result<T, AllocError>
-    ensures { IfOk result (λ list. T.texts list ≡ chars text.now ∷ []) }
-{
-    let mut list = T::new(alloc);
-    list.push(Txt::of(alloc, text)?)?;
-    Ok(list)
 }

@@ -102,6 +102,13 @@ impl ValueStore for PlaceValues {
         }
     }
 
+    fn restart(&mut self, most: Option<u128>, capacity: Option<u128>) {
+        self.bounds = Bounds { most, capacity };
+        self.live.clear();
+        self.next = 0;
+        self.own.clear(self.alloc);
+    }
+
     fn count(&self) -> u32 {
         self.live.len() as u32
     }

@@ -20,8 +20,9 @@ ghost use Rattle.exi_tables.specs.Partitions.{
 };
 ghost use Rattle.exi_tables.specs.Values.{StandsAs, name_place};
 
+use crate::first_tables::FirstTables;
 use crate::standing::Standing;
-use exi_names::{NameId, StartNames, Txt};
+use exi_names::{NameId, Txt};
 use std::alloc::{AllocError, Global};
 
 /// String tables: URIs, for each URI its local names and its prefixes, the values of all names, and those
@@ -34,24 +35,21 @@ use std::alloc::{AllocError, Global};
 pub trait Tables {
     ghost held: { Self → Partitions };
 
-    /// The tables at the start of a stream (EXI 1.0, appendix D): these names, the prefixes "",
-    /// `xml` and `xsi` for the first three URIs, and no values. Values of more than `most` characters are
-    /// never added, and of those that are, the last `capacity` are live (EXI 1.0, section 7.3.3). No room is
-    /// made for the capacity, which may be any number.
+    /// The tables at the start of a stream (EXI 1.0, appendix D): the first tables, and no values. Values of more than
+    /// `most` characters are never added, and of those that are, the last `capacity` are live (EXI 1.0, section 7.3.3).
+    /// No room is made for the capacity, which may be any number.
     ///
-    /// # Errors
-    ///
-    /// `AllocError` where memory is refused.
-    fn start(
-        alloc: Global,
-        names: &StartNames,
-        most: Option<u128>,
-        capacity: Option<u128>,
-    ) -> Result<Self, AllocError>
+    /// It takes no memory, and no time that grows with the first tables.
+    fn start(alloc: Global, first: FirstTables, most: Option<u128>, capacity: Option<u128>) -> Self
     where
         Self: Sized,
-        ensures { IfOk result (λ tables.
-            held tables ≡ first_partitions names.now most capacity) };
+        ensures { held result ≡ first_partitions first most capacity };
+
+    /// Starts again, with the room that there is: nothing is left of what was added.
+    ///
+    /// It takes no memory. Its time grows with what was added, not with the first tables.
+    fn restart(&mut self, first: FirstTables, most: Option<u128>, capacity: Option<u128>)
+        ensures { held self.new ≡ first_partitions first most capacity };
 
     /// How many URIs there are.
     fn uris(&self) -> u32

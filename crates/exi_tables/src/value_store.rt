@@ -27,6 +27,10 @@ pub trait ValueStore {
         Self: Sized,
         ensures { table result ≡ no_values (record { most = most; capacity = capacity }) };
 
+    /// Starts again with no values, within these bounds, and keeps the room.
+    fn restart(&mut self, most: Option<u128>, capacity: Option<u128>)
+        ensures { table self.new ≡ no_values (record { most = most; capacity = capacity }) };
+
     /// How many values are live.
     fn count(&self) -> u32
         ensures { result ≡ length (texts_of (table self.now)) };

@@ -1,24 +1,9 @@
-//! Tests of the crates of bits, plain data, values and texts: each public call once, where memory is ample.
+//! Tests of calls of the crate of plain data that no program of this repository makes, where memory is ample.
 //!
-//! A test is proved like code, and a crate that has tests of its own is proved a second time with them. Here they stand over
-//! crates that are proved once.
+//! What the programs call is seen by their cases: `exi_conformance` and its kin answer cases of single calls, and `exi` those of
+//! whole streams. A test is proved like code, and a crate that has tests of its own is proved a second time with them. Here they
+//! stand over a crate that is proved once.
 #![tactic(auto)]
 
 #[cfg(test)]
-mod bits;
-#[cfg(test)]
-mod calendar;
-#[cfg(test)]
-mod lexical;
-#[cfg(test)]
-mod moment;
-#[cfg(test)]
 mod names;
-#[cfg(test)]
-mod numerals;
-#[cfg(test)]
-mod pattern;
-#[cfg(test)]
-mod scalar;
-#[cfg(test)]
-mod text;

@@ -9,12 +9,12 @@ use Rattle.exi_gram.specs.Laws.{codes}
 use Rattle.exi_gram.specs.Switches.{align_of}
 use Rattle.exi_meter.specs.Metering.{Metering}
 use Rattle.exi_names.specs.Events.{Happening}
-use Rattle.exi_reader.specs.Configurations.{Config, Setting, rules_of}
-use Rattle.exi_reader.specs.OneEvent.{remembered}
-use Rattle.exi_reader.specs.Plans.{Given, Plan, plan_of}
-use Rattle.exi_reader.specs.Rules.{Rule}
-use Rattle.exi_reader.specs.Runs.{has_ended}
-use Rattle.exi_reader.specs.Spelled.{further}
+use Rattle.exi_processing.specs.Configurations.{Config, Setting, rules_of}
+use Rattle.exi_processing.specs.OneEvent.{remembered}
+use Rattle.exi_processing.specs.Plans.{Given, Plan, plan_of}
+use Rattle.exi_processing.specs.Rules.{Rule}
+use Rattle.exi_processing.specs.Runs.{has_ended}
+use Rattle.exi_processing.specs.Spelled.{further}
 use Rattle.exi_writing.specs.OneEvent.{Refused, Written, at_end as finished, behind, behind_code, by_code, chosen, followed, followed_by, is_taken, matches, one_deeper, one_more, padding, paid, written, written_by}
 use Rattle.exi_writing.specs.Pieces.{Piece}
 use Rattle.exi_writing.proofs.OneEvent.{bind_parts, context, fewest_stands}

@@ -8,18 +8,18 @@ use Rattle.exi_bits.proofs.BitLaws.{length-bits, number_bits-value_of, value_of_
 use Rattle.exi_gram.specs.Switches.{align_of}
 use Rattle.exi_names.specs.Events.{Happening}
 use Rattle.exi_names.specs.Events as event
-use Rattle.exi_reader.specs.Changes.{put_aside}
-use Rattle.exi_reader.specs.Configurations.{Config, first_config, spot_in}
-use Rattle.exi_reader.specs.Handing.{IsSteady}
-use Rattle.exi_reader.specs.OneEvent.{one}
-use Rattle.exi_reader.specs.Plans.{Given}
-use Rattle.exi_reader.specs.Reading.{IsReached, Reading}
-use Rattle.exi_reader.specs.Runs.{has_ended}
-use Rattle.exi_reader.specs.Splices.{AtFragment}
-use Rattle.exi_reader.specs.Spelled.{IsIn}
-use Rattle.exi_reader.proofs.Reached.{reached_are_sound}
-use Rattle.exi_reader.proofs.Steady.{steady}
-use Rattle.exi_reader.proofs.Turning.{leads_push, stays_fragment, turn_went, view}
+use Rattle.exi_processing.specs.Changes.{put_aside}
+use Rattle.exi_processing.specs.Configurations.{Config, first_config, spot_in}
+use Rattle.exi_processing.specs.Handing.{IsSteady}
+use Rattle.exi_processing.specs.OneEvent.{one}
+use Rattle.exi_processing.specs.Plans.{Given}
+use Rattle.exi_processing.specs.Reading.{IsReached, Reading}
+use Rattle.exi_processing.specs.Runs.{has_ended}
+use Rattle.exi_processing.specs.Splices.{AtFragment}
+use Rattle.exi_processing.specs.Spelled.{IsIn}
+use Rattle.exi_processing.proofs.Reached.{reached_are_sound}
+use Rattle.exi_processing.proofs.Steady.{steady}
+use Rattle.exi_processing.proofs.Turning.{leads_push, stays_fragment, turn_went, view}
 use Rattle.exi_writing.specs.Laws.{IsStep, OneIsRead}
 use Rattle.exi_writing.specs.OneEvent.{Refused, Written, written}
 use Rattle.exi_writing.specs.Runs.{Run, in_front, nothing_from, then_run, written_all}

@@ -26,14 +26,14 @@ use Rattle.exi_names.specs.StartTables.{Names}
 use Rattle.exi_names.specs.declared.names.QName.{QName}
 use Rattle.exi_names.specs.Events.{Happening}
 use Rattle.exi_names.specs.Events as event
-use Rattle.exi_reader.specs.Configurations.{Body, Config, Setting, alone_rules, built_in, in_book, rules_of}
+use Rattle.exi_processing.specs.Configurations.{Body, Config, Setting, alone_rules, built_in, in_book, rules_of}
 use Rattle.exi_gram.specs.Globals.{same_texts}
-use Rattle.exi_reader.specs.Plans.{Plan, at_first, plan_of, plan_on}
-use Rattle.exi_reader.specs.Rules.{Rule, Telling, Terminal, attribute, book_rule, characters, comment, declaration, document_type, element, end_document, end_element, entity, instruction, known, self_contained, spelled, start_document, under}
-use Rattle.exi_reader.specs.declared.frames.Element.{Element}
-use Rattle.exi_reader.specs.declared.frames.Outer.{Outer}
-use Rattle.exi_reader.specs.declared.frames.Outer.TheVariants as outer
-use Rattle.exi_reader.specs.declared.start.Start.{Start}
+use Rattle.exi_processing.specs.Plans.{Plan, at_first, plan_of, plan_on}
+use Rattle.exi_processing.specs.Rules.{Rule, Telling, Terminal, attribute, book_rule, characters, comment, declaration, document_type, element, end_document, end_element, entity, instruction, known, self_contained, spelled, start_document, under}
+use Rattle.exi_processing.specs.declared.frames.Element.{Element}
+use Rattle.exi_processing.specs.declared.frames.Outer.{Outer}
+use Rattle.exi_processing.specs.declared.frames.Outer.TheVariants as outer
+use Rattle.exi_processing.specs.declared.start.Start.{Start}
 use Rattle.exi_tables.specs.Partitions.{Partitions}
 use Rattle.exi_toll.specs.declared.stop.PutStop.{PutStop}
 use Rattle.exi_toll.specs.declared.stop.PutStop.TheVariants as stop

@@ -4,8 +4,8 @@ use Rattle.std.specs.Prelude.{◌≤◌, Result, Ok, Err, IsSome, is_some}
 use Rattle.exi_meter.specs.Metering.{Bounds}
 use Rattle.exi_names.specs.Events.{Happening}
 use Rattle.exi_pen.specs.Steps.{begins_fragment}
-use Rattle.exi_reader.specs.Configurations.{Config, Setting}
-use Rattle.exi_reader.specs.Runs.{has_ended}
+use Rattle.exi_processing.specs.Configurations.{Config, Setting}
+use Rattle.exi_processing.specs.Runs.{has_ended}
 use Rattle.exi_toll.specs.declared.stop.PutStop.{PutStop}
 use Rattle.exi_toll.specs.declared.stop.PutStop.TheVariants as stop
 use Rattle.exi_writing.specs.OneEvent.{Refused, Written, ◌>>=◌, limit, not_derived, written}

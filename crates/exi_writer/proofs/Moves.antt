@@ -12,19 +12,19 @@ use Rattle.exi_names.specs.Events.{Happening}
 use Rattle.exi_names.specs.Events as event
 use Rattle.exi_builtin.specs.declared.learnable.Learned.{Learned}
 use Rattle.exi_builtin.specs.declared.learnable.Learned.TheVariants as used
-use Rattle.exi_reader.specs.Changes.{Effect, effect_of, effected, emptied, emptied_elements, enclosing, fragment_at, has_level, leads, learns_name, moved_elements, outer_behind, restated, resumed, retyped, stays}
-use Rattle.exi_reader.specs.Configurations.{Body, Config, Setting, outer_rules, rules_in, rules_of}
-use Rattle.exi_reader.specs.OneEvent.{remembered}
-use Rattle.exi_reader.specs.Plans.{Alone, Given, Plan, alone_in, at_end, at_first, at_start, ended_in, nowhere, outer_alone, plan_of, plan_on}
-use Rattle.exi_reader.specs.Rules.{Rule, Telling, Terminal, attribute, characters, comment, declaration, document_type, element, end_document, end_element, entity, fragment_start, instruction, known, self_contained, spelled, start_document, under}
-use Rattle.exi_reader.specs.Runs.{has_ended, is_end}
-use Rattle.exi_reader.specs.Sound.{IsSound, IsSoundAside, IsWhereOpen}
-use Rattle.exi_reader.specs.Spelled.{further}
-use Rattle.exi_reader.specs.declared.frames.Element.{Element}
-use Rattle.exi_reader.specs.declared.frames.Outer.{Outer}
-use Rattle.exi_reader.specs.declared.frames.Outer.TheVariants as outer
-use Rattle.exi_reader.specs.declared.frames.State.{State}
-use Rattle.exi_reader.specs.declared.frames.State.TheVariants as state
+use Rattle.exi_processing.specs.Changes.{Effect, effect_of, effected, emptied, emptied_elements, enclosing, fragment_at, has_level, leads, learns_name, moved_elements, outer_behind, restated, resumed, retyped, stays}
+use Rattle.exi_processing.specs.Configurations.{Body, Config, Setting, outer_rules, rules_in, rules_of}
+use Rattle.exi_processing.specs.OneEvent.{remembered}
+use Rattle.exi_processing.specs.Plans.{Alone, Given, Plan, alone_in, at_end, at_first, at_start, ended_in, nowhere, outer_alone, plan_of, plan_on}
+use Rattle.exi_processing.specs.Rules.{Rule, Telling, Terminal, attribute, characters, comment, declaration, document_type, element, end_document, end_element, entity, fragment_start, instruction, known, self_contained, spelled, start_document, under}
+use Rattle.exi_processing.specs.Runs.{has_ended, is_end}
+use Rattle.exi_processing.specs.Sound.{IsSound, IsSoundAside, IsWhereOpen}
+use Rattle.exi_processing.specs.Spelled.{further}
+use Rattle.exi_processing.specs.declared.frames.Element.{Element}
+use Rattle.exi_processing.specs.declared.frames.Outer.{Outer}
+use Rattle.exi_processing.specs.declared.frames.Outer.TheVariants as outer
+use Rattle.exi_processing.specs.declared.frames.State.{State}
+use Rattle.exi_processing.specs.declared.frames.State.TheVariants as state
 use Rattle.exi_pen.specs.Steps.{begins_fragment}
 use Rattle.exi_writing.specs.Contents.{is_sc, written_on}
 use Rattle.exi_writing.specs.OneEvent.{Refused, Written, at_end as finished, behind, behind_code, by_code, chosen, followed, followed_by, matches, one_deeper, one_more, padding, paid, written, written_by}

@@ -14,12 +14,12 @@ use Rattle.exi_names.specs.declared.names.NameId.{NameId}
 use Rattle.exi_names.specs.declared.names.QName.{QName}
 use Rattle.exi_names.specs.Events.{Happening}
 use Rattle.exi_names.specs.Events as event
-use Rattle.exi_reader.specs.Changes.{innermost, learns_name, put_aside, resumed, texts_of}
-use Rattle.exi_reader.specs.Configurations.{Body, Config, Setting}
-use Rattle.exi_reader.specs.OneEvent.{is_start, remembered}
-use Rattle.exi_reader.specs.Plans.{Alone, Given, alone_in, at_end, at_first, at_start, nowhere, plan_on, rooted_in, seen_in}
-use Rattle.exi_reader.specs.Rules.{Rule, Telling, Terminal, attribute, characters, comment, declaration, document_type, element, end_document, end_element, entity, instruction, known, self_contained, spelled, start_document, under}
-use Rattle.exi_reader.specs.Spelled.{further}
+use Rattle.exi_processing.specs.Changes.{innermost, learns_name, put_aside, resumed, texts_of}
+use Rattle.exi_processing.specs.Configurations.{Body, Config, Setting}
+use Rattle.exi_processing.specs.OneEvent.{is_start, remembered}
+use Rattle.exi_processing.specs.Plans.{Alone, Given, alone_in, at_end, at_first, at_start, nowhere, plan_on, rooted_in, seen_in}
+use Rattle.exi_processing.specs.Rules.{Rule, Telling, Terminal, attribute, characters, comment, declaration, document_type, element, end_document, end_element, entity, instruction, known, self_contained, spelled, start_document, under}
+use Rattle.exi_processing.specs.Spelled.{further}
 use Rattle.exi_tables.proofs.Growing.{changed_within, uris_changed}
 use Rattle.exi_tables.proofs.Least.{least_found, least_none}
 use Rattle.exi_tables.specs.Partitions.{Partitions, and_local, least_place, live_at, locals, locals_in, prefixes as prefixes_at, uris, with_local, with_uri}

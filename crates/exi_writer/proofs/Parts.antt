@@ -6,13 +6,13 @@ use Rattle.exi_meter.specs.declared.tally.Tally.{Tally}
 use Rattle.exi_names.specs.Events.{Happening}
 use Rattle.exi_names.specs.declared.names.QName.{QName}
 use Rattle.exi_pen.specs.Pages.{Page, spliced_page}
-use Rattle.exi_reader.specs.Changes.{put_aside, resumed}
-use Rattle.exi_reader.specs.Configurations.{Body, Config, Setting, first_config}
-use Rattle.exi_reader.specs.Runs.{IsSequence, Leads}
-use Rattle.exi_reader.specs.Splices.{GoesAs, Spliced, SplicesAreRuns, on_behind, with_root}
-use Rattle.exi_reader.specs.declared.end.End.{End}
-use Rattle.exi_reader.specs.declared.end.End.TheVariants as end
-use Rattle.exi_reader.specs.declared.start.Start.TheVariants as start
+use Rattle.exi_processing.specs.Changes.{put_aside, resumed}
+use Rattle.exi_processing.specs.Configurations.{Body, Config, Setting, first_config}
+use Rattle.exi_processing.specs.Runs.{IsSequence, Leads}
+use Rattle.exi_processing.specs.Splices.{GoesAs, Spliced, SplicesAreRuns, on_behind, with_root}
+use Rattle.exi_processing.specs.declared.end.End.{End}
+use Rattle.exi_processing.specs.declared.end.End.TheVariants as end
+use Rattle.exi_processing.specs.declared.start.Start.TheVariants as start
 use Rattle.exi_writing.specs.Sound.{AreSound, HasSoundTables}
 use Rattle.exi_writer.proofs.Composed.{ready}
 use Rattle.exi_writer.proofs.Names.{resumed_again}

@@ -17,13 +17,13 @@ use Rattle.exi_gram.specs.Wholes.{document, document_content, document_end, whol
 use Rattle.exi_gram.proofs.CodeTells.{Each, EachOf, each_mapped, each_pruned}
 use Rattle.exi_names.specs.Datatypes as datatype
 use Rattle.exi_names.specs.StartTables.{Names}
-use Rattle.exi_reader.specs.Configurations.{Config, Setting, built_in, element_rules, in_book, outer_rules, rules_in, rules_of}
-use Rattle.exi_reader.specs.Rules.{Rule, Terminal, attribute, book_rule, built_in_rule, built_in_terminal, characters, comment, declaration, document_type, element, end_document, end_element, entity, fragment_start, instruction, self_contained, start_document, untyped}
-use Rattle.exi_reader.specs.declared.frames.Element.{Element}
-use Rattle.exi_reader.specs.declared.frames.Outer.{Outer}
-use Rattle.exi_reader.specs.declared.frames.Outer.TheVariants as outer
-use Rattle.exi_reader.specs.declared.frames.State.{State}
-use Rattle.exi_reader.specs.declared.frames.State.TheVariants as state
+use Rattle.exi_processing.specs.Configurations.{Config, Setting, built_in, element_rules, in_book, outer_rules, rules_in, rules_of}
+use Rattle.exi_processing.specs.Rules.{Rule, Terminal, attribute, book_rule, built_in_rule, built_in_terminal, characters, comment, declaration, document_type, element, end_document, end_element, entity, fragment_start, instruction, self_contained, start_document, untyped}
+use Rattle.exi_processing.specs.declared.frames.Element.{Element}
+use Rattle.exi_processing.specs.declared.frames.Outer.{Outer}
+use Rattle.exi_processing.specs.declared.frames.Outer.TheVariants as outer
+use Rattle.exi_processing.specs.declared.frames.State.{State}
+use Rattle.exi_processing.specs.declared.frames.State.TheVariants as state
 
 abbrev pub IsPlainOn : Terminal → Type 0
 IsPlainOn start_document = Unit {0}

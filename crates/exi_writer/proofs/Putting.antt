@@ -11,21 +11,21 @@ use Rattle.exi_names.specs.Events as event
 use Rattle.exi_names.specs.declared.names.QName.{QName}
 use Rattle.exi_pen.specs.Pages.{IsReady, Page, Writes, WritesFragment, by_chosen, fragment_page, page_behind, refused_meter, refused_page}
 use Rattle.exi_pen.specs.Steps.{StepsAs, begins_fragment, left_of}
-use Rattle.exi_reader.proofs.Steady.{open_name}
-use Rattle.exi_reader.specs.Changes.{has_level, innermost, put_aside, texts_of}
-use Rattle.exi_reader.specs.Configurations.{Body, Config, Setting}
-use Rattle.exi_reader.specs.Handing.{alone_of, fragment_in}
-use Rattle.exi_reader.specs.OneEvent.{one}
-use Rattle.exi_reader.specs.Plans.{Alone, alone_in, at_end, at_first, at_start, nowhere}
-use Rattle.exi_reader.specs.Runs.{has_ended}
-use Rattle.exi_reader.specs.Sound.{IsSound, IsSoundAside}
-use Rattle.exi_reader.specs.Splices.{AtFragment}
-use Rattle.exi_reader.specs.declared.alone.Alone.{Alone as Kept}
-use Rattle.exi_reader.specs.declared.alone.Alone.TheVariants as kept
-use Rattle.exi_reader.specs.declared.frames.Element.{Element}
-use Rattle.exi_reader.specs.declared.frames.Outer.{Outer}
-use Rattle.exi_reader.specs.declared.frames.Outer.TheVariants as outer
-use Rattle.exi_reader.specs.declared.start.Start.{Start}
+use Rattle.exi_processing.proofs.Steady.{open_name}
+use Rattle.exi_processing.specs.Changes.{has_level, innermost, put_aside, texts_of}
+use Rattle.exi_processing.specs.Configurations.{Body, Config, Setting}
+use Rattle.exi_processing.specs.Handing.{alone_of, fragment_in}
+use Rattle.exi_processing.specs.OneEvent.{one}
+use Rattle.exi_processing.specs.Plans.{Alone, alone_in, at_end, at_first, at_start, nowhere}
+use Rattle.exi_processing.specs.Runs.{has_ended}
+use Rattle.exi_processing.specs.Sound.{IsSound, IsSoundAside}
+use Rattle.exi_processing.specs.Splices.{AtFragment}
+use Rattle.exi_processing.specs.declared.alone.Alone.{Alone as Kept}
+use Rattle.exi_processing.specs.declared.alone.Alone.TheVariants as kept
+use Rattle.exi_processing.specs.declared.frames.Element.{Element}
+use Rattle.exi_processing.specs.declared.frames.Outer.{Outer}
+use Rattle.exi_processing.specs.declared.frames.Outer.TheVariants as outer
+use Rattle.exi_processing.specs.declared.start.Start.{Start}
 use Rattle.exi_tables.specs.Partitions.{IsName, Partitions}
 use Rattle.exi_toll.specs.declared.stop.PutStop.{PutStop}
 use Rattle.exi_toll.specs.declared.stop.PutStop.TheVariants as stop

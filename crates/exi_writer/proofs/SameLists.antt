@@ -13,20 +13,20 @@ use Rattle.exi_names.specs.declared.names.QName.{QName}
 use Rattle.exi_typed.specs.Strings.{Named}
 use Rattle.exi_builtin.specs.declared.learnable.Learned.{Learned}
 use Rattle.exi_builtin.specs.declared.learnable.Learned.TheVariants as used
-use Rattle.exi_reader.specs.Changes.{Effect, effect_of, effected, emptied, emptied_elements, enclosing, fragment_at, has_level, inner_state, leads, learns_name, moved_elements, moves, opener, outer_behind, restated, resumed, retyped, stays}
-use Rattle.exi_reader.specs.Configurations.{Body, Config, Setting, body_outer, first_config}
-use Rattle.exi_reader.specs.OneEvent.{remembered}
-use Rattle.exi_reader.specs.Plans.{Alone, Given, alone_in, at_end, at_first, at_start, element_made, ended_in, nowhere, outer_alone, plan_on, seen_in}
-use Rattle.exi_reader.specs.Rules.{Rule, Telling, Terminal, attribute, characters, comment, declaration, document_type, element, end_document, end_element, entity, instruction, known, self_contained, spelled, start_document, under}
-use Rattle.exi_reader.specs.Runs.{events_of, has_ended}
-use Rattle.exi_reader.specs.Spelled.{further}
-use Rattle.exi_reader.proofs.Turning.{events_append}
-use Rattle.exi_reader.specs.declared.frames.Element.{Element}
-use Rattle.exi_reader.specs.declared.frames.Outer.{Outer}
-use Rattle.exi_reader.specs.declared.frames.Outer.TheVariants as outer
-use Rattle.exi_reader.specs.declared.frames.State.{State}
-use Rattle.exi_reader.specs.declared.frames.State.TheVariants as state
-use Rattle.exi_reader.specs.declared.start.Start.TheVariants as start
+use Rattle.exi_processing.specs.Changes.{Effect, effect_of, effected, emptied, emptied_elements, enclosing, fragment_at, has_level, inner_state, leads, learns_name, moved_elements, moves, opener, outer_behind, restated, resumed, retyped, stays}
+use Rattle.exi_processing.specs.Configurations.{Body, Config, Setting, body_outer, first_config}
+use Rattle.exi_processing.specs.OneEvent.{remembered}
+use Rattle.exi_processing.specs.Plans.{Alone, Given, alone_in, at_end, at_first, at_start, element_made, ended_in, nowhere, outer_alone, plan_on, seen_in}
+use Rattle.exi_processing.specs.Rules.{Rule, Telling, Terminal, attribute, characters, comment, declaration, document_type, element, end_document, end_element, entity, instruction, known, self_contained, spelled, start_document, under}
+use Rattle.exi_processing.specs.Runs.{events_of, has_ended}
+use Rattle.exi_processing.specs.Spelled.{further}
+use Rattle.exi_processing.proofs.Turning.{events_append}
+use Rattle.exi_processing.specs.declared.frames.Element.{Element}
+use Rattle.exi_processing.specs.declared.frames.Outer.{Outer}
+use Rattle.exi_processing.specs.declared.frames.Outer.TheVariants as outer
+use Rattle.exi_processing.specs.declared.frames.State.{State}
+use Rattle.exi_processing.specs.declared.frames.State.TheVariants as state
+use Rattle.exi_processing.specs.declared.start.Start.TheVariants as start
 use Rattle.exi_writing.specs.Contents.{written_on}
 use Rattle.exi_writing.specs.OneEvent.{Refused, Written, written}
 use Rattle.exi_writing.specs.Pieces.{Piece}

@@ -5,13 +5,13 @@ use Rattle.exi_gram.specs.Codes.{Coded, coded}
 use Rattle.exi_names.specs.Events.{Happening}
 use Rattle.exi_names.specs.Seen.{Value}
 use Rattle.exi_tables.specs.Partitions.{Partitions}
-use Rattle.exi_reader.specs.Configurations.{Config, Setting, rules_in}
-use Rattle.exi_reader.specs.Plans.{Alone, Given, alone_in, at_end, at_first, at_start, is_event, nowhere, plan_on}
-use Rattle.exi_reader.specs.Rules.{Rule, Terminal, attribute, characters, comment, declaration, document_type, element, end_document, end_element, entity, instruction, self_contained, start_document}
-use Rattle.exi_reader.specs.Spelled.{further}
-use Rattle.exi_reader.specs.declared.frames.Element.{Element}
-use Rattle.exi_reader.specs.declared.frames.Outer.{Outer}
-use Rattle.exi_reader.specs.declared.frames.Outer.TheVariants as outer
+use Rattle.exi_processing.specs.Configurations.{Config, Setting, rules_in}
+use Rattle.exi_processing.specs.Plans.{Alone, Given, alone_in, at_end, at_first, at_start, is_event, nowhere, plan_on}
+use Rattle.exi_processing.specs.Rules.{Rule, Terminal, attribute, characters, comment, declaration, document_type, element, end_document, end_element, entity, instruction, self_contained, start_document}
+use Rattle.exi_processing.specs.Spelled.{further}
+use Rattle.exi_processing.specs.declared.frames.Element.{Element}
+use Rattle.exi_processing.specs.declared.frames.Outer.{Outer}
+use Rattle.exi_processing.specs.declared.frames.Outer.TheVariants as outer
 use Rattle.exi_writing.specs.Contents.{written_on}
 use Rattle.exi_writing.specs.Pieces.{Piece}
 use Rattle.exi_writing.proofs.OneEvent.{context}

@@ -14,12 +14,12 @@ use Rattle.exi_names.specs.Seen.{Value}
 use Rattle.exi_names.specs.Seen as shape
 use Rattle.exi_tables.specs.Partitions.{Partitions}
 use Rattle.exi_typed.specs.Strings.{Named}
-use Rattle.exi_reader.specs.Configurations.{Config, Setting, first_config, rules_of}
-use Rattle.exi_reader.specs.Contents.{represented_by}
-use Rattle.exi_reader.specs.Plans.{alone_in, is_event}
-use Rattle.exi_reader.specs.Rules.{Telling, Terminal, Valuing, attribute, characters, comment, declaration, document_type, element, end_document, end_element, entity, instruction, self_contained, start_document, untyped}
-use Rattle.exi_reader.specs.Runs.{events_of}
-use Rattle.exi_reader.specs.declared.start.Start.TheVariants as start
+use Rattle.exi_processing.specs.Configurations.{Config, Setting, first_config, rules_of}
+use Rattle.exi_processing.specs.Contents.{represented_by}
+use Rattle.exi_processing.specs.Plans.{alone_in, is_event}
+use Rattle.exi_processing.specs.Rules.{Telling, Terminal, Valuing, attribute, characters, comment, declaration, document_type, element, end_document, end_element, entity, instruction, self_contained, start_document, untyped}
+use Rattle.exi_processing.specs.Runs.{events_of}
+use Rattle.exi_processing.specs.declared.start.Start.TheVariants as start
 use Rattle.exi_writing.specs.OneEvent.{matches}
 use Rattle.exi_writing.proofs.OneEvent.{fewest_stands}
 use Rattle.exi_writer.specs.Same.{AreSame, AreSameText, IsText, IsTyped, IsTypedBy, IsValueOf, ListIsSameText, OneIsSameText, pruned_list}

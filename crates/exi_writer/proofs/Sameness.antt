@@ -12,11 +12,11 @@ use Rattle.exi_names.specs.Seen.{Value}
 use Rattle.exi_names.specs.Seen as shape
 use Rattle.exi_tables.specs.Partitions.{Partitions}
 use Rattle.exi_typed.specs.Strings.{Declaration, Named}
-use Rattle.exi_reader.specs.Changes.{innermost}
-use Rattle.exi_reader.specs.Configurations.{Config, Setting}
-use Rattle.exi_reader.specs.Contents.{acts_as_type, is_missing, represented_by}
-use Rattle.exi_reader.specs.Plans.{nowhere, plan_on}
-use Rattle.exi_reader.specs.Rules.{Rule, Telling, Terminal, Valuing, attribute, characters, comment, declaration, document_type, element, end_document, end_element, entity, instruction, known, self_contained, spelled, start_document, under}
+use Rattle.exi_processing.specs.Changes.{innermost}
+use Rattle.exi_processing.specs.Configurations.{Config, Setting}
+use Rattle.exi_processing.specs.Contents.{acts_as_type, is_missing, represented_by}
+use Rattle.exi_processing.specs.Plans.{nowhere, plan_on}
+use Rattle.exi_processing.specs.Rules.{Rule, Telling, Terminal, Valuing, attribute, characters, comment, declaration, document_type, element, end_document, end_element, entity, instruction, known, self_contained, spelled, start_document, under}
 use Rattle.exi_writing.specs.Contents.{at_parts, attribute_by, attribute_value, ch_value, cm_text, dt_parts, er_name, four_texts, is_ed, is_ee, is_sc, is_sd, ns_parts, of, pi_parts, se_name, text, text_of, told_name, two_texts, type_value, valued, written_on}
 use Rattle.exi_writing.specs.Pieces as piece
 use Rattle.exi_writing.specs.Pieces.{Piece, Writing, both_by, if_spelled}

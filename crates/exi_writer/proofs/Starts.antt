@@ -11,9 +11,9 @@ use Rattle.exi_names.specs.Events as event
 use Rattle.exi_names.specs.declared.names.QName.{QName}
 use Rattle.exi_names.specs.StartTables.{IsStart}
 use Rattle.exi_pen.specs.Pages.{Page, StartsAt, first_page}
-use Rattle.exi_reader.specs.Configurations.{IsSetting, Setting, first_place}
-use Rattle.exi_reader.specs.declared.start.Start.{Start}
-use Rattle.exi_reader.specs.declared.start.Start.TheVariants as start
+use Rattle.exi_processing.specs.Configurations.{IsSetting, Setting, first_place}
+use Rattle.exi_processing.specs.declared.start.Start.{Start}
+use Rattle.exi_processing.specs.declared.start.Start.TheVariants as start
 use Rattle.exi_tables.proofs.Sound.{first_sound}
 use Rattle.exi_toll.specs.declared.stop.PutStop.{PutStop}
 use Rattle.exi_toll.specs.declared.stop.PutStop.TheVariants as stop

@@ -8,9 +8,9 @@ use Rattle.exi_names.specs.Events as event
 use Rattle.exi_names.specs.Seen.{Value}
 use Rattle.exi_tables.specs.Partitions.{Partitions}
 use Rattle.exi_typed.specs.Strings.{Named}
-use Rattle.exi_reader.specs.Configurations.{Setting}
-use Rattle.exi_reader.specs.Contents.{represented_by}
-use Rattle.exi_reader.specs.Rules.{Rule, Telling, Terminal, Valuing, attribute, characters, comment, declaration, document_type, element, end_document, end_element, entity, instruction, self_contained, start_document}
+use Rattle.exi_processing.specs.Configurations.{Setting}
+use Rattle.exi_processing.specs.Contents.{represented_by}
+use Rattle.exi_processing.specs.Rules.{Rule, Telling, Terminal, Valuing, attribute, characters, comment, declaration, document_type, element, end_document, end_element, entity, instruction, self_contained, start_document}
 use Rattle.exi_writing.specs.Pieces.{Piece}
 use Rattle.exi_writer.specs.Same.{IsTypedBy, IsUnder, IsValueOf, TypedIsOne}
 

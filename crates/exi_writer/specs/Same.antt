@@ -10,12 +10,12 @@ use Rattle.exi_names.specs.Events.{Happening}
 use Rattle.exi_names.specs.Events as event
 use Rattle.exi_names.specs.Seen.{Value}
 use Rattle.exi_names.specs.Seen as shape
-use Rattle.exi_reader.specs.Configurations.{Config, Setting, first_config}
-use Rattle.exi_reader.specs.Contents.{represented_by}
-use Rattle.exi_reader.specs.Plans.{alone_in, is_event}
-use Rattle.exi_reader.specs.Rules.{Rule, Terminal, attribute, characters}
-use Rattle.exi_reader.specs.Runs.{events_of}
-use Rattle.exi_reader.specs.declared.start.Start.TheVariants as start
+use Rattle.exi_processing.specs.Configurations.{Config, Setting, first_config}
+use Rattle.exi_processing.specs.Contents.{represented_by}
+use Rattle.exi_processing.specs.Plans.{alone_in, is_event}
+use Rattle.exi_processing.specs.Rules.{Rule, Terminal, attribute, characters}
+use Rattle.exi_processing.specs.Runs.{events_of}
+use Rattle.exi_processing.specs.declared.start.Start.TheVariants as start
 use Rattle.exi_tables.specs.Partitions.{Partitions}
 use Rattle.exi_typed.specs.Strings.{Named}
 use Rattle.exi_writing.specs.Contents.{text_of, told_name}

@@ -10,14 +10,14 @@ use Rattle.exi_meter.specs.Metering.{Bounds, IsWithinStream, Metering, text_fits
 use Rattle.exi_meter.specs.declared.tally.Tally.{Tally}
 use Rattle.exi_names.specs.declared.names.QName.{QName}
 use Rattle.exi_names.specs.Events.{Happening}
-use Rattle.exi_reader.specs.Changes.{innermost, resumed, same_texts, texts_of}
-use Rattle.exi_reader.specs.Configurations.{Body, Config, IsSetting, Setting, first_config}
-use Rattle.exi_reader.specs.Plans.{Alone, alone_in, at_end, at_first, at_start, nowhere}
-use Rattle.exi_reader.specs.Runs.{IsSequence, Leads, has_ended}
-use Rattle.exi_reader.specs.Splices.{AtFragment}
-use Rattle.exi_reader.specs.declared.end.End.TheVariants as end
-use Rattle.exi_reader.specs.declared.start.Start.{Start}
-use Rattle.exi_reader.specs.declared.start.Start.TheVariants as start
+use Rattle.exi_processing.specs.Changes.{innermost, resumed, same_texts, texts_of}
+use Rattle.exi_processing.specs.Configurations.{Body, Config, IsSetting, Setting, first_config}
+use Rattle.exi_processing.specs.Plans.{Alone, alone_in, at_end, at_first, at_start, nowhere}
+use Rattle.exi_processing.specs.Runs.{IsSequence, Leads, has_ended}
+use Rattle.exi_processing.specs.Splices.{AtFragment}
+use Rattle.exi_processing.specs.declared.end.End.TheVariants as end
+use Rattle.exi_processing.specs.declared.start.Start.{Start}
+use Rattle.exi_processing.specs.declared.start.Start.TheVariants as start
 use Rattle.exi_writing.specs.OneEvent.{Refused, limit, not_derived}
 use Rattle.exi_names.specs.Events as event
 use Rattle.exi_names.specs.StartTables.{IsStart}

@@ -2,14 +2,14 @@ ghost use Rattle.std.specs.Prelude.{◌≡◌, ◌∷◌, []};
 ghost use Rattle.exi_names.specs.Events as event;
 ghost use Rattle.exi_names.specs.Shown.{named};
 ghost use Rattle.exi_pen.specs.Pages.{IsReady};
-ghost use Rattle.exi_reader.specs.Plans.{alone_in, at_end, at_start};
+ghost use Rattle.exi_processing.specs.Plans.{alone_in, at_end, at_start};
 ghost use Rattle.exi_writer.specs.Writing.{IsComposed, WritesAll, closing_events, composing_at};
 ghost use Rattle.exi_writing.specs.Pruned.{pruned_name};
 ghost use Rattle.exi_writing.specs.Runs.{written_all};
 
 use exi_names::NameRef;
 use exi_pen::Pen;
-use exi_reader::Alone;
+use exi_processing::Alone;
 use exi_tables::Tables;
 use exi_toll::PutStop;
 use exi_writing::laws::written_is_read;

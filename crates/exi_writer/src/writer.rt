@@ -4,7 +4,7 @@ ghost use Rattle.exi_meter.specs.Metering.{tally_fits};
 ghost use Rattle.exi_names.specs.Events.{happens};
 ghost use Rattle.exi_pen.specs.Pages.{refused_meter};
 ghost use Rattle.exi_pen.specs.Steps.{left_of};
-ghost use Rattle.exi_reader.specs.Runs.{has_ended};
+ghost use Rattle.exi_processing.specs.Runs.{has_ended};
 ghost use Rattle.exi_writing.specs.Pruned.{pruned};
 ghost use Rattle.exi_writing.specs.Runs.{own, written_all};
 ghost use Rattle.exi_writer.specs.Writing.{CanBegin, Composes, Enters, IsAtFragment, IsPart, IsUncharged, MayGoOn, PutsOne, Starts, name_fits, spliced_behind, steps_of};
@@ -16,8 +16,8 @@ use exi_gram::Book;
 use exi_meter::{Limits, Meter, Tally};
 use exi_names::Event;
 use exi_pen::Pen;
-use exi_reader::Start;
-use exi_reader::laws::splices_are_runs;
+use exi_processing::Start;
+use exi_processing::laws::splices_are_runs;
 use exi_steps::Steps;
 use exi_tables::Tables;
 use exi_toll::PutStop;
@@ -37,7 +37,7 @@ pub struct Writer<'a, T: Tables + Drop> {
 }
 
 impl<'a, T: Tables + Drop> Model for Writer<'a, T> {
-    ghost use Rattle.exi_reader.specs.Handing.{fragment_in};
+    ghost use Rattle.exi_processing.specs.Handing.{fragment_in};
     ghost use Rattle.exi_writer.specs.Writing.{Composing};
 
     ghost Value = { Composing };

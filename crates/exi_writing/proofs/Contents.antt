@@ -17,13 +17,13 @@ use Rattle.exi_typed.specs.Laws.{Spelling}
 use Rattle.exi_typed.specs.Strings.{Declaration, Named}
 use Rattle.exi_typed.specs.WrittenLaws.{IsWritten}
 use Rattle.exi_typed.proofs.WrittenSpelled.{written_then}
-use Rattle.exi_reader.specs.Changes.{innermost}
-use Rattle.exi_reader.specs.Configurations.{Config, Setting}
+use Rattle.exi_processing.specs.Changes.{innermost}
+use Rattle.exi_processing.specs.Configurations.{Config, Setting}
 use Rattle.exi_values.specs.Spelled.{SpellsValued}
-use Rattle.exi_reader.specs.Contents.{SpellsAttributeValue, SpellsBoth, SpellsFourTexts, SpellsNothing, SpellsText, SpellsTold, SpellsTwoTexts, acts_as_type, is_missing, represented_by}
-use Rattle.exi_reader.specs.Contents as contents
-use Rattle.exi_reader.specs.Plans.{Alone, Plan, plan_on}
-use Rattle.exi_reader.specs.Rules.{Rule, Telling, Terminal, Valuing, attribute, by_name, characters, comment, declaration, document_type, element, end_document, end_element, entity, instruction, known, self_contained, spelled, start_document, typed, under, untyped}
+use Rattle.exi_processing.specs.Contents.{SpellsAttributeValue, SpellsBoth, SpellsFourTexts, SpellsNothing, SpellsText, SpellsTold, SpellsTwoTexts, acts_as_type, is_missing, represented_by}
+use Rattle.exi_processing.specs.Contents as contents
+use Rattle.exi_processing.specs.Plans.{Alone, Plan, plan_on}
+use Rattle.exi_processing.specs.Rules.{Rule, Telling, Terminal, Valuing, attribute, by_name, characters, comment, declaration, document_type, element, end_document, end_element, entity, instruction, known, self_contained, spelled, start_document, typed, under, untyped}
 use Rattle.exi_writing.specs.Contents.{at_parts, attribute_by, attribute_value, ch_value, cm_text, dt_parts, er_name, four_texts, is_ed, is_ee, is_sc, is_sd, nothing, ns_parts, of, pi_parts, se_name, text, text_of, told_name, two_texts, type_value, valued, written_on}
 use Rattle.exi_writing.specs.Pieces as piece
 use Rattle.exi_writing.specs.Pieces.{Piece, Writing, as_bits, both, both_by}

@@ -30,7 +30,7 @@ use Rattle.exi_values.specs.Spelled.{SpellsValued}
 use Rattle.exi_values.specs.Written.{after_valued}
 use Rattle.exi_values.specs.WrittenLaws.{CanWriteList, CanWriteRow, CanWriteText, CanWriteValue}
 use Rattle.exi_values.proofs.Written.{stays_sound, values_written}
-use Rattle.exi_reader.specs.Contents.{SpellsUnder}
+use Rattle.exi_processing.specs.Contents.{SpellsUnder}
 use Rattle.exi_writing.specs.Pieces as piece
 use Rattle.exi_writing.specs.Pieces.{Piece, can_all_be_valued, can_be_spelled, can_be_valued, can_know, can_know_under, can_name, can_tell, if_spelled, is_at, is_text, named_under, no_texts, prefixes_for, stands_at, tells}
 

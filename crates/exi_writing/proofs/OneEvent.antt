@@ -13,12 +13,12 @@ use Rattle.exi_tables.specs.Partitions.{Partitions}
 use Rattle.exi_typed.specs.Charging.{Charge, IsTaken, units_of}
 use Rattle.exi_typed.specs.ReadStates.{Context}
 use Rattle.exi_names.specs.Events.{Happening}
-use Rattle.exi_reader.specs.Configurations.{Config, Setting, rules_of}
-use Rattle.exi_reader.specs.OneEvent.{remembered}
-use Rattle.exi_reader.specs.Plans.{Given, Plan, alone_in, plan_of}
-use Rattle.exi_reader.specs.Rules.{Rule}
-use Rattle.exi_reader.specs.Runs.{has_ended}
-use Rattle.exi_reader.specs.Spelled.{IsFollowed, IsOne, IsPadding, counted_by, entered_by, further}
+use Rattle.exi_processing.specs.Configurations.{Config, Setting, rules_of}
+use Rattle.exi_processing.specs.OneEvent.{remembered}
+use Rattle.exi_processing.specs.Plans.{Given, Plan, alone_in, plan_of}
+use Rattle.exi_processing.specs.Rules.{Rule}
+use Rattle.exi_processing.specs.Runs.{has_ended}
+use Rattle.exi_processing.specs.Spelled.{IsFollowed, IsOne, IsPadding, counted_by, entered_by, further}
 use Rattle.exi_writing.specs.OneEvent.{Refused, Written, ◌>>=◌, behind_code, by_code, chosen, fewest, first_of, followed, followed_by, is_taken, matches, one_deeper, one_more, or_else, padding, paid, written, written_by}
 use Rattle.exi_writing.specs.Pieces.{Piece}
 use Rattle.exi_writing.specs.Sound.{HasSoundTables}

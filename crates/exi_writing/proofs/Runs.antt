@@ -7,14 +7,14 @@ use Rattle.exi_bits.specs.Bits.{rest}
 use Rattle.exi_names.specs.Events.{Happening}
 use Rattle.exi_tables.proofs.Sound.{first_sound}
 use Rattle.exi_gram.specs.Switches.{fragment}
-use Rattle.exi_reader.specs.Configurations.{Config, IsSetting, Setting, body_outer, spot_in}
-use Rattle.exi_reader.specs.OneEvent.{one}
-use Rattle.exi_reader.specs.Runs.{IsRun, Job, closing, done, ends, first, goes, has_ended, is_end, turn, turned_by, whole_bytes}
-use Rattle.exi_reader.specs.declared.end.End.{End}
-use Rattle.exi_reader.specs.declared.start.Start.{Start}
-use Rattle.exi_reader.specs.Spelled.{IsIn, OneAtMost, SpelledIsOne}
-use Rattle.exi_reader.specs.Spelled.{OneIsSpelled as ReadIsSpelled}
-use Rattle.exi_reader.specs.declared.start.Start.TheVariants as start
+use Rattle.exi_processing.specs.Configurations.{Config, IsSetting, Setting, body_outer, spot_in}
+use Rattle.exi_processing.specs.OneEvent.{one}
+use Rattle.exi_processing.specs.Runs.{IsRun, Job, closing, done, ends, first, goes, has_ended, is_end, turn, turned_by, whole_bytes}
+use Rattle.exi_processing.specs.declared.end.End.{End}
+use Rattle.exi_processing.specs.declared.start.Start.{Start}
+use Rattle.exi_processing.specs.Spelled.{IsIn, OneAtMost, SpelledIsOne}
+use Rattle.exi_processing.specs.Spelled.{OneIsSpelled as ReadIsSpelled}
+use Rattle.exi_processing.specs.declared.start.Start.TheVariants as start
 use Rattle.exi_writing.specs.Laws.{ListIsRead, OneIsRead, OneIsSpelled}
 use Rattle.exi_writing.specs.OneEvent.{Refused, Written, written}
 use Rattle.exi_writing.specs.Pruned.{pruned}

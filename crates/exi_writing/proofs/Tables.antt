@@ -4,11 +4,11 @@ use Rattle.exi_tables.proofs.Sound.{first_sound}
 use Rattle.exi_builtin.specs.declared.learnable.Learned.{Learned}
 use Rattle.exi_builtin.specs.declared.learnable.Learned.TheVariants as used
 use Rattle.exi_names.specs.declared.names.QName.{QName}
-use Rattle.exi_reader.specs.Changes.{Effect, effect_of, effected, emptied, leads, learns_name, resumed, retyped, stays}
-use Rattle.exi_reader.specs.Configurations.{Body, Config, Setting}
-use Rattle.exi_reader.specs.OneEvent.{remembered}
-use Rattle.exi_reader.specs.Plans.{Alone, at_end, at_first, at_start, ended_in, nowhere, plan_on, rooted_in}
-use Rattle.exi_reader.specs.Rules.{Rule, Telling, Terminal, attribute, characters, comment, declaration, document_type, element, end_document, end_element, entity, instruction, known, self_contained, spelled, start_document, under}
+use Rattle.exi_processing.specs.Changes.{Effect, effect_of, effected, emptied, leads, learns_name, resumed, retyped, stays}
+use Rattle.exi_processing.specs.Configurations.{Body, Config, Setting}
+use Rattle.exi_processing.specs.OneEvent.{remembered}
+use Rattle.exi_processing.specs.Plans.{Alone, at_end, at_first, at_start, ended_in, nowhere, plan_on, rooted_in}
+use Rattle.exi_processing.specs.Rules.{Rule, Telling, Terminal, attribute, characters, comment, declaration, document_type, element, end_document, end_element, entity, instruction, known, self_contained, spelled, start_document, under}
 use Rattle.exi_writing.specs.Sound.{AreSound, HasSoundTables}
 
 resumed_sound : (bs : List Body) (c : Config) → c.aside ≡ bs → HasSoundTables c → HasSoundTables (resumed bs c)

@@ -11,11 +11,11 @@ use Rattle.exi_names.specs.Events as event
 use Rattle.exi_names.specs.Seen.{Value, Values, no_more, and}
 use Rattle.exi_names.specs.Seen as shape
 use Rattle.exi_typed.specs.Strings.{Declaration, Named}
-use Rattle.exi_reader.specs.Changes.{innermost}
-use Rattle.exi_reader.specs.Configurations.{Config, Setting}
-use Rattle.exi_reader.specs.Contents.{acts_as_type, is_missing, represented_by}
-use Rattle.exi_reader.specs.Plans.{Alone, plan_on}
-use Rattle.exi_reader.specs.Rules.{Rule, Telling, Terminal, Valuing, attribute, characters, comment, declaration, document_type, element, end_document, end_element, entity, instruction, known, self_contained, spelled, start_document, under}
+use Rattle.exi_processing.specs.Changes.{innermost}
+use Rattle.exi_processing.specs.Configurations.{Config, Setting}
+use Rattle.exi_processing.specs.Contents.{acts_as_type, is_missing, represented_by}
+use Rattle.exi_processing.specs.Plans.{Alone, plan_on}
+use Rattle.exi_processing.specs.Rules.{Rule, Telling, Terminal, Valuing, attribute, characters, comment, declaration, document_type, element, end_document, end_element, entity, instruction, known, self_contained, spelled, start_document, under}
 use Rattle.exi_writing.specs.Pieces as piece
 use Rattle.exi_writing.specs.Pieces.{Piece, Writing, as_bits, both, turned}
 

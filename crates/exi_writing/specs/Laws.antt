@@ -3,11 +3,11 @@ use Rattle.std.specs.Prelude.{◌≡◌, ℕ, Bool, List, ◌++◌, length, Ok}
 use Rattle.exi_bits.specs.Bits.{rest}
 use Rattle.exi_meter.specs.Metering.{Bounds}
 use Rattle.exi_names.specs.Events.{Happening}
-use Rattle.exi_reader.specs.Configurations.{Config, IsSetting, Setting, spot_in}
-use Rattle.exi_reader.specs.OneEvent.{one}
-use Rattle.exi_reader.specs.Runs.{IsRun, Job, done, first, whole_bytes}
-use Rattle.exi_reader.specs.Spelled.{IsIn, IsOne}
-use Rattle.exi_reader.specs.declared.start.Start.TheVariants as start
+use Rattle.exi_processing.specs.Configurations.{Config, IsSetting, Setting, spot_in}
+use Rattle.exi_processing.specs.OneEvent.{one}
+use Rattle.exi_processing.specs.Runs.{IsRun, Job, done, first, whole_bytes}
+use Rattle.exi_processing.specs.Spelled.{IsIn, IsOne}
+use Rattle.exi_processing.specs.declared.start.Start.TheVariants as start
 use Rattle.exi_writing.specs.OneEvent.{Written, written}
 use Rattle.exi_writing.specs.Runs.{Run, body}
 use Rattle.exi_writing.specs.Sound.{HasSoundTables}

@@ -10,12 +10,12 @@ use Rattle.exi_gram.specs.Laws.{codes}
 use Rattle.exi_gram.specs.Switches.{align_of}
 use Rattle.exi_meter.specs.Metering.{Metering, event_fits, level_fits, text_fits, with_event, with_level, with_text}
 use Rattle.exi_names.specs.Events.{Happening}
-use Rattle.exi_reader.specs.Configurations.{Config, Setting, rules_of}
-use Rattle.exi_reader.specs.OneEvent.{remembered}
-use Rattle.exi_reader.specs.Plans.{Given, Plan, alone_in, plan_of}
-use Rattle.exi_reader.specs.Rules.{Rule}
-use Rattle.exi_reader.specs.Runs.{has_ended}
-use Rattle.exi_reader.specs.Spelled.{further}
+use Rattle.exi_processing.specs.Configurations.{Config, Setting, rules_of}
+use Rattle.exi_processing.specs.OneEvent.{remembered}
+use Rattle.exi_processing.specs.Plans.{Given, Plan, alone_in, plan_of}
+use Rattle.exi_processing.specs.Rules.{Rule}
+use Rattle.exi_processing.specs.Runs.{has_ended}
+use Rattle.exi_processing.specs.Spelled.{further}
 use Rattle.exi_writing.specs.Contents.{written_on}
 use Rattle.exi_writing.specs.Pieces.{Piece, Writing}
 

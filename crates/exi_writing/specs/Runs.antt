@@ -4,10 +4,10 @@ use Rattle.exi_meter.specs.Metering.{Bounds}
 use Rattle.exi_names.specs.declared.names.QName.{QName}
 use Rattle.exi_names.specs.Events.{Happening}
 use Rattle.exi_names.specs.Events as event
-use Rattle.exi_reader.specs.Configurations.{Body, Config, Setting, first_config}
-use Rattle.exi_reader.specs.Plans.{Alone, alone_in, at_end, at_first, at_start, nowhere}
-use Rattle.exi_reader.specs.Runs.{has_ended}
-use Rattle.exi_reader.specs.declared.start.Start.TheVariants as start
+use Rattle.exi_processing.specs.Configurations.{Body, Config, Setting, first_config}
+use Rattle.exi_processing.specs.Plans.{Alone, alone_in, at_end, at_first, at_start, nowhere}
+use Rattle.exi_processing.specs.Runs.{has_ended}
+use Rattle.exi_processing.specs.declared.start.Start.TheVariants as start
 use Rattle.exi_writing.specs.OneEvent.{Refused, Written, not_derived, written}
 use Rattle.exi_writing.specs.OneEvent.{◌>>=◌}
 use Rattle.exi_writing.specs.Pruned.{pruned}

@@ -1,7 +1,7 @@
 -- String tables in which no place under a name is given twice, in a configuration and in what it has put aside.
 use Rattle.std.specs.Prelude.{List, [], ◌∷◌}
 use Rattle.exi_tables.specs.Growth.{IsSound}
-use Rattle.exi_reader.specs.Configurations.{Body, Config}
+use Rattle.exi_processing.specs.Configurations.{Body, Config}
 
 abbrev pub AreSound : List Body → Type 0
 AreSound [] = Unit {0}

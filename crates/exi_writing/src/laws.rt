@@ -2,7 +2,7 @@
 
 ghost use Rattle.exi_writing.specs.Laws.{ListIsRead, OneIsRead, OneIsSpelled};
 
-use exi_reader::laws::{one_at_most, one_is_spelled, spelled_is_one};
+use exi_processing::laws::{one_at_most, one_is_spelled, spelled_is_one};
 
 /// One event that is written is one of its spellings, and leads to the configuration that reading leads to.
 pub fn written_is_spelled()

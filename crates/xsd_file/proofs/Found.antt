@@ -5,13 +5,13 @@ use Rattle.exi_header.specs.declared.header.Header.{Header}
 use Rattle.exi_meter.specs.Metering.{Bounds}
 use Rattle.exi_names.specs.Events.{Happening}
 use Rattle.exi_opening.specs.Openings.{job_of, setting_of}
-use Rattle.exi_reader.proofs.Sequences.{leads_count}
-use Rattle.exi_reader.specs.Laws.{ASequenceIsThere, OneSequence}
-use Rattle.exi_reader.specs.Configurations.{Setting}
-use Rattle.exi_reader.specs.Runs.{IsSequence, Job, events_of, first}
-use Rattle.exi_reader.specs.declared.end.End.{End}
-use Rattle.exi_reader.specs.declared.start.Start.{Start}
-use Rattle.exi_reader.specs.declared.start.Start.TheVariants as start
+use Rattle.exi_processing.proofs.Sequences.{leads_count}
+use Rattle.exi_processing.specs.Laws.{ASequenceIsThere, OneSequence}
+use Rattle.exi_processing.specs.Configurations.{Setting}
+use Rattle.exi_processing.specs.Runs.{IsSequence, Job, events_of, first}
+use Rattle.exi_processing.specs.declared.end.End.{End}
+use Rattle.exi_processing.specs.declared.start.Start.{Start}
+use Rattle.exi_processing.specs.declared.start.Start.TheVariants as start
 use Rattle.xsd_file.specs.Documents.{Comes, IsProcessed, Reads, ReadsFrom, IsBody, IsDocument, IsDocumentFrom, by_end, document_bounds, document_header}
 use Rattle.xsd_file.specs.Laws.{ADocumentIsThere, OneDocument}
 use Rattle.xsd_file.specs.declared.refusal.SchemaRefusal.{SchemaRefusal}

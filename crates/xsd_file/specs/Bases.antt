@@ -7,7 +7,7 @@ use Rattle.exi_gram.specs.declared.options.Options.{Options}
 use Rattle.exi_gram.specs.declared.options.SchemaWord.{SchemaWord}
 use Rattle.exi_gram.specs.declared.options.SchemaWord.TheVariants as schema
 use Rattle.exi_header.specs.declared.header.Header.{Header}
-use Rattle.exi_reader.specs.Runs.{Job}
+use Rattle.exi_processing.specs.Runs.{Job}
 use Rattle.exi_opening.specs.Header.{is_empty_name, stream_header}
 use Rattle.exi_opening.specs.Openings.{setting_by}
 use Rattle.xsd_known.specs.Alone.{types_alone}

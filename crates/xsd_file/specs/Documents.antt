@@ -13,10 +13,10 @@ use Rattle.exi_names.specs.Events.{Happening}
 use Rattle.exi_opening.specs.Header.{header_for}
 use Rattle.exi_opening.specs.Openings.{job_of}
 use Rattle.exi_options.specs.Document.{flag}
-use Rattle.exi_reader.specs.Runs.{IsSequence, Job}
-use Rattle.exi_reader.specs.declared.end.End.{End}
-use Rattle.exi_reader.specs.declared.end.End.TheVariants as end
-use Rattle.exi_reader.specs.declared.start.Start.TheVariants as start
+use Rattle.exi_processing.specs.Runs.{IsSequence, Job}
+use Rattle.exi_processing.specs.declared.end.End.{End}
+use Rattle.exi_processing.specs.declared.end.End.TheVariants as end
+use Rattle.exi_processing.specs.declared.start.Start.TheVariants as start
 use Rattle.xsd_file.specs.declared.refusal.SchemaHalt.{SchemaHalt}
 use Rattle.xsd_file.specs.declared.refusal.SchemaHalt.TheVariants as halt
 use Rattle.xsd_file.specs.declared.refusal.SchemaRefusal.{SchemaRefusal}

@@ -5,7 +5,7 @@ ghost use Rattle.exi_bits.specs.Bits.{IsAligned};
 ghost use Rattle.exi_gram.specs.Switches.{align_of, conflicts};
 ghost use Rattle.exi_header.specs.Headers.{Tells};
 ghost use Rattle.exi_names.specs.Lists.{events_of};
-ghost use Rattle.exi_reader.specs.Reading.{IsJob, job_of};
+ghost use Rattle.exi_processing.specs.Reading.{IsJob, job_of};
 ghost use Rattle.xsd_file.specs.Documents.{Comes, IsProcessed, MakesKnown, Reads, ReadsFrom, document_bounds, document_header, document_options};
 
 use crate::refusal::{SchemaHalt, SchemaRefusal};
@@ -15,7 +15,8 @@ use exi_header::Header;
 use exi_meter::{Limits, MAX_DEPTH};
 use exi_names::EventList;
 use exi_opening::{accepted_header, book_of};
-use exi_reader::{End, Job, ReadStop, Start, keeps_prefixes, read_from};
+use exi_processing::{End, Job, ReadStop, Start, keeps_prefixes};
+use exi_reader::read_from;
 use exi_steps::Steps;
 use exi_tables::PlaceTables;
 use std::alloc::Global;

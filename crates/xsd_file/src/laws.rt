@@ -2,7 +2,7 @@
 
 ghost use Rattle.xsd_file.specs.Laws.{ADocumentIsThere, OneDocument};
 
-use exi_reader::laws::{a_sequence_is_there, one_sequence};
+use exi_processing::laws::{a_sequence_is_there, one_sequence};
 
 /// Bytes make exactly one schema known, its components and their grammars, or are refused for exactly one reason.
 pub fn one_document()

@@ -1,4 +1,4 @@
-use Rattle.exi_reader.specs.Reading.{job_of}
+use Rattle.exi_processing.specs.Reading.{job_of}
 use Rattle.exi_example.proofs.Counted.{counted_all, wrong_at}
 use Rattle.exi_example.proofs.count_body.Goals as goal
 

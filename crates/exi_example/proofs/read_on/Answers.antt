@@ -1,4 +1,4 @@
-use Rattle.exi_reader.specs.Reading.{job_of}
+use Rattle.exi_processing.specs.Reading.{job_of}
 use Rattle.exi_example.proofs.Counted.{within_stream}
 use Rattle.exi_example.proofs.read_on.Goals as goal
 

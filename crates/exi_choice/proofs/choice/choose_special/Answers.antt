@@ -1,6 +1,6 @@
 use Rattle.std.proofs.Common.{Some, sym, ap, ◌∙◌}
 use Rattle.std.specs.Option.{option_map}
-use Rattle.exi_reader.specs.Rules.{Rule, built_in_terminal}
+use Rattle.exi_processing.specs.Rules.{Rule, built_in_terminal}
 use Rattle.exi_choice.proofs.BuiltIns.{chosen_special, lacks_any, lacks_this}
 use Rattle.exi_choice.proofs.choice.choose_special.Goals as goal
 

@@ -1,5 +1,5 @@
 use Rattle.std.proofs.Common.{None, [], ◌∷◌, refl}
-use Rattle.exi_reader.specs.Rules.{start_document}
+use Rattle.exi_processing.specs.Rules.{start_document}
 use Rattle.exi_choice.proofs.choice.choose_start.Goals as goal
 
 pub returns-in-StartDocument : goal.returns-in-StartDocument

@@ -1,4 +1,4 @@
-use Rattle.exi_reader.specs.Reading.{job_of}
+use Rattle.exi_processing.specs.Reading.{job_of}
 use Rattle.exi_conformance.proofs.Apart.{apart_of}
 use Rattle.exi_conformance.proofs.turns.apart.Goals as goal
 

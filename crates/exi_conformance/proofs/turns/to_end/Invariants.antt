@@ -1,5 +1,5 @@
 use Rattle.std.proofs.Common.{◌≡◌, false}
-use Rattle.exi_reader.specs.Reading.{IsReached, job_of}
+use Rattle.exi_processing.specs.Reading.{IsReached, job_of}
 use Rattle.exi_conformance.specs.Turns.{IsOf}
 use Rattle.exi_conformance.proofs.turns.to_end.Given as goal
 

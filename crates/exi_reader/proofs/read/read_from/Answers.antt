@@ -1,7 +1,7 @@
 use Rattle.std.proofs.Common.{[], refl, ap, arith}
 use Rattle.std.proofs.lemmas.Result.{err_from_is_err_and}
-use Rattle.exi_reader.specs.Reading.{Reading, job_of}
-use Rattle.exi_reader.proofs.Turning.{came_end, came_entered, came_few, came_first, came_fragment, came_none, came_stop, came_went, front_by, turns_closed, turns_faulted}
+use Rattle.exi_processing.specs.Reading.{Reading, job_of}
+use Rattle.exi_processing.proofs.Turning.{came_end, came_entered, came_few, came_first, came_fragment, came_none, came_stop, came_went, front_by, turns_closed, turns_faulted}
 use Rattle.exi_reader.proofs.read.read_from.Goals as goal
 
 pub returns-in_default-clause-read : goal.returns-in_default-clause-read

@@ -1,7 +1,7 @@
 use Rattle.std.proofs.Common.{◌≡◌, ◌≤◌, ◌+◌, ◌-◌, ◌^◌, false}
 use Rattle.exi_meter.specs.Metering.{IsWithinStream}
-use Rattle.exi_reader.specs.Reading.{IsReached, job_of}
-use Rattle.exi_reader.proofs.Turning.{CameTo}
+use Rattle.exi_processing.specs.Reading.{IsReached, job_of}
+use Rattle.exi_processing.proofs.Turning.{CameTo}
 use Rattle.exi_reader.proofs.read.read_from.Given as goal
 
 abbrev pub invariant-loop-reader : goal.invariant-loop-reader

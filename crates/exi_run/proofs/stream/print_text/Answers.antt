@@ -1,5 +1,5 @@
 use Rattle.std.proofs.Common.{sym}
-use Rattle.exi_reader.specs.Reading.{job_of}
+use Rattle.exi_processing.specs.Reading.{job_of}
 use Rattle.exi_run.specs.declared.form.Form.TheVariants as form
 use Rattle.exi_run.proofs.Bodies.{body_says}
 use Rattle.exi_run.proofs.stream.print_text.Goals as goal

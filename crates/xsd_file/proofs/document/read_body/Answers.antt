@@ -1,5 +1,5 @@
 use Rattle.exi_names.specs.Lists.{events_of}
-use Rattle.exi_reader.specs.Reading.{job_of}
+use Rattle.exi_processing.specs.Reading.{job_of}
 use Rattle.xsd_file.proofs.Found.{comes_from, few_processed}
 use Rattle.xsd_file.proofs.document.read_body.Goals as goal
 

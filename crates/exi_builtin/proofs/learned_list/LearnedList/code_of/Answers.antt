@@ -1,4 +1,4 @@
-use Rattle.std.proofs.Common.{◌≡◌, ◌<◌, ◌∙◌, All, List, None, length, refl, sym, subst, ap}
+use Rattle.std.proofs.Common.{◌∙◌, All, List, sym, subst}
 use Rattle.exi_builtin.specs.declared.learnable.Learnable.{Learnable}
 use Rattle.exi_builtin.specs.declared.learnable.Learnable.TheVariants as learnable
 use Rattle.exi_builtin.specs.Marks.{IsLearned, LeadsTo}

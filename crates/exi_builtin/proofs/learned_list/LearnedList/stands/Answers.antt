@@ -1,8 +1,4 @@
-use Rattle.std.proofs.Common.{◌≡◌, ◌∙◌, List, Option, None, Some, ℕ, refl, sym, subst, ap}
-use Rattle.std.specs.Option.{is_some, option_map}
-use Rattle.std.specs.List.{list_any}
-use Rattle.exi_builtin.specs.declared.learnable.Learnable.{Learnable}
-use Rattle.exi_builtin.specs.Marks.{LeadsTo, code_at_place}
+use Rattle.std.proofs.Common.{◌∙◌, sym}
 use Rattle.exi_builtin.specs.Uses.{is_characters, is_end}
 use Rattle.exi_builtin.proofs.Least.{leads_any}
 use Rattle.exi_builtin.proofs.learned_list.LearnedList.stands.Goals as goal

@@ -2,7 +2,7 @@ use Rattle.std.proofs.lemmas.Result.{err_from_is_err_and}
 use Rattle.exi_names.specs.Events as event
 use Rattle.exi_names.specs.Seen.{seen}
 use Rattle.exi_names.specs.Shown.{named}
-use Rattle.exi_reader.specs.Handing.{telling_of}
+use Rattle.exi_processing.specs.Handing.{telling_of}
 use Rattle.exi_writing.specs.Contents.{told_name}
 use Rattle.exi_choice.specs.Fitting.{declaring}
 use Rattle.exi_pen.specs.Pages.{attribute_wanted}

@@ -3,7 +3,7 @@ use Rattle.std.specs.Prelude.{Ok, Err}
 use Rattle.std.proofs.lemmas.Result.{err_from_is_err_and}
 use Rattle.exi_names.specs.Seen as shape
 use Rattle.exi_names.specs.Shown.{named}
-use Rattle.exi_reader.specs.Handing.{rule_in}
+use Rattle.exi_processing.specs.Handing.{rule_in}
 use Rattle.exi_toll.specs.Charges.{charge, charge_event}
 use Rattle.exi_typed.specs.WrittenLaws.{name_units}
 use Rattle.exi_pen.proofs.AtOnce.{ends_err, few_paid}

@@ -1,6 +1,6 @@
 use Rattle.exi_choice.specs.Fitting.{declaring}
 use Rattle.exi_names.specs.Seen.{seen}
-use Rattle.exi_reader.specs.Handing.{rule_in, telling_of}
+use Rattle.exi_processing.specs.Handing.{rule_in, telling_of}
 use Rattle.exi_pen.specs.Told.{told_in, valuing_on}
 use Rattle.exi_pen.proofs.Effects.{attribute_put}
 use Rattle.exi_pen.proofs.pen.Pen.attribute_on.Goals as goal

@@ -1,6 +1,6 @@
 use Rattle.std.proofs.Common.{sym, subst}
 use Rattle.exi_gram.specs.Codes.{Productions}
-use Rattle.exi_reader.specs.Rules.{Rule}
+use Rattle.exi_processing.specs.Rules.{Rule}
 use Rattle.exi_choice.specs.Choices.{Finds, wanting}
 use Rattle.exi_pen.proofs.pen.Pen.begin_outside.Goals as goal
 

@@ -2,8 +2,8 @@ use Rattle.std.proofs.Common.{ℕ, ◌∷◌, [], true, length, refl, ap, ◌∙
 use Rattle.std.specs.Prelude.{Ok, Err}
 use Rattle.std.proofs.lemmas.Result.{err_from_is_err_and}
 use Rattle.exi_builtin.specs.declared.learnable.Learned.TheVariants as used
-use Rattle.exi_reader.specs.Changes.{innermost}
-use Rattle.exi_reader.specs.Rules.{spelled}
+use Rattle.exi_processing.specs.Changes.{innermost}
+use Rattle.exi_processing.specs.Rules.{spelled}
 use Rattle.exi_toll.specs.Charges.{charge, charge_event}
 use Rattle.exi_pen.proofs.AtOnce.{characters_way, characters_write, ends_err, few_paid, grow_paid, grow_text, inside_paid, texted_paid}
 use Rattle.exi_pen.specs.Pages.{Page, learned_page, paid_page, text_page, way_page}

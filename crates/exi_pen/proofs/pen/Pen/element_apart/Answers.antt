@@ -3,8 +3,8 @@ use Rattle.std.proofs.lemmas.Result.{err_from_is_err_and}
 use Rattle.exi_bits.specs.declared.fault.Kind.TheVariants as kind
 use Rattle.exi_names.specs.Events as event
 use Rattle.exi_names.specs.Shown.{named}
-use Rattle.exi_reader.specs.Handing.{telling_of}
-use Rattle.exi_reader.specs.declared.rule.Content.TheVariants as content
+use Rattle.exi_processing.specs.Handing.{telling_of}
+use Rattle.exi_processing.specs.declared.rule.Content.TheVariants as content
 use Rattle.exi_writing.specs.Contents.{told_name}
 use Rattle.exi_choice.specs.Wanted.{of_kind}
 use Rattle.exi_pen.proofs.EventNames.{element_ends, element_stop, element_told, element_wanted, few_begun, grow_begun, grow_put, other_element_is}

@@ -2,8 +2,8 @@ use Rattle.std.proofs.Common.{true, ap, ◌∙◌}
 use Rattle.std.specs.Prelude.{Ok, Err}
 use Rattle.std.proofs.lemmas.Result.{err_from_is_err_and}
 use Rattle.exi_names.specs.Shown.{named}
-use Rattle.exi_reader.specs.Handing.{rule_in}
-use Rattle.exi_reader.specs.Rules.{known}
+use Rattle.exi_processing.specs.Handing.{rule_in}
+use Rattle.exi_processing.specs.Rules.{known}
 use Rattle.exi_toll.specs.Charges.{charge, charge_event, charge_level}
 use Rattle.exi_typed.specs.WrittenLaws.{name_units}
 use Rattle.exi_pen.proofs.AtOnce.{ends_err, grow_paid}

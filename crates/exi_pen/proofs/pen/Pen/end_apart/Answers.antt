@@ -1,7 +1,7 @@
 use Rattle.exi_choice.specs.Wanted.{of_kind}
 use Rattle.exi_pen.proofs.EventKinds.{close_ends}
 use Rattle.exi_pen.proofs.EventNames.{grow_begun, keeps_close, levels_begun}
-use Rattle.exi_reader.specs.declared.rule.Content.TheVariants as content
+use Rattle.exi_processing.specs.declared.rule.Content.TheVariants as content
 use Rattle.exi_pen.proofs.pen.Pen.end_apart.Goals as goal
 
 pub close_on-requires-clause-room : goal.close_on-requires-clause-room

@@ -1,7 +1,7 @@
 use Rattle.exi_choice.specs.Wanted.{of_kind}
 use Rattle.exi_pen.proofs.EventKinds.{end_ends}
 use Rattle.exi_pen.proofs.EventNames.{keeps_end, levels_begun}
-use Rattle.exi_reader.specs.declared.rule.Content.TheVariants as content
+use Rattle.exi_processing.specs.declared.rule.Content.TheVariants as content
 use Rattle.exi_pen.proofs.pen.Pen.end_document.Goals as goal
 
 pub end_on-requires-clause-levels : goal.end_on-requires-clause-levels

@@ -1,7 +1,7 @@
 use Rattle.std.proofs.Common.{ap, sym, subst, ◌∙◌}
 use Rattle.exi_choice.specs.Choices.{IsWay}
 use Rattle.exi_pen.specs.Pages.{Page, paid_page, way_page}
-use Rattle.exi_reader.specs.Configurations.{rules_of}
+use Rattle.exi_processing.specs.Configurations.{rules_of}
 use Rattle.exi_pen.proofs.pen.Pen.pay_and_code.Goals as goal
 
 pub put_code-requires : goal.put_code-requires

@@ -1,7 +1,7 @@
 use Rattle.std.proofs.Common.{◌≡◌, true, subst}
 use Rattle.exi_names.specs.Shown.{named}
-use Rattle.exi_reader.specs.Handing.{telling_of}
-use Rattle.exi_reader.specs.declared.rule.Telling.{Telling}
+use Rattle.exi_processing.specs.Handing.{telling_of}
+use Rattle.exi_processing.specs.declared.rule.Telling.{Telling}
 use Rattle.exi_choice.specs.Wanted.{is_told, told_of}
 use Rattle.exi_pen.proofs.Putting.{few_after, few_same, few_start, few_under, known_named, told_as_known, told_as_under, told_name}
 use Rattle.exi_pen.proofs.pen.Pen.put_told.Goals as goal

@@ -1,4 +1,4 @@
-use Rattle.exi_reader.proofs.Turning.{closed_in}
+use Rattle.exi_processing.proofs.Turning.{closed_in}
 use Rattle.exi_reader.proofs.reader.Reader.closing.Goals as goal
 
 pub returns-clause-end : goal.returns-clause-end

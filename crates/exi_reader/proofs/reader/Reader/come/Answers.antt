@@ -1,5 +1,5 @@
-use Rattle.std.proofs.Common.{sym, ◌∙◌}
-use Rattle.exi_reader.proofs.Turning.{place_fragment, reader_steady, stays_fragment, stays_on}
+use Rattle.std.proofs.Common.{sym, ◌∙◌, arith}
+use Rattle.exi_processing.proofs.Turning.{place_fragment, reader_steady, stays_fragment, stays_on}
 use Rattle.exi_reader.proofs.reader.Reader.come.Goals as goal
 
 pub step-requires : goal.step-requires
@@ -15,3 +15,8 @@ returns-else-has_ended-clause-reached g c =
 
 pub returns-in-Ok-Some-clause-fragment : goal.returns-in-Ok-Some-clause-fragment
 returns-in-Ok-Some-clause-fragment g c = place_fragment c.in-Ok-Some.byte c.self.inside.stepper c.step.new.self c.self.inside.waits c.args.self.now c.self.view_is c.requires.going c.requires.reached (rw c.in-Ok-Some.field-0-is at c.in-Ok-Some.ensures.hands).0 c.in-Ok-Some.ensures.setting
+
+pub returns-in-Ok-Some-clause-inside : goal.returns-in-Ok-Some-clause-inside
+returns-in-Ok-Some-clause-inside g c =
+    let at = place_fragment c.in-Ok-Some.byte c.self.inside.stepper c.step.new.self c.self.inside.waits c.args.self.now c.self.view_is c.requires.going c.requires.reached (rw c.in-Ok-Some.field-0-is at c.in-Ok-Some.ensures.hands).0 c.in-Ok-Some.ensures.setting in
+    omega (arith, at, c.stands.ensures.place)

@@ -1,4 +1,4 @@
-use Rattle.exi_reader.proofs.Turning.{reader_name}
+use Rattle.exi_processing.proofs.Turning.{reader_name}
 use Rattle.exi_reader.proofs.reader.Reader.enter.Goals as goal
 
 pub enter-requires : goal.enter-requires

@@ -1,4 +1,4 @@
-use Rattle.exi_reader.proofs.Turning.{failed_in}
+use Rattle.exi_processing.proofs.Turning.{failed_in}
 use Rattle.exi_reader.proofs.reader.Reader.failed.Goals as goal
 
 pub returns-clause-end : goal.returns-clause-end

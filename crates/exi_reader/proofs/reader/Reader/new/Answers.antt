@@ -1,5 +1,5 @@
-use Rattle.exi_reader.specs.Reading.{job_of}
-use Rattle.exi_reader.proofs.Turning.{reached_first, standing_view}
+use Rattle.exi_processing.specs.Reading.{job_of}
+use Rattle.exi_processing.proofs.Turning.{reached_first, standing_view}
 use Rattle.exi_reader.proofs.reader.Reader.new.Goals as goal
 
 pub returns-clause-reached : goal.returns-clause-reached

@@ -1,4 +1,4 @@
-use Rattle.exi_reader.proofs.Turning.{turns_closed, turns_faulted}
+use Rattle.exi_processing.proofs.Turning.{turns_closed, turns_faulted}
 use Rattle.exi_reader.proofs.reader.Reader.turn.Goals as goal
 
 pub returns-in-Over-clause-turned : goal.returns-in-Over-clause-turned

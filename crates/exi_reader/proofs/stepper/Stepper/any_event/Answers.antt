@@ -1,7 +1,7 @@
 use Rattle.std.proofs.Common.{ap, sym, subst, ◌∙◌, Result}
 use Rattle.exi_typed.specs.ReadStates.{Failure}
-use Rattle.exi_reader.specs.Handing.{HandsAny, Standing, alone_of}
-use Rattle.exi_reader.specs.Plans.{Given, alone_in}
+use Rattle.exi_processing.specs.Handing.{HandsAny, Standing, alone_of}
+use Rattle.exi_processing.specs.Plans.{Given, alone_in}
 use Rattle.exi_reader.proofs.StepParts.{one_without}
 use Rattle.exi_reader.proofs.Stepping.{step_followed, step_forms, step_levels, step_names, step_room}
 use Rattle.exi_reader.proofs.stepper.Stepper.any_event.Goals as goal

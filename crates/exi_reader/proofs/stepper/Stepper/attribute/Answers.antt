@@ -4,12 +4,12 @@ use Rattle.exi_tables.specs.Growth.{NoneLonger}
 use Rattle.exi_typed.specs.ReadStates.{Failure, read_state}
 use Rattle.exi_typed.specs.Places.{name_in}
 use Rattle.exi_typed.specs.Strings.{Named}
-use Rattle.exi_reader.specs.Configurations.{Config, reached}
-use Rattle.exi_reader.specs.Handing.{HandsAny, Standing, alone_of, datatype_in, telling_of}
-use Rattle.exi_reader.specs.Plans.{Given}
-use Rattle.exi_reader.specs.Rules.{by_name, typed, untyped}
+use Rattle.exi_processing.specs.Configurations.{Config, reached}
+use Rattle.exi_processing.specs.Handing.{HandsAny, Standing, alone_of, datatype_in, telling_of}
+use Rattle.exi_processing.specs.Plans.{Given}
+use Rattle.exi_processing.specs.Rules.{by_name, typed, untyped}
 use Rattle.exi_reader.proofs.StepParts.{typed_is, untyped_is, valued, with_attribute}
-use Rattle.exi_reader.proofs.ToldNames.{told_roomy}
+use Rattle.exi_processing.proofs.ToldNames.{told_roomy}
 use Rattle.exi_reader.proofs.stepper.Stepper.attribute.Goals as goal
 
 pub declared_value-requires-clause-roomy : goal.declared_value-requires-clause-roomy

@@ -1,7 +1,7 @@
 use Rattle.std.proofs.Common.{sym, subst, Result}
 use Rattle.exi_typed.specs.ReadStates.{Failure}
-use Rattle.exi_reader.specs.Handing.{HandsAny}
-use Rattle.exi_reader.specs.Plans.{Given, nowhere}
+use Rattle.exi_processing.specs.Handing.{HandsAny}
+use Rattle.exi_processing.specs.Plans.{Given, nowhere}
 use Rattle.exi_reader.proofs.StepParts.{one_without}
 use Rattle.exi_reader.proofs.Stepping.{step_followed, step_forms, step_levels, step_names, step_room, told_in_book}
 use Rattle.exi_reader.proofs.stepper.Stepper.book_step.Goals as goal

@@ -2,8 +2,8 @@ use Rattle.std.proofs.Common.{Some, refl}
 use Rattle.exi_names.specs.Datatypes as datatype
 use Rattle.exi_names.specs.Events as event
 use Rattle.exi_names.specs.Seen as value
-use Rattle.exi_reader.specs.Handing.{alone_of, leading_to}
-use Rattle.exi_reader.specs.Plans.{characters_plan}
+use Rattle.exi_processing.specs.Handing.{alone_of, leading_to}
+use Rattle.exi_processing.specs.Plans.{characters_plan}
 use Rattle.exi_reader.proofs.StepParts.{made_by, string_item}
 use Rattle.exi_reader.proofs.stepper.Stepper.characters.Goals as goal
 

@@ -2,8 +2,8 @@ use Rattle.std.proofs.Common.{Some, refl}
 use Rattle.exi_names.specs.Events as event
 use Rattle.exi_typed.specs.Places.{declaration_in}
 use Rattle.exi_typed.specs.Strings.{Declaration}
-use Rattle.exi_reader.specs.Handing.{alone_of, leading_to}
-use Rattle.exi_reader.specs.Plans.{declaration_plan}
+use Rattle.exi_processing.specs.Handing.{alone_of, leading_to}
+use Rattle.exi_processing.specs.Plans.{declaration_plan}
 use Rattle.exi_reader.proofs.StepParts.{made_by}
 use Rattle.exi_reader.proofs.stepper.Stepper.declaration.Goals as goal
 

@@ -1,7 +1,7 @@
 use Rattle.std.proofs.Common.{Some, refl}
 use Rattle.exi_names.specs.Events as event
-use Rattle.exi_reader.specs.Handing.{alone_of, leading_to}
-use Rattle.exi_reader.specs.Plans.{document_type_plan}
+use Rattle.exi_processing.specs.Handing.{alone_of, leading_to}
+use Rattle.exi_processing.specs.Plans.{document_type_plan}
 use Rattle.exi_reader.proofs.StepParts.{four_texts, made_by}
 use Rattle.exi_reader.proofs.stepper.Stepper.document_type.Goals as goal
 

@@ -14,7 +14,7 @@ returns-then-is_event-clause-hands g c = (
 pub returns-in-Some-clause-hands : goal.returns-in-Some-clause-hands
 returns-in-Some-clause-hands g c = (
   None,
-  rw (← c.self.view_is, c.skip_to_byte.ensures.place, c.into_parts-tables.ensures.tables, c.into_parts-tables.ensures.learned, c.into_parts-tables.ensures.elements, c.into_parts-tables.ensures.outer, c.leave.ensures.value)
+  rw (← c.self.view_is, c.resume.ensures.resumed, c.skip_to_byte.ensures.place)
       (end_within _ _ _ _ _ _ (sym c.is_event.ensures ∙ c.if-is_event.false) c.in_ok-refuse.ensures c.in-Some.ensures),
   g.met.E.EventOut.none c.args.out.now,
   refl,

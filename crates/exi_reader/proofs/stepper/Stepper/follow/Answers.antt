@@ -1,6 +1,6 @@
 use Rattle.std.proofs.Common.{◌∙◌}
 use Rattle.std.specs.Option.{option_copied}
-use Rattle.exi_reader.specs.Handing.{alone_of, rule_in}
+use Rattle.exi_processing.specs.Handing.{alone_of, rule_in}
 use Rattle.exi_reader.proofs.Stepping.{charges_typed, follow_forms, follow_levels, follow_names, follow_paid, follow_room, follow_unpaid}
 use Rattle.exi_reader.proofs.Handed.{hands_fault, hands_memory, hands_ok, hands_stopped}
 use Rattle.exi_reader.proofs.stepper.Stepper.follow.Goals as goal

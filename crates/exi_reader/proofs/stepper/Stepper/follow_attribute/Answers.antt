@@ -1,7 +1,7 @@
 use Rattle.std.proofs.Common.{◌∙◌, None}
-use Rattle.exi_reader.specs.Handing.{telling_of}
-use Rattle.exi_reader.specs.Rules.{attribute, untyped}
-use Rattle.exi_reader.specs.Plans.{nowhere}
+use Rattle.exi_processing.specs.Handing.{telling_of}
+use Rattle.exi_processing.specs.Rules.{attribute, untyped}
+use Rattle.exi_processing.specs.Plans.{nowhere}
 use Rattle.exi_reader.proofs.Stepping.{follow_forms, follow_names, follow_paid, follow_room, follow_unpaid, told_stands}
 use Rattle.exi_reader.proofs.Handed.{hands_fault, hands_memory, hands_ok, hands_stopped}
 use Rattle.exi_reader.proofs.stepper.Stepper.follow_attribute.Goals as goal

@@ -1,7 +1,7 @@
 use Rattle.std.proofs.Common.{◌∙◌, None}
-use Rattle.exi_reader.specs.Handing.{telling_of}
-use Rattle.exi_reader.specs.Rules.{element}
-use Rattle.exi_reader.specs.Plans.{nowhere}
+use Rattle.exi_processing.specs.Handing.{telling_of}
+use Rattle.exi_processing.specs.Rules.{element}
+use Rattle.exi_processing.specs.Plans.{nowhere}
 use Rattle.exi_reader.proofs.Stepping.{follow_names, follow_paid, follow_room, follow_unpaid, told_stands}
 use Rattle.exi_reader.proofs.Handed.{hands_fault, hands_memory, hands_ok, hands_stopped}
 use Rattle.exi_reader.proofs.stepper.Stepper.follow_element.Goals as goal

@@ -1,6 +1,6 @@
 use Rattle.std.proofs.Common.{◌∙◌, None}
-use Rattle.exi_reader.specs.Rules.{end_element}
-use Rattle.exi_reader.specs.Plans.{nowhere}
+use Rattle.exi_processing.specs.Rules.{end_element}
+use Rattle.exi_processing.specs.Plans.{nowhere}
 use Rattle.exi_reader.proofs.Stepping.{follow_levels, follow_paid, follow_room, follow_unpaid}
 use Rattle.exi_reader.proofs.Handed.{hands_fault, hands_memory, hands_ok, hands_stopped}
 use Rattle.exi_reader.proofs.stepper.Stepper.follow_end.Goals as goal

@@ -1,8 +1,8 @@
 use Rattle.std.proofs.Common.{◌+◌, ◌-◌, ◌^◌, None, arith}
 use Rattle.exi_values.proofs.Growths.{few_more}
 use Rattle.exi_names.specs.Datatypes.{represented}
-use Rattle.exi_reader.specs.Rules.{characters}
-use Rattle.exi_reader.specs.Plans.{nowhere}
+use Rattle.exi_processing.specs.Rules.{characters}
+use Rattle.exi_processing.specs.Plans.{nowhere}
 use Rattle.exi_reader.proofs.Stepping.{follow_names, follow_paid, follow_room, follow_unpaid}
 use Rattle.exi_reader.proofs.Handed.{hands_fault, hands_memory, hands_ok, hands_stopped}
 use Rattle.exi_reader.proofs.stepper.Stepper.follow_typed.Goals as goal

@@ -3,9 +3,9 @@ use Rattle.exi_gram.specs.Switches.{align_of}
 use Rattle.exi_names.specs.Datatypes.{represented}
 use Rattle.exi_names.specs.Seen as value
 use Rattle.exi_typed.specs.ReadStates.{Failure}
-use Rattle.exi_reader.specs.Changes.{innermost}
-use Rattle.exi_reader.specs.Handing.{HandsAny}
-use Rattle.exi_reader.specs.Plans.{Given}
+use Rattle.exi_processing.specs.Changes.{innermost}
+use Rattle.exi_processing.specs.Handing.{HandsAny}
+use Rattle.exi_processing.specs.Plans.{Given}
 use Rattle.exi_reader.proofs.StepParts.{characters_read}
 use Rattle.exi_reader.proofs.stepper.Stepper.octets_inside.Goals as goal
 

@@ -3,7 +3,7 @@ use Rattle.exi_names.specs.Datatypes as datatype
 use Rattle.exi_names.specs.Events as event
 use Rattle.exi_names.specs.Seen as value
 use Rattle.exi_typed.specs.Places.{name_in}
-use Rattle.exi_reader.specs.Handing.{alone_of}
+use Rattle.exi_processing.specs.Handing.{alone_of}
 use Rattle.exi_reader.proofs.StepParts.{made_valued, string_item}
 use Rattle.exi_reader.proofs.stepper.Stepper.string_value.Goals as goal
 

@@ -5,8 +5,8 @@ use Rattle.exi_names.specs.Seen as value
 use Rattle.exi_names.specs.Shown.{named}
 use Rattle.exi_typed.specs.Places.{IsNameAt, name_in}
 use Rattle.exi_typed.specs.Strings.{Named}
-use Rattle.exi_reader.specs.Handing.{Standing}
-use Rattle.exi_reader.proofs.Names.{name_kept}
+use Rattle.exi_processing.specs.Handing.{Standing}
+use Rattle.exi_processing.proofs.Names.{name_kept}
 use Rattle.exi_reader.proofs.StepParts.{made_typing}
 use Rattle.exi_reader.proofs.Handed.{see_stops}
 use Rattle.exi_reader.proofs.stepper.Stepper.type_value_apart.Goals as goal

@@ -7,8 +7,8 @@ use Rattle.exi_names.specs.Datatypes.{Representation, represented, represented_s
 use Rattle.exi_names.specs.Datatypes as datatype
 use Rattle.exi_names.specs.Events as event
 use Rattle.exi_names.specs.Seen.{seen}
-use Rattle.exi_reader.specs.Handing.{alone_of, leading_to, making}
-use Rattle.exi_reader.specs.Plans.{characters_plan}
+use Rattle.exi_processing.specs.Handing.{alone_of, leading_to, making}
+use Rattle.exi_processing.specs.Plans.{characters_plan}
 use Rattle.exi_reader.proofs.StepParts.{made_by}
 use Rattle.exi_reader.proofs.stepper.Stepper.typed_characters.Goals as goal
 

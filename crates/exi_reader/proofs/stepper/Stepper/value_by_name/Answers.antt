@@ -4,10 +4,10 @@ use Rattle.exi_names.specs.Datatypes.{Representation}
 use Rattle.exi_typed.specs.Places.{name_in}
 use Rattle.exi_typed.specs.ReadStates.{Failure}
 use Rattle.exi_typed.specs.Strings.{Named}
-use Rattle.exi_reader.specs.Configurations.{Config}
+use Rattle.exi_processing.specs.Configurations.{Config}
 use Rattle.exi_gram.specs.Globals.{attribute_datatype}
-use Rattle.exi_reader.specs.Handing.{HandsAny, alone_of, datatype_in, valued_made}
-use Rattle.exi_reader.specs.Plans.{Given}
+use Rattle.exi_processing.specs.Handing.{HandsAny, alone_of, datatype_in, valued_made}
+use Rattle.exi_processing.specs.Plans.{Given}
 use Rattle.exi_reader.proofs.StepParts.{by_name_is}
 use Rattle.exi_reader.proofs.stepper.Stepper.value_by_name.Goals as goal
 

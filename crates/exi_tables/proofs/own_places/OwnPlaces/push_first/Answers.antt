@@ -9,7 +9,7 @@ none c = rw (← c.self.view_is) at c.requires
 
 pub invariant_of-self-2 : goal.invariant_of-self-2
 invariant_of-self-2 c =
-    let len : c.len.result ≡ length c.self.inside.rows.items = search rules in
+    let len : c.len-number.result ≡ length c.self.inside.rows.items = search rules in
     rw (c.push_reserved.ensures.items, c.in_ok-reserve.ensures.items, c.in_ok-row.ensures)
     (first_numbered c.args.name c.self.inside.rows.items c.args.global (none c) c.self.inside.numbers c.insert.new.self c.self.invariant (λ n. rw len at (c.in_ok-insert.ensures.ok n)))
 

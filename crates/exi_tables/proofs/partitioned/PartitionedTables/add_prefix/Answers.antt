@@ -1,32 +1,30 @@
-use Rattle.std.proofs.Common.{◌≡◌, ◌<◌, ◌∷◌, ◌++◌, [], get_or, ap, length, arith, refl, sym, ◌∙◌}
-use Rattle.exi_tables.specs.Kept.{Space}
-use Rattle.exi_tables.specs.Partitions.{and_prefix, prefixes}
-use Rattle.exi_tables.proofs.Spaces.{changed_there, prefixes_there, uris_are}
+use Rattle.std.proofs.Common.{◌≡◌, ◌<◌, ◌-◌, ◌^◌, length, map, refl, sym, ap, ◌∙◌, arith}
+use Rattle.std.specs.Prelude.{slice_get, unwrap_or}
+use Rattle.exi_tables.specs.Added.{IsPushedAt, joined}
+use Rattle.exi_tables.specs.Partitions.{Namespace, first_prefixes, least_place, prefixes_in}
+use Rattle.exi_tables.proofs.Joined.{prefix_long, prefix_more, prefix_pushed, on_err, same_joined, same_seen}
 use Rattle.exi_tables.proofs.partitioned.PartitionedTables.add_prefix.Goals as goal
-
-pub index_mut-requires : goal.index_mut-requires
-index_mut-requires g c =
-    let us = g.T.Texts.texts c.self.inside.uris in
-    let within : c.args.uri < length us = rw (← c.self.view_is, uris_are us c.self.inside.spaces.items c.self.invariant) at c.requires.uri in
-    omega (arith, within, c.self.invariant)
 
 pub push-requires : goal.push-requires
 push-requires g c =
-    let us = g.T.Texts.texts c.self.inside.uris in
-    let ss = c.self.inside.spaces.items in
-    let within : c.args.uri < length us = rw (← c.self.view_is, uris_are us ss c.self.invariant) at c.requires.uri in
-    let there : prefixes c.args.self.now c.args.uri ≡ c.index_mut.result.now.prefixes = rw (← c.self.view_is) (prefixes_there us ss c.args.uri c.index_mut.result.now within c.self.invariant c.index_mut.ensures.value) in
-    let same : c.index_mut.result.now.prefixes ≡ g.T.Texts.texts c.behind-self.inside.prefixes = ap (λ (s : Space). s.prefixes) (sym c.behind-self.view_is) in
-    rw (there ∙ same) at c.requires.room
+    let room : length (prefixes_in (slice_get (joined c.self.inside.first c.self.inside.uris c.self.inside.locals c.self.inside.prefixes) c.args.uri)) < 2 ^ 32 - 1 = rw (← c.self.view_is) at c.requires.room in
+    record { room = omega (arith, room, prefix_long c.self.inside.first c.self.inside.uris c.self.inside.locals c.self.inside.prefixes c.self.invariant c.args.uri (rw (← c.self.view_is) at c.requires.uri), c.prefixes-first.ensures) }
+
+pub invariant_of-self-2 : goal.invariant_of-self-2
+invariant_of-self-2 g c =
+    let room : length (prefixes_in (slice_get (joined c.self.inside.first c.self.inside.uris c.self.inside.locals c.self.inside.prefixes) c.args.uri)) < 2 ^ 32 - 1 = rw (← c.self.view_is) at c.requires.room in
+    let place_is : c.prefixes-place.result ≡ length (prefixes_in (slice_get (joined c.self.inside.first c.self.inside.uris c.self.inside.locals c.self.inside.prefixes) c.args.uri)) = rw (← c.self.view_is) at c.prefixes-place.ensures in
+    let pushed : IsPushedAt c.args.uri (length (first_prefixes c.args.uri)) c.args.text c.unwrap_or-least.result c.self.inside.prefixes c.push.new.self = rw c.prefixes-first.ensures at c.in_ok-push.ensures.ok in
+    prefix_pushed c.self.inside.first c.self.inside.uris c.self.inside.locals c.self.inside.prefixes c.self.invariant c.args.uri c.args.text c.unwrap_or-least.result c.push.new.self (rw (← c.self.view_is) at c.requires.uri) pushed (rw (c.prefix_of.ensures, place_is) at c.unwrap_or-least.ensures) room
+
+pub invariant_of-self : goal.invariant_of-self
+invariant_of-self g c = same_joined c.self.inside.first c.self.inside.uris c.self.inside.locals c.self.inside.prefixes c.self.invariant c.self.inside.locals c.push.new.self (λ k. refl) c.in_err-push.ensures.err
 
 pub returns-clause-added : goal.returns-clause-added
 returns-clause-added g c =
-    let us = g.T.Texts.texts c.self.inside.uris in
-    let ss = c.self.inside.spaces.items in
-    let within : c.args.uri < length us = rw (← c.self.view_is, uris_are us ss c.self.invariant) at c.requires.uri in
-    let change : Space → Space = λ s. record s { prefixes = s.prefixes ++ c.args.text ∷ [] } in
-    let old : Space = record { locals = g.T.Texts.texts c.behind-self.inside.locals; prefixes = g.T.Texts.texts c.behind-self.inside.prefixes } in
-    let here : old ≡ get_or ss c.args.uri old = rw (← c.behind-self.view_is) at c.index_mut.ensures.value in
-    rw (← c.self.view_is, c.in_ok-push.ensures.ok)
-    (ap (λ ns. record { namespaces = ns; values = g.V.ValueStore.table c.self.inside.values })
-    (changed_there change (and_prefix c.args.text) (λ u s. refl) us ss c.args.uri old within c.self.invariant here))
+    let pushed : IsPushedAt c.args.uri (length (first_prefixes c.args.uri)) c.args.text c.unwrap_or-least.result c.self.inside.prefixes c.push.new.self = rw c.prefixes-first.ensures at c.in_ok-push.ensures.ok in
+    rw (← c.self.view_is) (ap (λ ns. record { namespaces = ns; values = g.V.ValueStore.table c.self.inside.values }) (prefix_more c.self.inside.first c.self.inside.uris c.self.inside.locals c.self.inside.prefixes c.self.invariant c.args.uri c.args.text c.unwrap_or-least.result c.push.new.self (rw (← c.self.view_is) at c.requires.uri) pushed))
+
+pub returns-in_err-push-clause-err : goal.returns-in_err-push-clause-err
+returns-in_err-push-clause-err g c =
+    rw (← c.self.view_is) (on_err c.from_residual.result (ap (λ ns. record { namespaces = ns; values = g.V.ValueStore.table c.self.inside.values }) (same_seen c.self.inside.first c.self.inside.uris c.self.inside.locals c.self.inside.prefixes c.self.invariant c.self.inside.locals c.push.new.self (λ k. refl) c.in_err-push.ensures.err)))

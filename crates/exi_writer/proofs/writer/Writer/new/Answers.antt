@@ -3,7 +3,7 @@ use Rattle.std.specs.Prelude.{Ok, Err}
 use Rattle.std.proofs.lemmas.Result.{err_from_is_err_and}
 use Rattle.exi_names.specs.Events as event
 use Rattle.exi_names.specs.Shown.{named}
-use Rattle.exi_reader.specs.declared.start.Start.TheVariants as start
+use Rattle.exi_processing.specs.declared.start.Start.TheVariants as start
 use Rattle.exi_writer.proofs.Putting.{enters_may}
 use Rattle.exi_writer.proofs.Starts.{at_byte, begun, opens_so}
 use Rattle.exi_writing.specs.Pruned.{pruned_name}

@@ -1,5 +1,0 @@
-use Rattle.exi_reader.proofs.Fitting.{codes_fit}
-use Rattle.exi_reader.proofs.laws.codes_fit.Goals as goal
-
-pub returns : goal.returns
-returns c = record { law = codes_fit }

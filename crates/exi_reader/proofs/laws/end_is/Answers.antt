@@ -1,5 +1,0 @@
-use Rattle.exi_reader.proofs.Endings.{end_is}
-use Rattle.exi_reader.proofs.laws.end_is.Goals as goal
-
-pub returns : goal.returns
-returns c = record { law = end_is }

@@ -1,5 +1,0 @@
-use Rattle.exi_reader.proofs.Endings.{ends_at_ed}
-use Rattle.exi_reader.proofs.laws.ends_at_ed.Goals as goal
-
-pub returns : goal.returns
-returns c = record { law = ends_at_ed }

@@ -1,5 +1,0 @@
-use Rattle.exi_reader.proofs.Refusals.{fault_is_refused}
-use Rattle.exi_reader.proofs.laws.fault_is_refused.Goals as goal
-
-pub returns : goal.returns
-returns c = record { law = fault_is_refused }

@@ -1,5 +1,0 @@
-use Rattle.exi_reader.proofs.Fewness.{few_after_turns}
-use Rattle.exi_reader.proofs.laws.few_after_turns.Goals as goal
-
-pub returns : goal.returns
-returns c = record { law = few_after_turns }

@@ -1,5 +1,0 @@
-use Rattle.exi_reader.proofs.Sequences.{few_turns}
-use Rattle.exi_reader.proofs.laws.few_turns.Goals as goal
-
-pub returns : goal.returns
-returns c = record { law = few_turns }

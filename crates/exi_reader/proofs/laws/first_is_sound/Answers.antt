@@ -1,5 +1,0 @@
-use Rattle.exi_reader.proofs.Reached.{first_is_sound}
-use Rattle.exi_reader.proofs.laws.first_is_sound.Goals as goal
-
-pub returns : goal.returns
-returns c = record { law = first_is_sound }

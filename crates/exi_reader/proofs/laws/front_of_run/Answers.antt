@@ -1,5 +1,0 @@
-use Rattle.exi_reader.proofs.Sequences.{front_of_run}
-use Rattle.exi_reader.proofs.laws.front_of_run.Goals as goal
-
-pub returns : goal.returns
-returns c = record { law = front_of_run }

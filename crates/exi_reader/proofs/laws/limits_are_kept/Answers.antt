@@ -1,5 +1,0 @@
-use Rattle.exi_reader.proofs.Withins.{limits_are_kept}
-use Rattle.exi_reader.proofs.laws.limits_are_kept.Goals as goal
-
-pub returns : goal.returns
-returns c = record { law = limits_are_kept }

@@ -1,5 +1,0 @@
-use Rattle.exi_reader.proofs.Sequences.{never_back}
-use Rattle.exi_reader.proofs.laws.never_back.Goals as goal
-
-pub returns : goal.returns
-returns c = record { law = never_back }

@@ -1,5 +1,0 @@
-use Rattle.exi_reader.proofs.EventOne.{one_at_most}
-use Rattle.exi_reader.proofs.laws.one_at_most.Goals as goal
-
-pub returns : goal.returns
-returns c = record { law = one_at_most }

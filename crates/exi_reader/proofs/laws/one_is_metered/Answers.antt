@@ -1,5 +1,0 @@
-use Rattle.exi_reader.proofs.Metering.{one_is_metered}
-use Rattle.exi_reader.proofs.laws.one_is_metered.Goals as goal
-
-pub returns : goal.returns
-returns c = record { law = one_is_metered }

@@ -1,5 +1,0 @@
-use Rattle.exi_reader.proofs.EventOne.{one_is_spelled}
-use Rattle.exi_reader.proofs.laws.one_is_spelled.Goals as goal
-
-pub returns : goal.returns
-returns c = record { law = one_is_spelled }

@@ -1,5 +1,0 @@
-use Rattle.exi_reader.proofs.Sequences.{one_run}
-use Rattle.exi_reader.proofs.laws.one_run.Goals as goal
-
-pub returns : goal.returns
-returns c = record { law = one_run }

@@ -1,5 +1,0 @@
-use Rattle.exi_reader.proofs.Refusals.{one_spelled_or_one_fault}
-use Rattle.exi_reader.proofs.laws.one_spelled_or_one_fault.Goals as goal
-
-pub returns : goal.returns
-returns c = record { law = one_spelled_or_one_fault }

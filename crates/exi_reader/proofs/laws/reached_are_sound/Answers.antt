@@ -1,5 +1,0 @@
-use Rattle.exi_reader.proofs.Reached.{reached_are_sound}
-use Rattle.exi_reader.proofs.laws.reached_are_sound.Goals as goal
-
-pub returns : goal.returns
-returns c = record { law = reached_are_sound }

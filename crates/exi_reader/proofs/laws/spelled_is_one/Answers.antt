@@ -1,5 +1,0 @@
-use Rattle.exi_reader.proofs.EventOne.{spelled_is_one}
-use Rattle.exi_reader.proofs.laws.spelled_is_one.Goals as goal
-
-pub returns : goal.returns
-returns c = record { law = spelled_is_one }

@@ -1,5 +1,0 @@
-use Rattle.exi_reader.proofs.Passing.{too_much_stops}
-use Rattle.exi_reader.proofs.laws.too_much_stops.Goals as goal
-
-pub returns : goal.returns
-returns c = record { law = too_much_stops }

@@ -1,0 +1,9 @@
+pub mod Moves
+pub mod Texts
+pub mod Pieces
+pub mod Back
+pub mod Lists
+pub mod Weights
+pub mod Measures
+pub mod Rows
+pub mod Plays

@@ -1,0 +1,12 @@
+pub mod Rolls
+pub mod Spelling
+pub mod Sound
+pub mod Reading
+pub mod Tapes
+pub mod Props
+pub mod Walks
+pub mod Rooms
+pub mod Playing
+pub mod Lists
+pub mod Taking
+pub mod Laws
