@@ -205,9 +205,9 @@ def in_readme(found):
 # ---- files
 
 
-def between_marks(text, block):
-    before, mark, rest = text.partition(MARKS[0])
-    _, end, after = rest.partition(MARKS[1])
+def between_marks(text, block, marks=MARKS):
+    before, mark, rest = text.partition(marks[0])
+    _, end, after = rest.partition(marks[1])
     return f"{before}{mark}\n\n{block}\n{end}{after}" if mark and end else None
 
 

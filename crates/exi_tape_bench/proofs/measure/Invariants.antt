@@ -1,0 +1,5 @@
+use Rattle.exi_pool.specs.Passes.{IsOf}
+use Rattle.exi_tape_bench.proofs.measure.Given as goal
+
+abbrev pub invariant-loop : goal.invariant-loop
+invariant-loop g l = IsOf l.pool l.pass
