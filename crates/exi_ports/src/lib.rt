@@ -14,7 +14,8 @@
 //!                                                 +--  Sink::put  <----------  one piece after another
 //!   a list of bytes in memory  <----  MemSink ----+
 //!
-//!   nothing to wait for               NoGate -------+--  Gate::pass  <---------  a worker, before it posts
+//!   nothing to wait for               NoGate -----+--  Gate::pass  <-----------  a worker, before it posts
+//!   another worker, in tests          HoldGate ---+
 //! ```
 //!
 //! A contract sees of a shelf the files and the names asked so far, and of a sink the bytes taken, each where the
@@ -30,6 +31,7 @@
 
 mod file_shelf;
 mod gate;
+mod hold_gate;
 mod lay;
 mod mem_shelf;
 mod mem_sink;
@@ -40,6 +42,7 @@ mod waiting;
 
 pub use file_shelf::FileShelf;
 pub use gate::{Gate, NoGate};
+pub use hold_gate::HoldGate;
 pub use lay::Lay;
 pub use mem_shelf::MemShelf;
 pub use mem_sink::MemSink;

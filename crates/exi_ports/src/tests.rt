@@ -1,4 +1,4 @@
-use crate::{Fetch, FileShelf, Gate, MemShelf, MemSink, NoGate, OutSink, Shelf, Sink};
+use crate::{Fetch, FileShelf, Gate, HoldGate, MemShelf, MemSink, NoGate, OutSink, Shelf, Sink};
 use exi_names::{Octets, Txt};
 use std::alloc::Global;
 use std::test::Fail;
@@ -73,4 +73,12 @@ fn both_pass<R: Threads, G: Gate>(rt: &R, gate: &G) {
 #[test]
 fn passes_gates(rt: HostRuntime) {
     both_pass(&rt, &NoGate);
+    let first_behind_second = HoldGate::new(1, 2, 1 << 24);
+    both_pass(&rt, &first_behind_second);
+    assert!(rt; !first_behind_second.missed());
+    assert_eq!(rt; first_behind_second.entered(), 1);
+    let behind_nobody = HoldGate::new(1, 5, 16);
+    both_pass(&rt, &behind_nobody);
+    assert!(rt; behind_nobody.missed());
+    assert_eq!(rt; behind_nobody.entered(), 0);
 }

@@ -33,7 +33,7 @@ use Rattle.xsd_file.specs.Words.{Known}
 use Rattle.exi_run.proofs.Owing.{text-whole, told-said}
 
 -- ---- what may be owed: a refusal's line, or what a command owes whose files were found
-abbrev AreFound : Option Files → List Need → List (List ℕ) → Type 0
+abbrev pub AreFound : Option Files → List Need → List (List ℕ) → Type 0
 AreFound files [] [] = Unit {0}
 AreFound files [] (b ∷ bs) = ⊥
 AreFound files (n ∷ ns) [] = ⊥
@@ -83,7 +83,7 @@ FileCauses files ns (refusal.Schema why) = ⊥
 abbrev IsRefused : Option Files → List Need → Due → Type 0
 IsRefused files ns due = (r : Refusal) × (due ≡ refusal_due r) × FileCauses files ns r
 
-abbrev AreDone : Option Files → List Need → (List (List ℕ) → Type 0) → Type 0
+abbrev pub AreDone : Option Files → List Need → (List (List ℕ) → Type 0) → Type 0
 AreDone files ns rest = (bs : List (List ℕ)) × AreFound files ns bs × rest bs
 
 cause_more : (files : Option Files) (n : Need) (ns : List Need) (r : Refusal) → FileCauses files ns r → FileCauses files (n ∷ ns) r
@@ -108,7 +108,7 @@ abbrev IsDone : Option Task → Option Files → Due → Type 0
 IsDone None files due = ⊥
 IsDone (Some t) files due = AreDone files (needs t) (OwedBy t due)
 
-abbrev IsPut : Status → Due → Option (List ℕ) → Option (List ℕ) → Type 0
+abbrev pub IsPut : Status → Due → Option (List ℕ) → Option (List ℕ) → Type 0
 IsPut s due old new = (due.status ≡ s) × Grows old (text_of (all_pieces due)) new
 
 abbrev CameDone : Option Task → Option Files → Status → Option (List ℕ) → Option (List ℕ) → Type 0
@@ -120,7 +120,7 @@ CameRefused t files s old new = (r : Refusal) × Causes t files r × (s ≡ refu
 abbrev Came : Option Task → Option Files → Status → Option (List ℕ) → Option (List ℕ) → Type 0
 Came t files s old new = CameDone t files s old new ⊎ (CameRefused t files s old new ⊎ ((s ≡ status.WriteFault) ⊎ (s ≡ status.NoMemory)))
 
-put_or : (s : Status) (due : Due) (old new : Option (List ℕ)) → Answered due s old new → IsPut s due old new ⊎ ((s ≡ status.WriteFault) ⊎ (s ≡ status.NoMemory))
+pub put_or : (s : Status) (due : Due) (old new : Option (List ℕ)) → Answered due s old new → IsPut s due old new ⊎ ((s ≡ status.WriteFault) ⊎ (s ≡ status.NoMemory))
 put_or status.Ok due old new a = inl a
 put_or status.Fault due old new a = inl a
 put_or status.Usage due old new a = inl a
@@ -457,7 +457,7 @@ not_later t files rose s old new a later =
     refusal_now lost.0 s lost.2 later
 
 -- ---- completeness
-long_within : (file : Option (List ℕ)) → IsWithin file → IsAnswer file most_bytes fetch.TooLong → ⊥
+pub long_within : (file : Option (List ℕ)) → IsWithin file → IsAnswer file most_bytes fetch.TooLong → ⊥
 long_within None w l = w
 long_within (Some bytes) w l = omega (arith, w, l)
 

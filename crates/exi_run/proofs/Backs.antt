@@ -19,14 +19,14 @@ use Rattle.exi_gram.specs.declared.options.SchemaWord.TheVariants as schema
 use Rattle.exi_gram.specs.Switches.{conflicts}
 use Rattle.exi_gram.specs.Wholes.{without_schema}
 use Rattle.exi_header.specs.declared.header.Header.{Header}
-use Rattle.exi_header.specs.Laws.{WrittenIsRead as HeadIsRead}
+use Rattle.exi_header.specs.Laws.{CookieIsAsked, WrittenIsRead as HeadIsRead}
 use Rattle.exi_meter.specs.Metering.{stream_bounds}
 use Rattle.exi_names.specs.Events.{Happening}
 use Rattle.exi_processing.specs.Configurations.{IsSetting}
 use Rattle.exi_processing.specs.Runs.{Job, done, events_of, first, whole_bytes}
 use Rattle.exi_processing.specs.Spelled.{IsIn}
 use Rattle.exi_processing.specs.declared.start.Start.TheVariants as start
-use Rattle.exi_run.specs.Backs.{IsSound, ReadsBack, WrittenIsRead, written_end, written_from, written_job}
+use Rattle.exi_run.specs.Backs.{IsHeadBack, IsSound, ReadsBack, WrittenIsRead, written_end, written_from, written_job}
 use Rattle.exi_run.specs.declared.ending.Ending.{Ending}
 use Rattle.exi_run.specs.declared.ending.Ending.TheVariants as ending
 use Rattle.exi_opening.specs.Header.{is_another, is_empty_name, known_by, stream_header}
@@ -220,6 +220,12 @@ named_back law w known file r ready name is some back =
     subst (λ (x : Result Header Fault). IsWholeFrom (basis_named w known name) (stream_of w r) x (events_of r.events) (written_end w r)) (sym read)
     (named_whole w known name (stream_of w r) k.0 (length (head_bits w)) (events_of r.events) (written_end w r) (not_empty name some) ready.2 (head_is w name w.told is k.0.options k.2.options) k.2.body back)
 
+head_back : HeadIsRead → (w : Wish) (file : List ℕ) (r : Run) → IsReady (writing file w) → IsHeadBack w (stream_of w r)
+head_back law w file r ready =
+    let all = head_bits w ++ r.bits in
+    let front : bits (stream_of w r) ≡ head_bits w ++ (r.bits ++ zeros (to_byte (length all))) = stream_bits all ∙ append_assoc (head_bits w) r.bits (zeros (to_byte (length all))) in
+    law (head_options w) w.options w.told w.cookie (stream_of w r) (r.bits ++ zeros (to_byte (length all))) ready.1 ready.0 (octets_fit (octets (length all)) (padded all)) front
+
 text_run : (w : Wish) (known : Option Outline) (text : List ℕ) (r : Run) → written_for w known text ≡ Ok r → (es : List Happening) → events_in text ≡ Ok es → run_for w known es ≡ Ok r
 unfolding written_for
 text_run w known text r h es is = run_of (run_for w known es) r (sym (ap (body_by w known) is) ∙ h)
@@ -231,10 +237,10 @@ same_texts : ListIsSameText → (w : Wish) (known : Option Outline) (text : List
 same_texts law w None text r free h none es is = law (setting_of w.options) (length (head_bits w)) stream_bounds es r (plain_of w.options free) (text_run w None text r h es is)
 same_texts law w (Some schema) text r free h none es is = absurd cc
 
-pub written_read : ListIsRead → ListIsSame → ListIsSameText → IsSchema without_schema → HeadIsRead → WrittenIsRead
-written_read list same texts plain head w name text known ready sound r h =
+pub written_read : ListIsRead → ListIsSame → ListIsSameText → IsSchema without_schema → HeadIsRead → CookieIsAsked → WrittenIsRead
+written_read list same texts plain head marked w name text known ready sound r h =
     let back = body_back list w known r (grammars_of plain known sound) ready.0 (body_run w known text r h) in
-    record { body = back; whole = λ none other. whole_back head w known name r ready none other back; named = λ outline own by is some. named_back head w known name r ready own is some back; same = same_events same w known text r h; texts = same_texts texts w known text r ready.0 h }
+    record { head = head_back head w name r ready; marked = marked (head_options w) w.told w.cookie; body = back; whole = λ none other. whole_back head w known name r ready none other back; named = λ outline own by is some. named_back head w known name r ready own is some back; same = same_events same w known text r h; texts = same_texts texts w known text r ready.0 h }
 
 -- ---- of the words
 text_back : WrittenIsRead → (w : Wish) (name : List ℕ) (known : Option Outline) (file : Option (List ℕ)) → IsReady (writing name w) → IsSound known → IfSome file (λ text. ReadsBack w known text)

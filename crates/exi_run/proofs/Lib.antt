@@ -11,3 +11,4 @@ pub mod Backs
 pub mod Serving
 pub mod Answering
 pub mod Writable
+pub mod Headline

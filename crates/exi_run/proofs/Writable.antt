@@ -91,7 +91,7 @@ some_so {X} P Q (Some x) all h = all x h
 file_so : (P Q : List ℕ → Type 0) (held : Files) (name : List ℕ) → ((x : List ℕ) → P x → Q x) → IfSome (file_at held name) P → IfSome (file_at held name) Q
 file_so P Q held name all h = some_so P Q (file_at held name) all h
 
-both_so : (P Q : Option (List ℕ) → List ℕ → Type 0) (d : Option (List ℕ)) (name : List ℕ) (files : Option Files) → ((document : Option (List ℕ)) (text : List ℕ) → P document text → Q document text) → OfBoth d name files P → OfBoth d name files Q
+pub both_so : (P Q : Option (List ℕ) → List ℕ → Type 0) (d : Option (List ℕ)) (name : List ℕ) (files : Option Files) → ((document : Option (List ℕ)) (text : List ℕ) → P document text → Q document text) → OfBoth d name files P → OfBoth d name files Q
 both_so P Q None name None all h = tt
 both_so P Q None name (Some held) all h = file_so (P None) (Q None) held name (all None) h
 both_so P Q (Some schema) name None all h = tt

@@ -12,3 +12,4 @@ pub mod Dues
 pub mod Backs
 pub mod Answers
 pub mod Writable
+pub mod Headline

@@ -34,6 +34,7 @@ pub fn written_is_read()
     exi_writer::laws::written_is_same_text();
     exi_gram::laws::without_schema_is_schema();
     exi_header::laws::written_is_read();
+    exi_header::laws::cookie_is_asked();
 }
 
 /// A text is written exactly where it says a list of events that can be written, by the options and the schema and whatever limits

@@ -1,7 +1,9 @@
-ghost use Rattle.std.specs.Prelude.{◌≡◌, ◌≤◌, ◌≢◌, ◌⊎◌, IfOk, IfSome, IsErrOf, None};
+ghost use Rattle.std.specs.Prelude.{◌≡◌, ◌≤◌, ◌≢◌, ◌⊎◌, IfOk, IfSome, IsErrOf, None, Option};
+ghost use Rattle.exi_gram.specs.Outlines.{Outline};
 ghost use Rattle.exi_names.specs.Events.{Rose};
 ghost use Rattle.exi_run.specs.Answers.{Answered, AreWithin, Counts, Ends, GrowsByFront, HasDocument, HasLong, IsAnswered, IsBack, IsCounting, IsLater, IsWriting, OfDocument, OfStream, OfWriting, RefusalPut, RefusesDocument, Served, StandsFor, Starves, StarvesOnly, Tells, Writes, WritesNone};
 ghost use Rattle.exi_run.specs.Dues.{refusal_due};
+ghost use Rattle.exi_run.specs.Headline.{IsInOrder, ReadsAsProcessed, WritesIfTold};
 ghost use Rattle.exi_run.specs.Statuses.{IsOr, IsTold};
 ghost use Rattle.exi_run.specs.Tasks.{IsReadyIf, names_of, needs_of, task_of};
 ghost use Rattle.exi_run.specs.Writable.{CanBeWritten, CanNotBeWritten};
@@ -20,6 +22,7 @@ use exi_ports::{Gate, Shelf, Sink, SinkStop};
 use std::alloc::Global;
 use std::sync::Wait;
 use std::thread::Threads;
+use xsd_file::laws::one_document;
 
 /// What the words ask for.
 fn serve<F: Shelf, O: Sink>(
@@ -108,7 +111,17 @@ pub fn run<R: Threads + Wait + Sync, F: Shelf, O: Sink, G: Gate>(
     out: &mut O,
     _gate: &G,
 ) -> Status
-    // The stream was read to its end or its fault: the sink took the text of exactly the events and the
+    // The headline, of reading. Where no fetch failed, no file is too long and the schema's document, where one is given, is
+    // refused for nothing, the sink took the text of exactly the events and the end that sequential processing gives for the bytes
+    // of the file, by that schema; or, where the output broke or memory was wanting, first of it.
+    ensures reads { OfStream form.Text (task_of words.now) (F.files shelf.old) (λ terms document bytes. (known : Option Outline) → IsInOrder (Rose (F.faults shelf.old) (F.faults shelf.new)) document bytes known → ReadsAsProcessed terms known bytes result (O.taken out.old) (O.taken out.new)) }
+
+    // The headline, of writing. Under the same premises, and where the output did not break and memory was not wanting, the status is
+    // Ok exactly where the text says a list of events that the grammars derive and no limit is passed; the sink then took a
+    // stream that reads back as these events, typed, less those that the options leave out, and else one line that says why there is none.
+    ensures writes { OfWriting (task_of words.now) (F.files shelf.old) (λ wish document text. (known : Option Outline) → IsInOrder (Rose (F.faults shelf.old) (F.faults shelf.new)) document text known → WritesIfTold wish known text result (O.taken out.old) (O.taken out.new)) }
+
+    // In parts. The stream was read to its end or its fault: the sink took the text of exactly the events and the
     // end that sequential processing gives for the bytes of the file, by the schema of the document where one is given.
     ensures read { OfStream form.Text (task_of words.now) (F.files shelf.old) (λ terms document bytes. IsTold result → Tells form.Text terms result (O.taken out.old) (O.taken out.new) document bytes) }
 
@@ -175,6 +188,7 @@ pub fn run<R: Threads + Wait + Sync, F: Shelf, O: Sink, G: Gate>(
     // No files are asked for but those that the words name, in their order and each once at most.
     ensures asked { GrowsByFront (F.asked shelf.old) (names_of (task_of words.now)) (F.asked shelf.new) }
 {
+    one_document();
     written_is_read();
     written_is_writable();
     respond(alloc, words, shelf, out)

@@ -3,8 +3,15 @@ use Rattle.exi_run.specs.Tasks.{task_of}
 use Rattle.exi_run.specs.declared.form.Form.TheVariants as form
 use Rattle.exi_run.proofs.Answering.{tells, refused, usage_is, long_is, too_long_is, refusal_is, not_later, completes, counts, refuses_document, schema_is, writes, writes_none, events_is, starves_is}
 use Rattle.exi_run.proofs.Backs.{reads_back}
+use Rattle.exi_run.proofs.Headline.{headline_reads, headline_writes}
 use Rattle.exi_run.proofs.Writable.{derives, derives_not}
 use Rattle.exi_run.proofs.top.run.Goals as goal
+
+pub returns-clause-reads : goal.returns-clause-reads
+returns-clause-reads g c = headline_reads c.one_document.ensures.one (task_of c.args.words.now) (g.F.Shelf.files c.args.shelf.now) (Rose (g.F.Shelf.faults c.args.shelf.now) (g.F.Shelf.faults c.respond.new.shelf)) c.respond.result (g.O.Sink.taken c.args.out.now) (g.O.Sink.taken c.respond.new.out) c.respond.ensures.answered
+
+pub returns-clause-writes : goal.returns-clause-writes
+returns-clause-writes g c = headline_writes c.written_is_writable.ensures.written c.written_is_writable.ensures.refused c.written_is_read.ensures c.one_document.ensures.one (task_of c.args.words.now) (g.F.Shelf.files c.args.shelf.now) (Rose (g.F.Shelf.faults c.args.shelf.now) (g.F.Shelf.faults c.respond.new.shelf)) c.respond.result (g.O.Sink.taken c.args.out.now) (g.O.Sink.taken c.respond.new.out) c.respond.ensures.ready c.respond.ensures.stands c.respond.ensures.answered
 
 pub returns-clause-read : goal.returns-clause-read
 returns-clause-read g c = tells form.Text (task_of c.args.words.now) (g.F.Shelf.files c.args.shelf.now) (Rose (g.F.Shelf.faults c.args.shelf.now) (g.F.Shelf.faults c.respond.new.shelf)) c.respond.result (g.O.Sink.taken c.args.out.now) (g.O.Sink.taken c.respond.new.out) c.respond.ensures.answered
