@@ -1,1 +1,5 @@
+mod Beside
+mod Meets
 mod Sequential
+mod Stages
+mod Ways

@@ -1,7 +1,7 @@
 -- Whatever the moves are, the reader is where sequential processing comes to.
-use Rattle.std.proofs.Common.{◌≡◌, ◌≢◌, ◌∙◌, ℕ, zero, suc, ◌+◌, ◌==◌, Bool, true, false, cond, List, [], ◌∷◌, ◌++◌, length, Option, Some, None, slice_get, ◌⊎◌, inl, inr, refl, sym, ap, subst}
+use Rattle.std.proofs.Common.{◌≡◌, ◌≢◌, ◌∙◌, ℕ, zero, suc, ◌+◌, ◌==◌, Bool, true, false, cond, List, [], ◌∷◌, ◌++◌, Option, Some, None, slice_get, ◌⊎◌, inl, inr, refl, sym, ap, subst}
 use Rattle.std.proofs.lemmas.Bool.Decides.{eqb_tells}
-use Rattle.std.proofs.lemmas.List.{append_assoc, append-nil}
+use Rattle.std.proofs.lemmas.List.{append-nil}
 use Rattle.exi_bits.specs.Bits.{IsBytes}
 use Rattle.exi_meter.specs.Metering.{Bounds}
 use Rattle.exi_names.specs.Events.{Happening}
@@ -10,13 +10,13 @@ use Rattle.exi_names.specs.StartTables.{IsStart}
 use Rattle.exi_processing.specs.Configurations.{Config, IsSetting, Setting}
 use Rattle.exi_processing.specs.Handing.{listed}
 use Rattle.exi_processing.specs.Reading.{IsFront}
-use Rattle.exi_processing.specs.Runs.{IsRun, IsSequence, Job, Leads, Turn, ends, events_of, first, goes, turn}
+use Rattle.exi_processing.specs.Runs.{IsSequence, Job, Turn, ends, first, goes, turn}
 use Rattle.exi_processing.specs.Splices.{AtFragment, GoesAs, IsFragmentOutcome, Spliced, ended, fits, on, spliced, wrong_root}
-use Rattle.exi_processing.specs.declared.end.End.{End}
 use Rattle.exi_processing.specs.declared.start.Start.{Start}
 use Rattle.exi_processing.proofs.Begins.{sc_leads_to_fragment}
 use Rattle.exi_processing.proofs.SpliceRuns.{splices_are_runs}
-use Rattle.exi_processing.proofs.Turning.{events_append, front_by, leads_push}
+use Rattle.exi_processing.proofs.Turning.{front_by}
+use Rattle.exi_stitch.proofs.Ways.{ended_by, ends_with, joins, on_the_way}
 use Rattle.exi_stitch.specs.Moves.{Board, IsOnTheWay, IsSequential, Led, Move, Moves, Place, Posting, ReaderIsSequential, after_turn, arrive, arrived, arrived_at, by_posting, by_word, byte_in, byte_of, changed, claim, drop, each, first_board, next_turn, over, post, reading, stands, taken, taken_where, turned_at, waiting, with_word, word}
 
 abbrev given : Happening → Option Happening
@@ -34,17 +34,6 @@ get_each : (os : List ℕ) (h : ℕ) (p : Posting) → slice_get (each None os) 
 get_each [] h p e = absurd cc
 get_each (o ∷ os) zero p e = absurd cc
 get_each (o ∷ os) (suc h) p e = get_each os h p e
-
-leads_append : (g : Setting) (bytes : List ℕ) (xs ys : List (Option Happening)) (c mid last : Config) → Leads g bytes c xs mid → Leads g bytes mid ys last → Leads g bytes c (xs ++ ys) last
-leads_append g bytes [] ys c mid last l m = subst (λ (z : Config). Leads g bytes z ys last) (sym l) m
-leads_append g bytes (x ∷ xs) ys c mid last l m = (l.0, l.1, leads_append g bytes xs ys l.0 mid last l.2 m)
-
-one_given : (e : Option Happening) → events_of (e ∷ []) ≡ listed e
-one_given None = refl
-one_given (Some e) = refl
-
-events_push : (xs : List (Option Happening)) (e : Option Happening) → events_of (xs ++ e ∷ []) ≡ events_of xs ++ listed e
-events_push xs e = events_append xs (e ∷ []) ∙ ap (λ (z : List Happening). events_of xs ++ z) (one_given e)
 
 module _ (j : Job) (s : Start) (limits ahead : Bounds) (offsets : List ℕ) (octets : IsBytes j.bytes) (book : IsSetting j.setting) (names : IsStart j.setting.schema.names) where
   abbrev g : Setting
@@ -66,19 +55,6 @@ module _ (j : Job) (s : Start) (limits ahead : Bounds) (offsets : List ℕ) (oct
     outcomes : Posted b.postings
 
   -- ---- the reader's turn
-  on_the_way : (c next : Config) (es : List Happening) (e : Option Happening) → IsOnTheWay j s limits c es → turn g j.bytes c ≡ goes e next → IsOnTheWay j s limits next (es ++ listed e)
-  on_the_way c next es e w h =
-      let turns : List (Option Happening) = w.turns ++ e ∷ [] in
-      let leads : Leads g j.bytes (first j s limits) turns next = leads_push g j.bytes (first j s limits) c next w.turns e w.leads h in
-      let gave : es ++ listed e ≡ events_of turns = ap (λ (z : List Happening). z ++ listed e) w.gave ∙ sym (events_push w.turns e) in
-      record { turns = turns; leads = leads; gave = gave; front = subst (λ (z : List Happening). IsFront j s limits z) (sym gave) (front_by j s limits turns next leads) }
-
-  ended_by : (c : Config) (es : List Happening) (e : Option Happening) (end : End) → IsOnTheWay j s limits c es → turn g j.bytes c ≡ ends e end → (count : ℕ) × IsSequence j s limits (es ++ listed e) end count
-  ended_by c es e end w h =
-      let turns : List (Option Happening) = w.turns ++ e ∷ [] in
-      let run : IsRun g j.bytes (first j s limits) turns end = record { before = w.turns; reached = c; leads = w.leads; event = e; at_end = h; all = refl } in
-      (length turns, (turns, run, ap (λ (z : List Happening). z ++ listed e) w.gave ∙ sym (events_push w.turns e), refl))
-
   at_place : (byte : Option ℕ) (next : Config) (es : List Happening) → IsOnTheWay j s limits next es → IsSequential j s limits (stands byte next) es
   at_place None next es w = w
   at_place (Some byte) next es w = w
@@ -106,8 +82,8 @@ module _ (j : Job) (s : Start) (limits ahead : Bounds) (offsets : List ℕ) (oct
   stands_by e (Some byte) c next es k w h = sc_leads_to_fragment j s limits w.turns c next byte book names w.leads (subst (λ (z : Option Happening). turn g j.bytes c ≡ goes z next) (given_at e byte k) h)
 
   after : (b : Board) (c : Config) (t : Turn) → IsOnTheWay j s limits c b.events → Posted b.postings → turn g j.bytes c ≡ t → Kept (after_turn t b)
-  after b c (goes e next) w ps h = record { sequential = at_place (byte_in e) next (b.events ++ listed e) (on_the_way c next b.events e w h); fragment = stands_by e (byte_in e) c next b.events refl w h; outcomes = ps }
-  after b c (ends e end) w ps h = record { sequential = ended_by c b.events e end w h; fragment = tt; outcomes = ps }
+  after b c (goes e next) w ps h = record { sequential = at_place (byte_in e) next (b.events ++ listed e) (on_the_way j s limits c next b.events e w h); fragment = stands_by e (byte_in e) c next b.events refl w h; outcomes = ps }
+  after b c (ends e end) w ps h = record { sequential = ended_by j s limits c b.events e end w h; fragment = tt; outcomes = ps }
 
   turned_kept : (b : Board) (r : Place) → b.reader ≡ r → IsSequential j s limits r b.events → Stands r → Posted b.postings → Kept (turned_at j r b)
   turned_kept b (reading c) k q f ps = after b c (turn g j.bytes c) q ps refl
@@ -115,28 +91,11 @@ module _ (j : Job) (s : Start) (limits ahead : Bounds) (offsets : List ℕ) (oct
   turned_kept b (over end) k q f ps = record { sequential = subst (λ (z : Place). IsSequential j s limits z b.events) (sym k) q; fragment = subst Stands (sym k) tt; outcomes = ps }
 
   -- ---- a posting that is taken
-  joins : (c next : Config) (es more : List Happening) → IsOnTheWay j s limits c es → (turns : List (Option Happening)) × Leads g j.bytes c turns next × (events_of turns ≡ more) → IsOnTheWay j s limits next (es ++ more)
-  joins c next es more w h =
-      let turns : List (Option Happening) = w.turns ++ h.0 in
-      let leads : Leads g j.bytes (first j s limits) turns next = leads_append g j.bytes w.turns h.0 (first j s limits) c next w.leads h.1 in
-      let gave : es ++ more ≡ events_of turns = ap (λ (z : List Happening). z ++ more) w.gave ∙ (ap (λ (z : List Happening). events_of w.turns ++ z) (sym h.2) ∙ sym (events_append w.turns h.0)) in
-      record { turns = turns; leads = leads; gave = gave; front = subst (λ (z : List Happening). IsFront j s limits z) (sym gave) (front_by j s limits turns next leads) }
-
-  ends_with : (c : Config) (end : End) (es more : List Happening) → IsOnTheWay j s limits c es → (turns : List (Option Happening)) × IsRun g j.bytes c turns end × (events_of turns ≡ more) → (count : ℕ) × IsSequence j s limits (es ++ more) end count
-  ends_with c end es more w h =
-      let r = h.1 in
-      let turns : List (Option Happening) = w.turns ++ h.0 in
-      let leads : Leads g j.bytes (first j s limits) (w.turns ++ r.before) r.reached = leads_append g j.bytes w.turns r.before (first j s limits) c r.reached w.leads r.leads in
-      let all : turns ≡ (w.turns ++ r.before) ++ r.event ∷ [] = ap (λ (z : List (Option Happening)). w.turns ++ z) r.all ∙ sym (append_assoc w.turns r.before (r.event ∷ [])) in
-      let run : IsRun g j.bytes (first j s limits) turns end = record { before = w.turns ++ r.before; reached = r.reached; leads = leads; event = r.event; at_end = r.at_end; all = all } in
-      let gave : es ++ more ≡ events_of turns = ap (λ (z : List Happening). z ++ more) w.gave ∙ (ap (λ (z : List Happening). events_of w.turns ++ z) (sym h.2) ∙ sym (events_append w.turns h.0)) in
-      (length turns, (turns, run, gave, refl))
-
   takes : (b : Board) (c : Config) (es : List Happening) (x : Spliced) → IsOnTheWay j s limits c b.events → Posted b.postings → GoesAs g j.bytes c es x → Kept (taken es x b)
-  takes b c es (on next) w ps h = record { sequential = joins c next b.events es w h; fragment = tt; outcomes = ps }
-  takes b c es (ended end) w ps h = record { sequential = ends_with c end b.events es w h; fragment = tt; outcomes = ps }
+  takes b c es (on next) w ps h = record { sequential = joins j s limits c next b.events es w h; fragment = tt; outcomes = ps }
+  takes b c es (ended end) w ps h = record { sequential = ends_with j s limits c end b.events es w h; fragment = tt; outcomes = ps }
   takes b c es (wrong_root end) w ps h =
-      let q = ends_with c end b.events [] w h in
+      let q = ends_with j s limits c end b.events [] w h in
       record { sequential = (q.0, subst (λ (z : List Happening). IsSequence j s limits z end q.0) (append-nil b.events) q.1); fragment = tt; outcomes = ps }
 
   takes_where : (b : Board) (byte : ℕ) (c : Config) (p : Posting) (f : Bool) → fits c p.end ≡ f → b.reader ≡ waiting byte c → IsOnTheWay j s limits c b.events → AtFragment g byte c → Posted b.postings → IsFragmentOutcome j byte ahead p.events p.end → Kept (taken_where f c p b)

@@ -16,3 +16,9 @@
 #![tactic(auto)]
 
 pub mod laws;
+mod meeting;
+mod report;
+mod stitching;
+
+pub use report::Report;
+pub use stitching::stitch;

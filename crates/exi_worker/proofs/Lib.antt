@@ -1,0 +1,4 @@
+pub mod Pages
+pub mod Doing
+pub mod Holding
+pub mod Taping
