@@ -1,0 +1,4 @@
+pub mod Few
+pub mod Taken
+pub mod Sound
+pub mod Rows
